@@ -1,0 +1,289 @@
+-- Document 01, "Calls": each paragraph as its refusals in order, then what is answered, shown and changed.
+use Prim.Native.Nat.{ℕ, zero, suc, _+_, _-_, _*_}
+use mathlib.Core.Bool.{Bool, true, false, _&&_, _||_, not, cond}
+use mathlib.Core.List.{List, [], _∷_, _++_}
+use lib.Dec.{eqb, ltb, leb}
+use lib.ListN.{length, take, drop, replicate}
+use Rattle.card.specs.Pointers.{remove}
+use Rattle.card.specs.Contents.{zeros, overwrite}
+use Rattle.card.specs.Card.{Public, Card, card, allocated, hasKey, isRoot, freeBlocks, longestInterval, count, pointsTo, hasPointers}
+use Rattle.card.specs.Soundness.{ranges, lengths, timeLimit}
+use Rattle.card.specs.Access.{admits, opens}
+use Rattle.card.specs.Plan.{Check, _⇒_, first, Change, setWindow, setBlock, setKeys, takeBlock, freeBlock, addPointer, dropPointer, setTime, Shown, nothing, blockPart, numbers, Plan, Buffers, Result, refused, judge, judgeSound}
+use Rattle.card.specs.declared.Info.{Info}
+use Rattle.card.specs.declared.Port.{Port}
+use Rattle.card.specs.declared.Port.the-variants.{Host, Service}
+use Rattle.card.specs.declared.Mode.{Mode}
+use Rattle.card.specs.declared.Mode.the-variants.{Reading, Writing}
+use Rattle.card.specs.declared.Credential.{Credential}
+use Rattle.card.specs.declared.Credential.the-variants.{Key as KeyCredential}
+use Rattle.card.specs.declared.ReadOperands.{ReadOperands}
+use Rattle.card.specs.declared.WriteOperands.{WriteOperands}
+use Rattle.card.specs.declared.AllocOperands.{AllocOperands}
+use Rattle.card.specs.declared.CreateOperands.{CreateOperands}
+use Rattle.card.specs.declared.DeleteOperands.{DeleteOperands}
+use Rattle.card.specs.declared.KeyOperands.{KeyOperands}
+use Rattle.card.specs.declared.RenewOperands.{RenewOperands}
+use Rattle.card.specs.declared.ForceOperands.{ForceOperands}
+use Rattle.card.specs.declared.TickOperands.{TickOperands}
+use Rattle.card.specs.declared.Refusal.{Refusal}
+use Rattle.card.specs.declared.Refusal.the-variants.{Misshapen, Unsound, NotAllocated, BadOperand, NotOpened, IsRoot, PointerExists, NoPointer, HasPointers, TooFewBlocks, TooFewPlaces, TimeEnds, BadRecord}
+use Rattle.card.specs.declared.Answer.{Answer}
+use Rattle.card.specs.declared.Answer.the-variants.{Refused, Done, Value}
+
+-- ---- the numbers of refusals and answers
+
+-- Document 01's number of a refusal.
+unfoldable pub refusalNumber : Refusal → ℕ
+refusalNumber Misshapen = 1
+refusalNumber Unsound = 2
+refusalNumber NotAllocated = 3
+refusalNumber BadOperand = 4
+refusalNumber NotOpened = 5
+refusalNumber IsRoot = 6
+refusalNumber PointerExists = 7
+refusalNumber NoPointer = 8
+refusalNumber HasPointers = 9
+refusalNumber TooFewBlocks = 10
+refusalNumber TooFewPlaces = 11
+refusalNumber TimeEnds = 12
+refusalNumber BadRecord = 13
+
+-- An answer's number, 0 for done.
+unfoldable pub answerNumber : Answer → ℕ
+answerNumber (Refused r) = refusalNumber r
+answerNumber Done = 0
+answerNumber (Value v) = 0
+
+-- The values that an answer carries by itself.
+unfoldable pub answerValues : Answer → List ℕ
+answerValues (Refused r) = []
+answerValues Done = []
+answerValues (Value v) = v ∷ []
+
+-- ---- conditions that several calls share
+
+-- "3": the block is not below N or not allocated.
+abbrev pub missing : Public → ℕ → Bool
+missing p b = not (allocated p b)
+
+-- "6": the block is a root and the call is a host's.
+unfoldable pub rootAtHost : Port → Public → ℕ → Bool
+rootAtHost Host p b = isRoot p b
+rootAtHost Service p b = false
+
+-- ---- windows
+
+-- The end that a block's window gets by an interval that is not 0.
+unfoldable pub windowAfter : Public → Mode → ℕ → ℕ → ℕ
+windowAfter p mode b interval = p .info .time + interval
+
+-- A host's READ or WRITE opens a window by an interval that is not 0; calls at the service port open none.
+unfoldable pub opensWindow : Port → Public → Mode → ℕ → ℕ → List Change
+opensWindow Host p mode b interval = cond (eqb interval 0) [] (setWindow mode b (windowAfter p mode b interval) ∷ [])
+opensWindow Service p mode b interval = []
+
+-- ---- FORMAT
+
+-- The record of a fresh card.
+abbrev pub freshInfo : ℕ → ℕ → ℕ → Info
+freshInfo blocks roots bytes = record { blocks = blocks; roots = roots; bytes = bytes; used = 0; time = 0 }
+
+-- A fresh card on the lent tables: the roots allocated and their contents zeros, other contents left.
+abbrev pub freshCard : ℕ → ℕ → ℕ → Card → Card
+freshCard blocks roots bytes c =
+    card (freshInfo blocks roots bytes)
+    (replicate roots 1 ++ zeros (blocks - roots))
+    (zeros (4 * blocks))
+    (zeros blocks)
+    (zeros (length (c .public .pointers)))
+    (zeros (2 * blocks))
+    (overwrite (c .contents) 0 (zeros (roots * bytes)))
+
+unfoldable pub formatResult : Bool → ℕ → ℕ → ℕ → Card → Result
+formatResult true blocks roots bytes c = record { answer = Done; after = freshCard blocks roots bytes c; out = []; places = [] }
+formatResult false blocks roots bytes c = record { answer = Refused Misshapen; after = c; out = []; places = [] }
+
+-- "FORMAT(N, R, B)": refused 1 by its operands and the tables' lengths alone.
+unfoldable pub format : ℕ → ℕ → ℕ → Card → Result
+format blocks roots bytes c = formatResult (ranges blocks roots bytes && lengths blocks bytes c) blocks roots bytes c
+
+-- ---- READ and WRITE
+
+-- "READ(b, credential, interval, out)", where `opened` says that b is opened for reading and `size` is out's length.
+unfoldable pub readPlan : Port → Public → Bool → ReadOperands → ℕ → Plan
+readPlan port p opened o size = record {
+  checks =
+      (not (eqb size (p .info .bytes)) || ltb longestInterval (o .interval) ⇒ BadOperand)
+      ∷ (missing p (o .block) ⇒ NotAllocated)
+      ∷ (not opened ⇒ NotOpened)
+      ∷ [];
+  answer = Done;
+  shown = blockPart (o .block);
+  steps = opensWindow port p Reading (o .block) (o .interval);
+}
+
+-- "WRITE(b, credential, interval, data)": "The same with writing, data and the write window."
+unfoldable pub writePlan : Port → Public → Bool → WriteOperands → List ℕ → Plan
+writePlan port p opened o input = record {
+  checks =
+      (not (eqb (length input) (p .info .bytes)) || ltb longestInterval (o .interval) ⇒ BadOperand)
+      ∷ (missing p (o .block) ⇒ NotAllocated)
+      ∷ (not opened ⇒ NotOpened)
+      ∷ [];
+  answer = Done;
+  shown = nothing;
+  steps = setBlock (o .block) input ∷ opensWindow port p Writing (o .block) (o .interval);
+}
+
+-- ---- ALLOC
+
+-- No hint.
+abbrev pub noHint : ℕ
+noHint = 65535
+
+-- Without a hint the lowest block is wanted, which is the one nearest to 0.
+unfoldable pub wanted : ℕ → ℕ
+wanted hint = cond (eqb hint noHint) 0 hint
+
+abbrev pub distance : ℕ → ℕ → ℕ
+distance a b = (a - b) + (b - a)
+
+-- Of `best` and an ascending list after it, the number nearest to the wanted one, the lower on a tie.
+unfoldable pub nearest : ℕ → ℕ → List ℕ → ℕ
+nearest want best [] = best
+nearest want best (x ∷ xs) = nearest want (cond (ltb (distance want x) (distance want best)) x best) xs
+
+-- "blocks are taken singly, each the unallocated one nearest the hint, the lower on a tie"
+unfoldable pub picks : ℕ → ℕ → List ℕ → List ℕ
+picks want zero free = []
+picks want (suc n) [] = []
+picks want (suc n) (x ∷ xs) = let best = nearest want x xs in best ∷ picks want n (remove best (x ∷ xs))
+
+-- Each block is taken, filled with zeros, and pointed to by the reference.
+unfoldable pub takeAll : ℕ → List ℕ → List Change
+takeAll reference [] = []
+takeAll reference (b ∷ bs) = takeBlock b ∷ (addPointer reference b ∷ takeAll reference bs)
+
+-- "ALLOC(ref, credential, hint, count, out)", where `places` is the length of out.
+unfoldable pub allocPlan : Port → Public → Bool → AllocOperands → ℕ → Plan
+allocPlan port p opened o places =
+    let taken = picks (wanted (o .hint)) (o .count) (freeBlocks p) in
+    record {
+      checks =
+          (eqb (o .count) 0
+          || ltb 64 (o .count)
+          || (not (ltb (o .hint) (p .info .blocks)) && not (eqb (o .hint) noHint))
+          || ltb places (o .count)
+          ⇒ BadOperand)
+          ∷ (missing p (o .reference) ⇒ NotAllocated)
+          ∷ (rootAtHost port p (o .reference) ⇒ IsRoot)
+          ∷ (not opened ⇒ NotOpened)
+          ∷ (ltb (length (freeBlocks p)) (o .count) ⇒ TooFewBlocks)
+          ∷ (ltb (length (p .pointers)) (p .info .used + o .count) ⇒ TooFewPlaces)
+          ∷ [];
+      answer = Done;
+      shown = numbers taken;
+      steps = takeAll (o .reference) taken;
+    }
+
+-- ---- CREATE and DELETE
+
+-- "CREATE(src, credential, dest, credential)"
+unfoldable pub createPlan : Port → Public → Bool → Bool → CreateOperands → Plan
+createPlan port p sourceOpened destinationOpened o = record {
+  checks =
+      (missing p (o .source) ⇒ NotAllocated)
+      ∷ (missing p (o .destination) ⇒ NotAllocated)
+      ∷ (isRoot p (o .destination) || rootAtHost port p (o .source) ⇒ IsRoot)
+      ∷ (not sourceOpened ⇒ NotOpened)
+      ∷ (not destinationOpened ⇒ NotOpened)
+      ∷ (eqb (o .source) (o .destination) || pointsTo p (o .source) (o .destination) ⇒ PointerExists)
+      ∷ (eqb (p .info .used) (length (p .pointers)) ⇒ TooFewPlaces)
+      ∷ [];
+  answer = Done;
+  shown = nothing;
+  steps = addPointer (o .source) (o .destination) ∷ [];
+}
+
+-- "DELETE(src, credential, dest)": "at count 0 dest is freed". Result 1 if freed, else 0.
+unfoldable pub deletePlan : Port → Public → Bool → DeleteOperands → Plan
+deletePlan port p opened o =
+    let last = eqb (count p (o .destination)) 1 in
+    record {
+      checks =
+          (missing p (o .source) ⇒ NotAllocated)
+          ∷ (missing p (o .destination) ⇒ NotAllocated)
+          ∷ (rootAtHost port p (o .source) ⇒ IsRoot)
+          ∷ (not opened ⇒ NotOpened)
+          ∷ (not (pointsTo p (o .source) (o .destination)) ⇒ NoPointer)
+          ∷ (last && hasPointers p (o .destination) ⇒ HasPointers)
+          ∷ [];
+      answer = Value (cond last 1 0);
+      shown = nothing;
+      steps = dropPointer (o .source) (o .destination) ∷ cond last (freeBlock (o .destination) ∷ []) [];
+    }
+
+-- ---- KEY, RENEW and FORCE
+
+-- Both windows of a block become 0.
+abbrev pub closeWindows : ℕ → List Change
+closeWindows b = setWindow Reading b 0 ∷ (setWindow Writing b 0 ∷ [])
+
+-- "KEY(b, credential, new read key or none, new write key or none)"
+unfoldable pub keyPlan : Port → Public → Bool → KeyOperands → Plan
+keyPlan port p opened o = record {
+  checks =
+      (missing p (o .block) ⇒ NotAllocated)
+      ∷ (rootAtHost port p (o .block) ⇒ IsRoot)
+      ∷ (not opened ⇒ NotOpened)
+      ∷ [];
+  answer = Done;
+  shown = nothing;
+  steps = setKeys (o .block) (o .read) (o .write) ∷ closeWindows (o .block);
+}
+
+-- The operation that a mode number names: 0 reading, 1 writing.
+unfoldable pub modeOf : ℕ → Mode
+modeOf m = cond (eqb m 0) Reading Writing
+
+-- "RENEW(read or write, b, key, interval), host only."
+unfoldable pub renewPlan : Public → Bool → RenewOperands → Plan
+renewPlan p opened o = record {
+  checks =
+      (ltb 1 (o .mode) || eqb (o .interval) 0 || ltb longestInterval (o .interval) ⇒ BadOperand)
+      ∷ (missing p (o .block) ⇒ NotAllocated)
+      ∷ (not (hasKey p (modeOf (o .mode)) (o .block)) || not opened ⇒ NotOpened)
+      ∷ [];
+  answer = Done;
+  shown = nothing;
+  steps = setWindow (modeOf (o .mode)) (o .block) (windowAfter p (modeOf (o .mode)) (o .block) (o .interval)) ∷ [];
+}
+
+-- "FORCE(b), host only, no credential."
+unfoldable pub forcePlan : Public → ForceOperands → Plan
+forcePlan p o = record {
+  checks = (missing p (o .block) ⇒ NotAllocated) ∷ [];
+  answer = Done;
+  shown = nothing;
+  steps = closeWindows (o .block);
+}
+
+-- ---- FREE, TICK and AUDIT
+
+-- "FREE: the number of unallocated blocks."
+unfoldable pub freePlan : Public → Plan
+freePlan p = record { checks = []; answer = Value (length (freeBlocks p)); shown = nothing; steps = [] }
+
+-- "TICK(n): 12 if T + n reaches 2^40; result the new T."
+unfoldable pub tickPlan : Public → TickOperands → Plan
+tickPlan p o = record {
+  checks = (leb timeLimit (p .info .time + o .seconds) ⇒ TimeEnds) ∷ [];
+  answer = Value (p .info .time + o .seconds);
+  shown = nothing;
+  steps = setTime (p .info .time + o .seconds) ∷ [];
+}
+
+-- "AUDIT: done with no result, or the refusal 1 or 2."
+unfoldable pub auditPlan : Plan
+auditPlan = record { checks = []; answer = Done; shown = nothing; steps = [] }

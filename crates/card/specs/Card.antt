@@ -1,0 +1,112 @@
+-- Document 01, "The card": the record and the tables, and what they say of a block.
+use Prim.Native.Nat.{ℕ, _+_, _*_, _/_, _%_}
+use mathlib.Core.Bool.{Bool, true, false, _&&_, not}
+use mathlib.Core.List.{List}
+use lib.Dec.{eqb, ltb}
+use lib.ListN.{length, take, getD}
+use Rattle.card.specs.Lists.{numbersBelow}
+use Rattle.card.specs.Pointers.{pointer, contains, pointersTo, pointsFrom}
+use Rattle.card.specs.Contents.{part}
+use Rattle.card.specs.declared.Info.{Info}
+use Rattle.card.specs.declared.Mode.{Mode}
+use Rattle.card.specs.declared.Mode.the-variants.{Reading, Writing}
+
+-- What any host may learn of a card: everything but the keys and the contents.
+pub record Public : Type 0 where
+  pub info : Info
+  pub flags : List ℕ
+  pub counts : List ℕ
+  pub pointers : List ℕ
+  pub windows : List ℕ
+
+pub record Card : Type 0 where
+  pub public : Public
+  pub keys : List ℕ
+  pub contents : List ℕ
+
+-- A card from its record and its six tables, in document 01's order.
+abbrev pub card : Info → List ℕ → List ℕ → List ℕ → List ℕ → List ℕ → List ℕ → Card
+card info flags keys counts pointers windows contents = record {
+  public = record { info = info; flags = flags; counts = counts; pointers = pointers; windows = windows };
+  keys = keys;
+  contents = contents;
+}
+
+-- ---- a block's flags
+
+-- Of a flags byte: 1 allocated, 2 has a read key, 4 has a write key, added up.
+abbrev pub allocatedFlag : ℕ → Bool
+allocatedFlag f = eqb (f % 2) 1
+
+abbrev pub keyFlag : Mode → ℕ → Bool
+keyFlag Reading f = eqb (f / 2 % 2) 1
+keyFlag Writing f = eqb (f / 4 % 2) 1
+
+module _ (p : Public) where
+  abbrev pub flag : ℕ → ℕ
+  flag b = getD (p .flags) b 0
+
+  -- The block is below N and allocated.
+  unfoldable pub allocated : ℕ → Bool
+  allocated b = ltb b (p .info .blocks) && allocatedFlag (flag b)
+
+  unfoldable pub hasKey : Mode → ℕ → Bool
+  hasKey mode b = keyFlag mode (flag b)
+
+  abbrev pub isRoot : ℕ → Bool
+  isRoot b = ltb b (p .info .roots)
+
+  -- The unallocated blocks, ascending.
+  unfoldable pub freeBlocks : List ℕ
+  freeBlocks = numbersBelow (λ b. not (allocated b)) (p .info .blocks)
+
+-- ---- windows
+
+-- Where a block's window stands in its table.
+abbrev pub windowAt : Mode → ℕ → ℕ
+windowAt Reading b = 2 * b
+windowAt Writing b = 2 * b + 1
+
+abbrev pub windowEnd : Public → Mode → ℕ → ℕ
+windowEnd p mode b = getD (p .windows) (windowAt mode b) 0
+
+-- Document 01, "A window is open while T is less than its end."
+unfoldable pub windowOpen : Public → Mode → ℕ → Bool
+windowOpen p mode b = ltb (p .info .time) (windowEnd p mode b)
+
+-- The latest end that a window may have.
+abbrev pub longestInterval : ℕ
+longestInterval = 86400
+
+-- ---- counts and pointers
+
+abbrev pub count : Public → ℕ → ℕ
+count p b = getD (p .counts) b 0
+
+-- The pointers in use: the first M places.
+abbrev pub inUse : Public → List ℕ
+inUse p = take (p .info .used) (p .pointers)
+
+unfoldable pub pointsTo : Public → ℕ → ℕ → Bool
+pointsTo p a b = contains (pointer a b) (inUse p)
+
+unfoldable pub hasPointers : Public → ℕ → Bool
+hasPointers p b = pointsFrom b (inUse p)
+
+-- ---- keys
+
+-- Where the high word of a block's key stands; the low word follows it.
+abbrev pub keyAt : Mode → ℕ → ℕ
+keyAt Reading b = 4 * b
+keyAt Writing b = 4 * b + 2
+
+abbrev pub keyHigh : List ℕ → Mode → ℕ → ℕ
+keyHigh keys mode b = getD keys (keyAt mode b) 0
+
+abbrev pub keyLow : List ℕ → Mode → ℕ → ℕ
+keyLow keys mode b = getD keys (keyAt mode b + 1) 0
+
+-- ---- contents
+
+abbrev pub block : Card → ℕ → List ℕ
+block c b = part (c .public .info .bytes) (c .contents) b

@@ -1,0 +1,11 @@
+pub mod Lists
+pub mod Pointers
+pub mod Contents
+pub mod Card
+pub mod Soundness
+pub mod Access
+pub mod Plan
+pub mod Calls
+pub mod Session
+pub mod Reach
+pub mod Trials

@@ -1,0 +1,209 @@
+-- A call as checks in order and then changes in order: the two parts of each paragraph of document 01, "Calls".
+-- The checks and the changes are made from the public part of the card and from the answers of the access test alone.
+use Prim.Native.Nat.{ℕ, _+_, _-_, _*_}
+use mathlib.Core.Bool.{Bool, true, false, not, cond}
+use mathlib.Core.List.{List, [], _∷_, _++_}
+use mathlib.Core.Option.{Option, none, some}
+use lib.ListN.{length, take, drop, set}
+use Rattle.card.specs.Pointers.{pointer, insert, remove}
+use Rattle.card.specs.Contents.{overwrite, fill, zeros}
+use Rattle.card.specs.Card.{Public, Card, count, windowAt, keyAt, inUse, block}
+use Rattle.card.specs.Soundness.{shape, sound}
+use Rattle.card.specs.declared.Info.{Info}
+use Rattle.card.specs.declared.Mode.{Mode}
+use Rattle.card.specs.declared.Mode.the-variants.{Reading, Writing}
+use Rattle.card.specs.declared.NewKey.{NewKey}
+use Rattle.card.specs.declared.NewKey.the-variants.{Absent, Present}
+use Rattle.card.specs.declared.Call.{Call}
+use Rattle.card.specs.declared.Refusal.{Refusal}
+use Rattle.card.specs.declared.Refusal.the-variants.{Misshapen, Unsound}
+use Rattle.card.specs.declared.Answer.{Answer}
+use Rattle.card.specs.declared.Answer.the-variants.{Refused}
+
+-- ---- checks
+
+infix 20 _⇒_
+-- A condition, and the refusal where it holds.
+pub data Check : Type 0 where
+  _⇒_ : Bool → Refusal → Check
+
+-- The refusal of the first condition that holds.
+unfoldable pub first : List Check → Option Refusal
+first [] = none
+first ((test ⇒ r) ∷ checks) = cond test (some r) (first checks)
+
+-- Document 01, "Every call but FORMAT first refuses 1 (shape), then 2 (unsound)."
+unfoldable pub audited : Card → List Check → List Check
+audited c checks = (not (shape c) ⇒ Misshapen) ∷ ((not (sound c) ⇒ Unsound) ∷ checks)
+
+-- ---- changes
+
+pub data Change : Type 0 where
+  setWindow : Mode → ℕ → ℕ → Change
+  setBlock : ℕ → List ℕ → Change
+  setKeys : ℕ → NewKey → NewKey → Change
+  takeBlock : ℕ → Change
+  freeBlock : ℕ → Change
+  addPointer : ℕ → ℕ → Change
+  dropPointer : ℕ → ℕ → Change
+  setTime : ℕ → Change
+
+-- The flags that a new key adds, and its words: 0 where it is absent.
+abbrev pub keyBit : Mode → NewKey → ℕ
+keyBit mode Absent = 0
+keyBit Reading (Present high low) = 2
+keyBit Writing (Present high low) = 4
+
+abbrev pub highWord : NewKey → ℕ
+highWord Absent = 0
+highWord (Present high low) = high
+
+abbrev pub lowWord : NewKey → ℕ
+lowWord Absent = 0
+lowWord (Present high low) = low
+
+abbrev pub withUsed : Info → ℕ → Info
+withUsed info used = record { blocks = info .blocks; roots = info .roots; bytes = info .bytes; used = used; time = info .time }
+
+abbrev pub withTime : Info → ℕ → Info
+withTime info time = record { blocks = info .blocks; roots = info .roots; bytes = info .bytes; used = info .used; time = time }
+
+abbrev pub withFlags : Public → List ℕ → Public
+withFlags p flags = record { info = p .info; flags = flags; counts = p .counts; pointers = p .pointers; windows = p .windows }
+
+abbrev pub withWindow : Public → Mode → ℕ → ℕ → Public
+withWindow p mode b end = record {
+  info = p .info;
+  flags = p .flags;
+  counts = p .counts;
+  pointers = p .pointers;
+  windows = set (p .windows) (windowAt mode b) end;
+}
+
+-- The flags of a block that is freed.
+abbrev pub freedFlag : ℕ
+freedFlag = 0
+
+-- What a change does to the public part.
+unfoldable pub changePublic : Change → Public → Public
+changePublic (setWindow mode b end) p = withWindow p mode b end
+changePublic (setBlock b ys) p = p
+changePublic (setKeys b read write) p = withFlags p (set (p .flags) b (1 + keyBit Reading read + keyBit Writing write))
+changePublic (takeBlock b) p = withFlags p (set (p .flags) b 1)
+changePublic (freeBlock b) p = withWindow (withWindow (withFlags p (set (p .flags) b freedFlag)) Reading b 0) Writing b 0
+changePublic (addPointer a b) p = record {
+  info = withUsed (p .info) (p .info .used + 1);
+  flags = p .flags;
+  counts = set (p .counts) b (count p b + 1);
+  pointers = insert (pointer a b) (inUse p) ++ drop (p .info .used + 1) (p .pointers);
+  windows = p .windows;
+}
+changePublic (dropPointer a b) p = record {
+  info = withUsed (p .info) (p .info .used - 1);
+  flags = p .flags;
+  counts = set (p .counts) b (count p b - 1);
+  pointers = remove (pointer a b) (inUse p) ++ (0 ∷ drop (p .info .used) (p .pointers));
+  windows = p .windows;
+}
+changePublic (setTime time) p = record { info = withTime (p .info) time; flags = p .flags; counts = p .counts; pointers = p .pointers; windows = p .windows }
+
+-- The four words of a block's keys.
+abbrev pub replaceKeys : List ℕ → ℕ → NewKey → NewKey → List ℕ
+replaceKeys keys b read write =
+    overwrite keys (keyAt Reading b) (highWord read ∷ lowWord read ∷ highWord write ∷ lowWord write ∷ [])
+
+-- What a change does to the keys.
+unfoldable pub changeKeys : Change → List ℕ → List ℕ
+changeKeys (setWindow mode b end) keys = keys
+changeKeys (setBlock b ys) keys = keys
+changeKeys (setKeys b read write) keys = replaceKeys keys b read write
+changeKeys (takeBlock b) keys = keys
+changeKeys (freeBlock b) keys = replaceKeys keys b Absent Absent
+changeKeys (addPointer a b) keys = keys
+changeKeys (dropPointer a b) keys = keys
+changeKeys (setTime time) keys = keys
+
+-- What a change does to the contents, in blocks of so many bytes.
+unfoldable pub changeContents : ℕ → Change → List ℕ → List ℕ
+changeContents bytes (setWindow mode b end) contents = contents
+changeContents bytes (setBlock b ys) contents = fill bytes contents b ys
+changeContents bytes (setKeys b read write) contents = contents
+changeContents bytes (takeBlock b) contents = fill bytes contents b (zeros bytes)
+changeContents bytes (freeBlock b) contents = contents
+changeContents bytes (addPointer a b) contents = contents
+changeContents bytes (dropPointer a b) contents = contents
+changeContents bytes (setTime time) contents = contents
+
+unfoldable pub change : Card → Change → Card
+change c step = record {
+  public = changePublic step (c .public);
+  keys = changeKeys step (c .keys);
+  contents = changeContents (c .public .info .bytes) step (c .contents);
+}
+
+-- The changes, one after the other.
+unfoldable pub changes : Card → List Change → Card
+changes c [] = c
+changes c (step ∷ steps) = changes (change c step) steps
+
+-- ---- a call
+
+-- What a done call puts into a lent buffer: nothing, a block's part of the contents, or numbers in the first places.
+pub data Shown : Type 0 where
+  nothing : Shown
+  blockPart : ℕ → Shown
+  numbers : List ℕ → Shown
+
+-- One paragraph of document 01, "Calls": its refusals in order, then what is answered, shown and changed.
+pub record Plan : Type 0 where
+  pub checks : List Check
+  pub answer : Answer
+  pub shown : Shown
+  pub steps : List Change
+
+-- The buffers that are lent with a call, and what they hold: the bytes that WRITE takes, READ's bytes and ALLOC's places.
+pub record Buffers : Type 0 where
+  pub input : List ℕ
+  pub out : List ℕ
+  pub places : List ℕ
+
+-- What a call answers, the card that it leaves, and what the buffers that it may write then hold.
+pub record Result : Type 0 where
+  pub answer : Answer
+  pub after : Card
+  pub out : List ℕ
+  pub places : List ℕ
+
+-- Document 01, "A refusal returns its number and changes no table, record or buffer."
+abbrev pub refused : Card → Buffers → Refusal → Result
+refused c lent r = record { answer = Refused r; after = c; out = lent .out; places = lent .places }
+
+unfoldable pub outAfter : Card → Shown → List ℕ → List ℕ
+outAfter c nothing out = out
+outAfter c (blockPart b) out = block c b
+outAfter c (numbers ns) out = out
+
+unfoldable pub placesAfter : Shown → List ℕ → List ℕ
+placesAfter nothing places = places
+placesAfter (blockPart b) places = places
+placesAfter (numbers ns) places = overwrite places 0 ns
+
+abbrev pub done : Card → Buffers → Plan → Result
+done c lent plan = record {
+  answer = plan .answer;
+  after = changes c (plan .steps);
+  out = outAfter c (plan .shown) (lent .out);
+  places = placesAfter (plan .shown) (lent .places);
+}
+
+unfoldable pub settle : Card → Buffers → Plan → Option Refusal → Result
+settle c lent plan none = done c lent plan
+settle c lent plan (some r) = refused c lent r
+
+-- A call judged by its own checks, on a card that has been audited.
+unfoldable pub judgeSound : Card → Buffers → Plan → Result
+judgeSound c lent plan = settle c lent plan (first (plan .checks))
+
+-- A call on any card: audited first.
+unfoldable pub judge : Card → Buffers → Plan → Result
+judge c lent plan = settle c lent plan (first (audited c (plan .checks)))

@@ -1,0 +1,66 @@
+-- Document 01, "Within reach": presented keys, sealed and hidden blocks.
+use Prim.Native.Nat.{ℕ}
+use mathlib.Core.Path.{_≡_}
+use mathlib.Core.Bool.{Bool, true, false, _&&_, _||_, not}
+use mathlib.Core.List.{List, [], _∷_}
+use lib.Dec.{eqb}
+use Rattle.card.specs.Card.{Public, Card, allocated, hasKey, isRoot, windowOpen, pointsTo, keyHigh, keyLow}
+use Rattle.card.specs.Session.{Request}
+use Rattle.card.specs.declared.Mode.{Mode}
+use Rattle.card.specs.declared.Mode.the-variants.{Reading, Writing}
+use Rattle.card.specs.declared.Credential.{Credential}
+use Rattle.card.specs.declared.Credential.the-variants.{Nothing, Reference, Key as KeyCredential}
+use Rattle.card.specs.declared.Call.{Call}
+use Rattle.card.specs.declared.Call.the-variants.{Read, Write, Alloc, Create, Delete, Key, Renew, Force, Free, Tick, Audit}
+
+-- ---- presented keys
+
+-- The credential shows the key of these two words.
+unfoldable pub shows : Credential → ℕ → ℕ → Bool
+shows Nothing high low = false
+shows (Reference r) high low = false
+shows (KeyCredential h l) high low = eqb high h && eqb low l
+
+-- The call presents the key, as a credential or in RENEW.
+unfoldable pub presents : Call → ℕ → ℕ → Bool
+presents (Read o) high low = shows (o .credential) high low
+presents (Write o) high low = shows (o .credential) high low
+presents (Alloc o) high low = shows (o .credential) high low
+presents (Create o) high low = shows (o .credential) high low || shows (o .second) high low
+presents (Delete o) high low = shows (o .credential) high low
+presents (Key o) high low = shows (o .credential) high low
+presents (Renew o) high low = shows (KeyCredential (o .high) (o .low)) high low
+presents (Force o) high low = false
+presents Free high low = false
+presents (Tick o) high low = false
+presents Audit high low = false
+
+-- Document 01, "Presented keys: every key used as a credential or in RENEW anywhere in the session."
+unfoldable pub presented : List Request → ℕ → ℕ → Bool
+presented [] high low = false
+presented (q ∷ qs) high low = presents (q .call) high low || presented qs high low
+
+-- ---- sealed, within reach, hidden
+
+module _ (isPresented : ℕ → ℕ → Bool) (c : Card) where
+  -- The block has a key for the mode, and that key is presented.
+  unfoldable pub keyPresented : Mode → ℕ → Bool
+  keyPresented mode b = hasKey (c .public) mode b && isPresented (keyHigh (c .keys) mode b) (keyLow (c .keys) mode b)
+
+  -- Document 01, "Sealed: carries a read and a write key, neither presented."
+  unfoldable pub sealed : ℕ → Bool
+  sealed b =
+      (hasKey (c .public) Reading b && hasKey (c .public) Writing b)
+      && (not (keyPresented Reading b) && not (keyPresented Writing b))
+
+  -- Document 01, "Within reach is the least set of allocated blocks": a constructor for each of its four clauses.
+  pub data Reach : ℕ → Type 0 where
+    unsealedRoot : {b : ℕ} → allocated (c .public) b ≡ true → isRoot (c .public) b ≡ true → sealed b ≡ false → Reach b
+    byKey : {b : ℕ} (mode : Mode) → allocated (c .public) b ≡ true → keyPresented mode b ≡ true → Reach b
+    openWindow : {b : ℕ} (mode : Mode) → allocated (c .public) b ≡ true → windowOpen (c .public) mode b ≡ true → Reach b
+    pointed : {a b : ℕ} → Reach a → allocated (c .public) b ≡ true → pointsTo (c .public) a b ≡ true → sealed b ≡ false → Reach b
+
+  -- Document 01, "Other allocated blocks are hidden."
+  pub record Hidden (b : ℕ) : Type 0 where
+    pub isAllocated : allocated (c .public) b ≡ true
+    pub outOfReach : Reach b → ⊥

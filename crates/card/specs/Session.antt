@@ -1,0 +1,106 @@
+-- One call performed, and a list of calls run, each on the card that the one before left.
+use Prim.Native.Nat.{ℕ}
+use mathlib.Core.Bool.{Bool, true, false, cond}
+use mathlib.Core.List.{List, [], _∷_, _++_, map}
+use lib.Dec.{eqb}
+use lib.ListN.{length, take}
+use Rattle.card.specs.Card.{Card}
+use Rattle.card.specs.Access.{admits, opens}
+use Rattle.card.specs.Plan.{Plan, Buffers, Result, judge}
+use Rattle.card.specs.Calls.{answerNumber, answerValues, modeOf, readPlan, writePlan, allocPlan, createPlan, deletePlan, keyPlan, renewPlan, forcePlan, freePlan, tickPlan, auditPlan}
+use Rattle.card.specs.declared.Port.{Port}
+use Rattle.card.specs.declared.Port.the-variants.{Host, Service}
+use Rattle.card.specs.declared.Mode.the-variants.{Reading, Writing}
+use Rattle.card.specs.declared.Credential.the-variants.{Key as KeyCredential}
+use Rattle.card.specs.declared.Answer.{Answer}
+use Rattle.card.specs.declared.Call.{Call}
+use Rattle.card.specs.declared.Call.the-variants.{Read, Write, Alloc, Create, Delete, Key, Renew, Force, Free, Tick, Audit}
+
+-- A call with its operands and its lent buffers with what they hold.
+pub record Request : Type 0 where
+  pub call : Call
+  pub lent : Buffers
+
+-- The call's paragraph of document 01, at a port and on a card: the access test is asked here and nowhere else.
+unfoldable pub plan : Port → Card → Call → Buffers → Plan
+plan port c (Read o) lent = readPlan port (c .public) (admits port c Reading (o .block) (o .credential)) o (length (lent .out))
+plan port c (Write o) lent = writePlan port (c .public) (admits port c Writing (o .block) (o .credential)) o (lent .input)
+plan port c (Alloc o) lent = allocPlan port (c .public) (admits port c Writing (o .reference) (o .credential)) o (length (lent .places))
+plan port c (Create o) lent =
+    createPlan port (c .public)
+    (admits port c Writing (o .source) (o .credential))
+    (admits port c Writing (o .destination) (o .second))
+    o
+plan port c (Delete o) lent = deletePlan port (c .public) (admits port c Writing (o .source) (o .credential)) o
+plan port c (Key o) lent = keyPlan port (c .public) (admits port c Writing (o .block) (o .credential)) o
+plan port c (Renew o) lent = renewPlan (c .public) (opens c (modeOf (o .mode)) (o .block) (KeyCredential (o .high) (o .low))) o
+plan port c (Force o) lent = forcePlan (c .public) o
+plan port c Free lent = freePlan (c .public)
+plan port c (Tick o) lent = tickPlan (c .public) o
+plan port c Audit lent = auditPlan
+
+unfoldable pub perform : Port → Card → Request → Result
+perform port c q = judge c (q .lent) (plan port c (q .call) (q .lent))
+
+-- ---- a list of calls
+
+-- A request at a port.
+pub record Sent : Type 0 where
+  pub port : Port
+  pub request : Request
+
+-- Document 01, "An answer here is the number, the results and what the lent buffers then hold": WRITE's bytes are never changed.
+pub record Reply : Type 0 where
+  pub answer : Answer
+  pub out : List ℕ
+  pub places : List ℕ
+
+abbrev pub reply : Result → Reply
+reply r = record { answer = r .answer; out = r .out; places = r .places }
+
+abbrev pub performed : Card → Sent → Result
+performed c s = perform (s .port) c (s .request)
+
+-- The answers of a list of calls, place by place.
+unfoldable pub replies : Card → List Sent → List Reply
+replies c [] = []
+replies c (s ∷ ss) = reply (performed c s) ∷ replies (performed c s .after) ss
+
+-- The card that a list of calls leaves.
+unfoldable pub afterAll : Card → List Sent → Card
+afterAll c [] = c
+afterAll c (s ∷ ss) = afterAll (performed c s .after) ss
+
+abbrev pub sentByHost : Request → Sent
+sentByHost q = record { port = Host; request = q }
+
+-- Document 01, "A host session": every call at the host port.
+abbrev pub hostSession : List Request → List Sent
+hostSession qs = map sentByHost qs
+
+-- ---- what a player reports
+
+-- The values that a done call leaves in a lent buffer and a player reports: READ's first 8 bytes, ALLOC's numbers.
+unfoldable pub shownValues : Call → Reply → List ℕ
+shownValues (Read o) r = take 8 (r .out)
+shownValues (Write o) r = []
+shownValues (Alloc o) r = take (o .count) (r .places)
+shownValues (Create o) r = []
+shownValues (Delete o) r = []
+shownValues (Key o) r = []
+shownValues (Renew o) r = []
+shownValues (Force o) r = []
+shownValues Free r = []
+shownValues (Tick o) r = []
+shownValues Audit r = []
+
+-- The answer's number and, if done, its results.
+unfoldable pub reported : Call → Reply → List ℕ
+reported call r =
+    answerNumber (r .answer)
+    ∷ cond (eqb (answerNumber (r .answer)) 0) (answerValues (r .answer) ++ shownValues call r) []
+
+-- What a player reports of a list of calls.
+unfoldable pub reports : Card → List Sent → List (List ℕ)
+reports c [] = []
+reports c (s ∷ ss) = reported (s .request .call) (reply (performed c s)) ∷ reports (performed c s .after) ss

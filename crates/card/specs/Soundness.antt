@@ -1,0 +1,132 @@
+-- Document 01, "Shape" and "Soundness": each a list of clauses in the document's order.
+use Prim.Native.Nat.{ℕ, _+_, _*_, _%_, _^_}
+use mathlib.Core.Bool.{Bool, true, false, _&&_, _||_, not}
+use mathlib.Core.List.{List, [], _∷_}
+use lib.Dec.{eqb, ltb, leb}
+use lib.ListN.{length, take, drop, getD}
+use Rattle.card.specs.Lists.{every, all, allBelow}
+use Rattle.card.specs.Pointers.{ascending, source, destination, pointersTo}
+use Rattle.card.specs.Card.{Public, Card, flag, allocatedFlag, keyFlag, allocated, isRoot, windowEnd, longestInterval, count, inUse, keyHigh, keyLow}
+use Rattle.card.specs.declared.Info.{Info}
+use Rattle.card.specs.declared.Mode.{Mode}
+use Rattle.card.specs.declared.Mode.the-variants.{Reading, Writing}
+
+-- ---- shape
+
+-- The time T is below this.
+abbrev pub timeLimit : ℕ
+timeLimit = 2 ^ 40
+
+-- N, R and B in their ranges. B divides 65,536, so it is a power of two.
+unfoldable pub ranges : ℕ → ℕ → ℕ → Bool
+ranges blocks roots bytes =
+    every
+    (leb 16 blocks
+    ∷ leb blocks 4096
+    ∷ leb 1 roots
+    ∷ leb roots 8
+    ∷ leb 512 bytes
+    ∷ leb bytes 65536
+    ∷ eqb (65536 % bytes) 0
+    ∷ [])
+
+-- The tables' lengths at N and B, and P from 1 to 16,384.
+unfoldable pub lengths : ℕ → ℕ → Card → Bool
+lengths blocks bytes c =
+    every
+    (eqb (length (c .public .flags)) blocks
+    ∷ eqb (length (c .keys)) (4 * blocks)
+    ∷ eqb (length (c .public .counts)) blocks
+    ∷ leb 1 (length (c .public .pointers))
+    ∷ leb (length (c .public .pointers)) 16384
+    ∷ eqb (length (c .public .windows)) (2 * blocks)
+    ∷ eqb (length (c .contents)) (blocks * bytes)
+    ∷ [])
+
+-- Document 01, "Shape".
+unfoldable pub shape : Card → Bool
+shape c =
+    let info = c .public .info in
+    every
+    (ranges (info .blocks) (info .roots) (info .bytes)
+    ∷ ltb (info .time) timeLimit
+    ∷ lengths (info .blocks) (info .bytes) c
+    ∷ leb (info .used) (length (c .public .pointers))
+    ∷ [])
+
+-- ---- soundness, of one block
+
+module _ (c : Card) (b : ℕ) where
+  -- "flags below 8"
+  unfoldable pub flagsBelow8 : Bool
+  flagsBelow8 = ltb (flag (c .public) b) 8
+
+  -- "roots allocated"
+  unfoldable pub rootAllocated : Bool
+  rootAllocated = not (isRoot (c .public) b) || allocatedFlag (flag (c .public) b)
+
+  -- Both words of the key for the mode are 0.
+  unfoldable pub keyZero : Mode → Bool
+  keyZero mode = eqb (keyHigh (c .keys) mode b) 0 && eqb (keyLow (c .keys) mode b) 0
+
+  -- "an unallocated block has flags, keys, count and windows 0"
+  unfoldable pub unallocatedEmpty : Bool
+  unallocatedEmpty =
+      allocatedFlag (flag (c .public) b)
+      || every
+      (eqb (flag (c .public) b) 0
+      ∷ keyZero Reading
+      ∷ keyZero Writing
+      ∷ eqb (count (c .public) b) 0
+      ∷ eqb (windowEnd (c .public) Reading b) 0
+      ∷ eqb (windowEnd (c .public) Writing b) 0
+      ∷ [])
+
+  -- "an absent key's words are 0"
+  unfoldable pub absentKeyZero : Mode → Bool
+  absentKeyZero mode = keyFlag mode (flag (c .public) b) || keyZero mode
+
+  -- "each count the number of pointers to that block"
+  unfoldable pub countRight : Bool
+  countRight = eqb (count (c .public) b) (pointersTo b (inUse (c .public)))
+
+  -- "at least 1 for an allocated non-root"
+  unfoldable pub pointedTo : Bool
+  pointedTo = isRoot (c .public) b || not (allocatedFlag (flag (c .public) b)) || leb 1 (count (c .public) b)
+
+  -- "each window end at most T + 86,400"
+  unfoldable pub windowInTime : Mode → Bool
+  windowInTime mode = leb (windowEnd (c .public) mode b) (c .public .info .time + longestInterval)
+
+-- ---- soundness, of one pointer
+
+-- "both ends of a pointer allocated, the destination no root, the ends different"
+unfoldable pub pointerRight : Public → ℕ → Bool
+pointerRight p w =
+    every
+    (allocated p (source w)
+    ∷ allocated p (destination w)
+    ∷ not (isRoot p (destination w))
+    ∷ not (eqb (source w) (destination w))
+    ∷ [])
+
+-- ---- soundness, of the card
+
+-- Document 01, "Soundness".
+unfoldable pub sound : Card → Bool
+sound c =
+    let blocks = c .public .info .blocks in
+    every
+    (allBelow (λ b. flagsBelow8 c b) blocks
+    ∷ allBelow (λ b. rootAllocated c b) blocks
+    ∷ allBelow (λ b. unallocatedEmpty c b) blocks
+    ∷ allBelow (λ b. absentKeyZero c b Reading) blocks
+    ∷ allBelow (λ b. absentKeyZero c b Writing) blocks
+    ∷ ascending (inUse (c .public))
+    ∷ all (λ w. eqb w 0) (drop (c .public .info .used) (c .public .pointers))
+    ∷ all (λ w. pointerRight (c .public) w) (inUse (c .public))
+    ∷ allBelow (λ b. countRight c b) blocks
+    ∷ allBelow (λ b. pointedTo c b) blocks
+    ∷ allBelow (λ b. windowInTime c b Reading) blocks
+    ∷ allBelow (λ b. windowInTime c b Writing) blocks
+    ∷ [])

@@ -1,0 +1,183 @@
+-- Document 01, "Marked trials" T1 to T12, its example of ten records as calls, and its five mistakes to exclude:
+-- rows of one table, shown of the rules by one proof that is computed.
+use Prim.Native.Nat.{ℕ, zero, suc, _+_, _*_}
+use mathlib.Core.Path.{_≡_, refl}
+use mathlib.Core.List.{List, [], _∷_, map}
+use lib.ListN.{replicate}
+use Rattle.card.specs.Lists.{every, all, any, allBelow, numbersBelow}
+use Rattle.card.specs.Pointers.{ascending, contains, pointsFrom, pointersTo, insert, remove}
+use Rattle.card.specs.Contents.{overwrite, part, fill, zeros}
+use Rattle.card.specs.Card.{Card, card, allocated, hasKey, freeBlocks, windowOpen, pointsTo, hasPointers}
+use Rattle.card.specs.Soundness.{ranges, lengths, shape, flagsBelow8, rootAllocated, keyZero, unallocatedEmpty, absentKeyZero, countRight, pointedTo, windowInTime, pointerRight, sound}
+use Rattle.card.specs.Access.{keyIs, keyOpens, opensKeyed, opensRoot, opensPointed, opens, admits}
+use Rattle.card.specs.Plan.{first, audited, changePublic, changeKeys, changeContents, change, changes, outAfter, placesAfter, settle, judge, Buffers}
+use Rattle.card.specs.Calls.{refusalNumber, answerNumber, answerValues, rootAtHost, windowAfter, opensWindow, freshInfo, formatResult, format, readPlan, writePlan, wanted, nearest, picks, takeAll, allocPlan, createPlan, deletePlan, keyPlan, modeOf, renewPlan, forcePlan, freePlan, tickPlan, auditPlan}
+use Rattle.card.specs.Session.{Request, Sent, plan, perform, shownValues, reported, reports}
+use Rattle.card.specs.declared.Port.{Port}
+use Rattle.card.specs.declared.Port.the-variants.{Host, Service}
+use Rattle.card.specs.declared.Credential.{Credential}
+use Rattle.card.specs.declared.Credential.the-variants.{Nothing, Reference, Key as KeyCredential}
+use Rattle.card.specs.declared.NewKey.{NewKey}
+use Rattle.card.specs.declared.NewKey.the-variants.{Absent, Present}
+use Rattle.card.specs.declared.Call.{Call}
+use Rattle.card.specs.declared.Call.the-variants.{Read, Write, Alloc, Create, Delete, Key, Renew, Force, Free, Tick, Audit}
+
+-- To compute by the rules, a proof unfolds this one name.
+unfoldable pub rules : Unit {0}
+unfolding every all any allBelow numbersBelow ascending contains pointsFrom pointersTo insert remove overwrite part fill allocated hasKey freeBlocks windowOpen pointsTo hasPointers ranges lengths shape flagsBelow8 rootAllocated keyZero unallocatedEmpty absentKeyZero countRight pointedTo windowInTime pointerRight sound keyIs keyOpens opensKeyed opensRoot opensPointed opens admits first audited changePublic changeKeys changeContents change changes outAfter placesAfter settle judge refusalNumber answerNumber answerValues rootAtHost windowAfter opensWindow formatResult format readPlan writePlan wanted nearest picks takeAll allocPlan createPlan deletePlan keyPlan modeOf renewPlan forcePlan freePlan tickPlan auditPlan plan perform shownValues reported reports
+rules = tt
+
+-- ---- the player's card
+
+-- Tables of the player's lengths, N 16, R 1, B 512 and P 32, before FORMAT. The contents are 8,192 zero bytes.
+abbrev pub blankCard : Card
+blankCard = card (freshInfo 16 1 512) (zeros 16) (zeros 64) (zeros 16) (zeros 32) (zeros 32) (zeros 8192)
+
+-- Document 01, "fresh player card".
+unfoldable pub playerCard : Card
+playerCard = format 16 1 512 blankCard .after
+
+-- ---- calls, as short as the trials have them
+
+-- The player lends READ 512 bytes and ALLOC 64 places. They hold 255 beforehand, so that what a call leaves is seen.
+abbrev pub lending : List ℕ → Buffers
+lending input = record { input = input; out = replicate 512 255; places = replicate 64 255 }
+
+abbrev pub send : Port → Call → Sent
+send port call = record { port = port; request = record { call = call; lent = lending [] } }
+
+module _ (port : Port) where
+  abbrev pub read : ℕ → Credential → ℕ → Sent
+  read b credential interval = send port (Read (record { block = b; credential = credential; interval = interval }))
+
+  -- A block filled with one byte.
+  abbrev pub writeAll : ℕ → Credential → ℕ → Sent
+  writeAll b credential byte = record {
+    port = port;
+    request = record {
+      call = Write (record { block = b; credential = credential; interval = 0 });
+      lent = lending (replicate 512 byte);
+    };
+  }
+
+  abbrev pub alloc : ℕ → ℕ → ℕ → Sent
+  alloc reference hint count = send port (Alloc (record { reference = reference; credential = Nothing; hint = hint; count = count }))
+
+  abbrev pub create : ℕ → Credential → ℕ → Credential → Sent
+  create a credential b second = send port (Create (record { source = a; credential = credential; destination = b; second = second }))
+
+  abbrev pub delete : ℕ → ℕ → Sent
+  delete a b = send port (Delete (record { source = a; credential = Nothing; destination = b }))
+
+  abbrev pub key : ℕ → NewKey → NewKey → Sent
+  key b forReading forWriting = send port (Key (record { block = b; credential = Nothing; read = forReading; write = forWriting }))
+
+abbrev pub free : Sent
+free = send Host Free
+
+abbrev pub tick : ℕ → Sent
+tick n = send Host (Tick (record { seconds = n }))
+
+-- ---- the table
+
+-- Calls from a fresh player card, and what is reported of each.
+pub record Trial : Type 0 where
+  pub calls : List Sent
+  pub expected : List (List ℕ)
+
+infix 10 _yields_
+abbrev pub _yields_ : List Sent → List (List ℕ) → Trial
+calls yields expected = record { calls = calls; expected = expected }
+
+abbrev zeros8 : List ℕ
+zeros8 = zeros 8
+
+unfoldable pub table : List Trial
+table =
+    -- T1
+    (free ∷ [] yields (0 ∷ 15 ∷ []) ∷ [])
+    -- T2
+    ∷ (alloc Service 0 8 3 ∷ [] yields (0 ∷ 8 ∷ 7 ∷ 9 ∷ []) ∷ [])
+    -- T3
+    ∷ (alloc Service 0 15 2 ∷ [] yields (0 ∷ 15 ∷ 14 ∷ []) ∷ [])
+    -- T4
+    ∷ (alloc Service 0 65535 15 ∷ [] yields (0 ∷ 1 ∷ 2 ∷ 3 ∷ 4 ∷ 5 ∷ 6 ∷ 7 ∷ 8 ∷ 9 ∷ 10 ∷ 11 ∷ 12 ∷ 13 ∷ 14 ∷ 15 ∷ []) ∷ [])
+    -- T5
+    ∷ (alloc Service 0 65535 16 ∷ [] yields (10 ∷ []) ∷ [])
+    -- T6
+    ∷ (alloc Service 0 65535 0 ∷ alloc Service 0 65535 65 ∷ [] yields (4 ∷ []) ∷ (4 ∷ []) ∷ [])
+    -- T7
+    ∷ (read Host 0 Nothing 86400 ∷ read Host 0 Nothing 86401 ∷ [] yields (0 ∷ zeros8) ∷ (4 ∷ []) ∷ [])
+    -- T8
+    ∷ (alloc Service 0 65535 1
+    ∷ read Host 0 Nothing 10
+    ∷ tick 9
+    ∷ read Host 1 (Reference 0) 0
+    ∷ tick 1
+    ∷ read Host 1 (Reference 0) 0
+    ∷ []
+    yields (0 ∷ 1 ∷ []) ∷ (0 ∷ zeros8) ∷ (0 ∷ 9 ∷ []) ∷ (0 ∷ zeros8) ∷ (0 ∷ 10 ∷ []) ∷ (5 ∷ []) ∷ [])
+    -- T9
+    ∷ (alloc Service 0 65535 1 ∷ create Service 1 Nothing 1 Nothing ∷ [] yields (0 ∷ 1 ∷ []) ∷ (7 ∷ []) ∷ [])
+    -- T10
+    ∷ (alloc Service 0 65535 1 ∷ alloc Service 1 65535 1 ∷ delete Service 0 1 ∷ [] yields (0 ∷ 1 ∷ []) ∷ (0 ∷ 2 ∷ []) ∷ (9 ∷ []) ∷ [])
+    -- T11
+    ∷ (tick 1099511627775 ∷ tick 1 ∷ [] yields (0 ∷ 1099511627775 ∷ []) ∷ (12 ∷ []) ∷ [])
+    -- T12
+    ∷ (alloc Service 0 65535 2
+    ∷ writeAll Service 2 Nothing 7
+    ∷ read Service 2 Nothing 0
+    ∷ delete Service 0 2
+    ∷ alloc Service 0 2 1
+    ∷ read Service 2 Nothing 0
+    ∷ []
+    yields (0 ∷ 1 ∷ 2 ∷ []) ∷ (0 ∷ []) ∷ (0 ∷ replicate 8 7) ∷ (0 ∷ 1 ∷ []) ∷ (0 ∷ 2 ∷ []) ∷ (0 ∷ zeros8) ∷ [])
+    -- the example of ten records
+    ∷ (alloc Service 0 65535 2
+    ∷ key Service 1 (Present 1 2) (Present 3 4)
+    ∷ read Host 1 Nothing 0
+    ∷ free
+    ∷ read Host 0 Nothing 10
+    ∷ read Host 2 (Reference 0) 0
+    ∷ tick 10
+    ∷ read Host 2 (Reference 0) 0
+    ∷ delete Service 0 2
+    ∷ free
+    ∷ []
+    yields (0 ∷ 1 ∷ 2 ∷ [])
+    ∷ (0 ∷ [])
+    ∷ (5 ∷ [])
+    ∷ (0 ∷ 13 ∷ [])
+    ∷ (0 ∷ zeros8)
+    ∷ (0 ∷ zeros8)
+    ∷ (0 ∷ 10 ∷ [])
+    ∷ (5 ∷ [])
+    ∷ (0 ∷ 1 ∷ [])
+    ∷ (0 ∷ 14 ∷ [])
+    ∷ [])
+    -- CREATE tests the destination for writing: its write key opens it, its read key does not
+    ∷ (alloc Service 0 65535 2
+    ∷ key Service 1 Absent (Present 3 4)
+    ∷ key Service 2 (Present 1 2) (Present 3 4)
+    ∷ create Host 1 (KeyCredential 3 4) 2 (KeyCredential 1 2)
+    ∷ create Host 1 (KeyCredential 3 4) 2 (KeyCredential 3 4)
+    ∷ []
+    yields (0 ∷ 1 ∷ 2 ∷ []) ∷ (0 ∷ []) ∷ (0 ∷ []) ∷ (5 ∷ []) ∷ (0 ∷ []) ∷ [])
+    -- a reference does not stand in for a key
+    ∷ (alloc Service 0 65535 1
+    ∷ key Service 1 (Present 1 2) Absent
+    ∷ read Host 0 Nothing 10
+    ∷ read Host 1 (Reference 0) 0
+    ∷ read Host 1 (KeyCredential 1 2) 0
+    ∷ []
+    yields (0 ∷ 1 ∷ []) ∷ (0 ∷ []) ∷ (0 ∷ zeros8) ∷ (5 ∷ []) ∷ (0 ∷ zeros8) ∷ [])
+    ∷ []
+
+-- What the rules report of a row's calls.
+unfoldable pub outcome : Trial → List (List ℕ)
+outcome t = reports playerCard (t .calls)
+
+-- The rules report of each row just what is expected.
+pub trials : map outcome table ≡ map (λ t. t .expected) table
+unfolding rules playerCard table outcome
+trials = refl

@@ -1,0 +1,134 @@
+// The types of the storage card: its record, credentials, calls, refusals and answers.
+// What they mean is defined in specs/, after document 01.
+
+// The card's small record: N, R, B, M and T of document 01.
+pub struct Info {
+    pub blocks: usize,
+    pub roots: usize,
+    pub bytes: usize,
+    pub used: usize,
+    pub time: u64,
+}
+
+// Where a call arrives. The service port skips credentials and opens no window.
+pub enum Port {
+    Host,
+    Service,
+}
+
+// The operation that a key, a window or an access test is for.
+pub enum Mode {
+    Reading,
+    Writing,
+}
+
+// What a host presents to open a block: nothing, a reference block, or a key as its high and low word.
+pub enum Credential {
+    Nothing,
+    Reference(u16),
+    Key(u64, u64),
+}
+
+// A key to be set, or none.
+pub enum NewKey {
+    Absent,
+    Present(u64, u64),
+}
+
+pub struct ReadOperands {
+    pub block: u16,
+    pub credential: Credential,
+    pub interval: u32,
+}
+
+// The bytes to be written stand beside the call.
+pub struct WriteOperands {
+    pub block: u16,
+    pub credential: Credential,
+    pub interval: u32,
+}
+
+pub struct AllocOperands {
+    pub reference: u16,
+    pub credential: Credential,
+    pub hint: u16,
+    pub count: u8,
+}
+
+// The first credential opens the source, the second the destination.
+pub struct CreateOperands {
+    pub source: u16,
+    pub credential: Credential,
+    pub destination: u16,
+    pub second: Credential,
+}
+
+pub struct DeleteOperands {
+    pub source: u16,
+    pub credential: Credential,
+    pub destination: u16,
+}
+
+pub struct KeyOperands {
+    pub block: u16,
+    pub credential: Credential,
+    pub read: NewKey,
+    pub write: NewKey,
+}
+
+// Mode 0 renews the read window, 1 the write window. The key is given bare, as its two words.
+pub struct RenewOperands {
+    pub mode: u8,
+    pub block: u16,
+    pub high: u64,
+    pub low: u64,
+    pub interval: u32,
+}
+
+pub struct ForceOperands {
+    pub block: u16,
+}
+
+pub struct TickOperands {
+    pub seconds: u64,
+}
+
+// A decoded call, with its credentials inside.
+pub enum Call {
+    Read(ReadOperands),
+    Write(WriteOperands),
+    Alloc(AllocOperands),
+    Create(CreateOperands),
+    Delete(DeleteOperands),
+    Key(KeyOperands),
+    Renew(RenewOperands),
+    Force(ForceOperands),
+    Free,
+    Tick(TickOperands),
+    Audit,
+}
+
+// Why a call is refused, in the order of document 01's numbers 1 to 13.
+pub enum Refusal {
+    Misshapen,
+    Unsound,
+    NotAllocated,
+    BadOperand,
+    NotOpened,
+    IsRoot,
+    PointerExists,
+    NoPointer,
+    HasPointers,
+    TooFewBlocks,
+    TooFewPlaces,
+    TimeEnds,
+    BadRecord,
+}
+
+// What a call answers: a refusal, done with no result, or done with one number.
+// The bytes of READ and the numbers of ALLOC are in the lent buffers.
+pub enum Answer {
+    Refused(Refusal),
+    Done,
+    Value(u64),
+}
