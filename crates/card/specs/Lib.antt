@@ -1,10 +1,13 @@
 pub mod Lists
+pub mod ListsLaws
 pub mod Pointers
 pub mod Contents
 pub mod Card
 pub mod Soundness
+pub mod SoundnessLaws
 pub mod Access
 pub mod Plan
+pub mod PlanLaws
 pub mod Calls
 pub mod Session
 pub mod Reach

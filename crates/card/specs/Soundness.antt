@@ -1,6 +1,6 @@
 -- Document 01, "Shape" and "Soundness": each a list of clauses in the document's order.
 use Prim.Native.Nat.{ℕ, _+_, _*_, _%_, _^_}
-use mathlib.Core.Bool.{Bool, true, false, _&&_, _||_, not}
+use mathlib.Core.Bool.{Bool, true, false, _&&_, _||_, not, cond}
 use mathlib.Core.List.{List, [], _∷_}
 use lib.Dec.{eqb, ltb, leb}
 use lib.ListN.{length, take, drop, getD}
@@ -10,6 +10,8 @@ use Rattle.card.specs.Card.{Public, Card, flag, allocatedFlag, keyFlag, 
 use Rattle.card.specs.declared.Info.{Info}
 use Rattle.card.specs.declared.Mode.{Mode}
 use Rattle.card.specs.declared.Mode.the-variants.{Reading, Writing}
+use Rattle.card.specs.declared.Verdict.{Verdict}
+use Rattle.card.specs.declared.Verdict.the-variants.{Misshapen, Unsound, Sound}
 
 -- ---- shape
 
@@ -18,41 +20,47 @@ abbrev pub timeLimit : ℕ
 timeLimit = 2 ^ 40
 
 -- N, R and B in their ranges. B divides 65,536, so it is a power of two.
-unfoldable pub ranges : ℕ → ℕ → ℕ → Bool
-ranges blocks roots bytes =
-    every
-    (leb 16 blocks
+abbrev pub rangeClauses : ℕ → ℕ → ℕ → List Bool
+rangeClauses blocks roots bytes =
+    leb 16 blocks
     ∷ leb blocks 4096
     ∷ leb 1 roots
     ∷ leb roots 8
     ∷ leb 512 bytes
     ∷ leb bytes 65536
     ∷ eqb (65536 % bytes) 0
-    ∷ [])
+    ∷ []
+
+unfoldable pub ranges : ℕ → ℕ → ℕ → Bool
+ranges blocks roots bytes = every (rangeClauses blocks roots bytes)
 
 -- The tables' lengths at N and B, and P from 1 to 16,384.
-unfoldable pub lengths : ℕ → ℕ → Card → Bool
-lengths blocks bytes c =
-    every
-    (eqb (length (c .public .flags)) blocks
+abbrev pub lengthClauses : ℕ → ℕ → Card → List Bool
+lengthClauses blocks bytes c =
+    eqb (length (c .public .flags)) blocks
     ∷ eqb (length (c .keys)) (4 * blocks)
     ∷ eqb (length (c .public .counts)) blocks
     ∷ leb 1 (length (c .public .pointers))
     ∷ leb (length (c .public .pointers)) 16384
     ∷ eqb (length (c .public .windows)) (2 * blocks)
     ∷ eqb (length (c .contents)) (blocks * bytes)
-    ∷ [])
+    ∷ []
 
--- Document 01, "Shape".
-unfoldable pub shape : Card → Bool
-shape c =
+unfoldable pub lengths : ℕ → ℕ → Card → Bool
+lengths blocks bytes c = every (lengthClauses blocks bytes c)
+
+abbrev pub shapeClauses : Card → List Bool
+shapeClauses c =
     let info = c .public .info in
-    every
-    (ranges (info .blocks) (info .roots) (info .bytes)
+    ranges (info .blocks) (info .roots) (info .bytes)
     ∷ ltb (info .time) timeLimit
     ∷ lengths (info .blocks) (info .bytes) c
     ∷ leb (info .used) (length (c .public .pointers))
-    ∷ [])
+    ∷ []
+
+-- Document 01, "Shape".
+unfoldable pub shape : Card → Bool
+shape c = every (shapeClauses c)
 
 -- ---- soundness, of one block
 
@@ -112,12 +120,10 @@ pointerRight p w =
 
 -- ---- soundness, of the card
 
--- Document 01, "Soundness".
-unfoldable pub sound : Card → Bool
-sound c =
+abbrev pub soundClauses : Card → List Bool
+soundClauses c =
     let blocks = c .public .info .blocks in
-    every
-    (allBelow (λ b. flagsBelow8 c b) blocks
+    allBelow (λ b. flagsBelow8 c b) blocks
     ∷ allBelow (λ b. rootAllocated c b) blocks
     ∷ allBelow (λ b. unallocatedEmpty c b) blocks
     ∷ allBelow (λ b. absentKeyZero c b Reading) blocks
@@ -129,4 +135,12 @@ sound c =
     ∷ allBelow (λ b. pointedTo c b) blocks
     ∷ allBelow (λ b. windowInTime c b Reading) blocks
     ∷ allBelow (λ b. windowInTime c b Writing) blocks
-    ∷ [])
+    ∷ []
+
+-- Document 01, "Soundness".
+unfoldable pub sound : Card → Bool
+sound c = every (soundClauses c)
+
+-- What the audit finds: misshapen, unsound or sound.
+unfoldable pub verdict : Card → Verdict
+verdict c = cond (shape c) (cond (sound c) Sound Unsound) Misshapen

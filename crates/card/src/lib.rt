@@ -132,3 +132,10 @@ pub enum Answer {
     Done,
     Value(u64),
 }
+
+// What the audit finds of a record and its tables.
+pub enum Verdict {
+    Misshapen,
+    Unsound,
+    Sound,
+}

@@ -1,0 +1,381 @@
+-- Shape and soundness as statements, a field for each clause, and the two ways between them and the tests.
+-- Assumes nothing.
+use Prim.Native.Nat.{ℕ, zero, suc, _+_, _*_, _%_, _≤_, _<_}
+use mathlib.Core.Path.{_≡_, refl, sym, ap, _∙_, subst}
+use mathlib.Core.Bool.{Bool, true, false, _&&_, _||_, not}
+use mathlib.Core.List.{List, [], _∷_}
+use native.Mathlib.Omega.{arith}
+use lib.Dec.{eqb, ltb, leb}
+use lib.ListN.{length, take, drop, getD}
+use borrow.Author.Tests.{lt-ltb, le-ltb, le-leb, lt-leb, eq-eqb, ne-eqb, ltb-true, ltb-false, leb-true, leb-false, eqb-true, eqb-false, not-true, not-false}
+use Rattle.card.specs.Lists.{every, all, allBelow}
+use Rattle.card.specs.ListsLaws.{and-left, and-right, and-true, or-else, or-false, or-false-left, or-false-right, Holds, every-true, true-every, allBelow-true, true-allBelow}
+use Rattle.card.specs.Pointers.{ascending, source, destination, pointersTo}
+use Rattle.card.specs.Card.{Public, Card, flag, allocatedFlag, keyFlag, allocated, isRoot, windowEnd, longestInterval, count, inUse, keyHigh, keyLow}
+use Rattle.card.specs.Soundness.{timeLimit, rangeClauses, ranges, lengthClauses, lengths, shapeClauses, shape, soundClauses, flagsBelow8, rootAllocated, keyZero, unallocatedEmpty, absentKeyZero, countRight, pointedTo, windowInTime, pointerRight, sound}
+use Rattle.card.specs.declared.Mode.{Mode}
+use Rattle.card.specs.declared.Mode.the-variants.{Reading, Writing}
+
+-- A decided choice: where a test fails, one thing holds; so the two joined hold.
+or-from : (a b : Bool) → (a ≡ false → b ≡ true) → a || b ≡ true
+or-from true b f = refl
+or-from false b f = f refl
+
+-- ---- shape
+
+pub record InRanges (blocks roots bytes : ℕ) : Type 0 where
+  pub blocksLow : 16 ≤ blocks
+  pub blocksHigh : blocks ≤ 4096
+  pub rootsLow : 1 ≤ roots
+  pub rootsHigh : roots ≤ 8
+  pub bytesLow : 512 ≤ bytes
+  pub bytesHigh : bytes ≤ 65536
+  pub bytesDivide : 65536 % bytes ≡ 0
+
+pub record HasLengths (blocks bytes : ℕ) (c : Card) : Type 0 where
+  pub flags : length (c .public .flags) ≡ blocks
+  pub keys : length (c .keys) ≡ 4 * blocks
+  pub counts : length (c .public .counts) ≡ blocks
+  pub placesLow : 1 ≤ length (c .public .pointers)
+  pub placesHigh : length (c .public .pointers) ≤ 16384
+  pub windows : length (c .public .windows) ≡ 2 * blocks
+  pub contents : length (c .contents) ≡ blocks * bytes
+
+-- Document 01, "Shape", as statements.
+pub record Shaped (c : Card) : Type 0 where
+  pub inRanges : InRanges (c .public .info .blocks) (c .public .info .roots) (c .public .info .bytes)
+  pub timeHigh : c .public .info .time < timeLimit
+  pub hasLengths : HasLengths (c .public .info .blocks) (c .public .info .bytes) c
+  pub usedHigh : c .public .info .used ≤ length (c .public .pointers)
+
+pub ranges-true : (blocks roots bytes : ℕ) → ranges blocks roots bytes ≡ true → InRanges blocks roots bytes
+unfolding ranges
+ranges-true blocks roots bytes e =
+    let h = every-true (rangeClauses blocks roots bytes) e in
+    record {
+      blocksLow = leb-true _ _ (h .0);
+      blocksHigh = leb-true _ _ (h .1 .0);
+      rootsLow = leb-true _ _ (h .1 .1 .0);
+      rootsHigh = leb-true _ _ (h .1 .1 .1 .0);
+      bytesLow = leb-true _ _ (h .1 .1 .1 .1 .0);
+      bytesHigh = leb-true _ _ (h .1 .1 .1 .1 .1 .0);
+      bytesDivide = eqb-true _ _ (h .1 .1 .1 .1 .1 .1 .0);
+    }
+
+pub true-ranges : {blocks roots bytes : ℕ} → InRanges blocks roots bytes → ranges blocks roots bytes ≡ true
+unfolding ranges
+true-ranges h =
+    true-every _ (
+      le-leb _ _ (h .blocksLow),
+      (
+        le-leb _ _ (h .blocksHigh),
+        (
+          le-leb _ _ (h .rootsLow),
+          (
+            le-leb _ _ (h .rootsHigh),
+            (
+              le-leb _ _ (h .bytesLow),
+              (
+                le-leb _ _ (h .bytesHigh),
+                (
+                  eq-eqb _ _ (h .bytesDivide),
+                  tt,
+                ),
+              ),
+            ),
+          ),
+        ),
+      ),
+    )
+
+pub lengths-true : (blocks bytes : ℕ) (c : Card) → lengths blocks bytes c ≡ true → HasLengths blocks bytes c
+unfolding lengths
+lengths-true blocks bytes c e =
+    let h = every-true (lengthClauses blocks bytes c) e in
+    record {
+      flags = eqb-true _ _ (h .0);
+      keys = eqb-true _ _ (h .1 .0);
+      counts = eqb-true _ _ (h .1 .1 .0);
+      placesLow = leb-true _ _ (h .1 .1 .1 .0);
+      placesHigh = leb-true _ _ (h .1 .1 .1 .1 .0);
+      windows = eqb-true _ _ (h .1 .1 .1 .1 .1 .0);
+      contents = eqb-true _ _ (h .1 .1 .1 .1 .1 .1 .0);
+    }
+
+pub true-lengths : {blocks bytes : ℕ} {c : Card} → HasLengths blocks bytes c → lengths blocks bytes c ≡ true
+unfolding lengths
+true-lengths h =
+    true-every _ (
+      eq-eqb _ _ (h .flags),
+      (
+        eq-eqb _ _ (h .keys),
+        (
+          eq-eqb _ _ (h .counts),
+          (
+            le-leb _ _ (h .placesLow),
+            (
+              le-leb _ _ (h .placesHigh),
+              (
+                eq-eqb _ _ (h .windows),
+                (
+                  eq-eqb _ _ (h .contents),
+                  tt,
+                ),
+              ),
+            ),
+          ),
+        ),
+      ),
+    )
+
+pub shape-true : (c : Card) → shape c ≡ true → Shaped c
+unfolding shape
+shape-true c e =
+    let h = every-true (shapeClauses c) e in
+    record {
+      inRanges = ranges-true _ _ _ (h .0);
+      timeHigh = ltb-true _ _ (h .1 .0);
+      hasLengths = lengths-true _ _ c (h .1 .1 .0);
+      usedHigh = leb-true _ _ (h .1 .1 .1 .0);
+    }
+
+pub true-shape : {c : Card} → Shaped c → shape c ≡ true
+unfolding shape
+true-shape h =
+    true-every _ (
+      true-ranges (h .inRanges),
+      (
+        lt-ltb _ _ (h .timeHigh),
+        (
+          true-lengths (h .hasLengths),
+          (
+            le-leb _ _ (h .usedHigh),
+            tt,
+          ),
+        ),
+      ),
+    )
+
+-- ---- soundness
+
+-- Both words of a block's key for the mode are 0.
+pub record KeyZero (c : Card) (mode : Mode) (b : ℕ) : Type 0 where
+  pub high : keyHigh (c .keys) mode b ≡ 0
+  pub low : keyLow (c .keys) mode b ≡ 0
+
+-- "flags, keys, count and windows 0"
+pub record Empty (c : Card) (b : ℕ) : Type 0 where
+  pub flagZero : flag (c .public) b ≡ 0
+  pub keysZero : (mode : Mode) → KeyZero c mode b
+  pub countZero : count (c .public) b ≡ 0
+  pub windowZero : (mode : Mode) → windowEnd (c .public) mode b ≡ 0
+
+pub record RightPointer (p : Public) (w : ℕ) : Type 0 where
+  pub sourceAllocated : allocated p (source w) ≡ true
+  pub destinationAllocated : allocated p (destination w) ≡ true
+  pub noRoot : p .info .roots ≤ destination w
+  pub different : source w ≡ destination w → ⊥
+
+-- Document 01, "Soundness", as statements.
+pub record Sound (c : Card) : Type 0 where
+  pub flagsLow : (b : ℕ) → b < c .public .info .blocks → flag (c .public) b < 8
+  pub rootsAllocated : (b : ℕ) → b < c .public .info .blocks → b < c .public .info .roots → allocatedFlag (flag (c .public) b) ≡ true
+  pub unallocated : (b : ℕ) → b < c .public .info .blocks → allocatedFlag (flag (c .public) b) ≡ false → Empty c b
+  pub absentKey : (mode : Mode) (b : ℕ) → b < c .public .info .blocks → keyFlag mode (flag (c .public) b) ≡ false → KeyZero c mode b
+  pub ascends : ascending (inUse (c .public)) ≡ true
+  pub restZero : all (λ w. eqb w 0) (drop (c .public .info .used) (c .public .pointers)) ≡ true
+  pub pointersRight : all (λ w. pointerRight (c .public) w) (inUse (c .public)) ≡ true
+  pub counts : (b : ℕ) → b < c .public .info .blocks → count (c .public) b ≡ pointersTo b (inUse (c .public))
+  pub pointed : (b : ℕ) → b < c .public .info .blocks → c .public .info .roots ≤ b → allocatedFlag (flag (c .public) b) ≡ true → 1 ≤ count (c .public) b
+  pub windowsLow : (mode : Mode) (b : ℕ) → b < c .public .info .blocks → windowEnd (c .public) mode b ≤ c .public .info .time + longestInterval
+
+pub keyZero-true : (c : Card) (b : ℕ) (mode : Mode) → keyZero c b mode ≡ true → KeyZero c mode b
+unfolding keyZero
+keyZero-true c b mode e = record { high = eqb-true _ _ (and-left _ _ e); low = eqb-true _ _ (and-right (eqb (keyHigh (c .keys) mode b) 0) _ e) }
+
+pub true-keyZero : {c : Card} {mode : Mode} {b : ℕ} → KeyZero c mode b → keyZero c b mode ≡ true
+unfolding keyZero
+true-keyZero h = and-true _ _ (eq-eqb _ _ (h .high)) (eq-eqb _ _ (h .low))
+
+pub unallocatedEmpty-true : (c : Card) (b : ℕ) → unallocatedEmpty c b ≡ true → allocatedFlag (flag (c .public) b) ≡ false → Empty c b
+unfolding unallocatedEmpty
+unallocatedEmpty-true c b e f =
+    let p = c .public in
+    let h = every-true (eqb (flag p b) 0 ∷ keyZero c b Reading ∷ keyZero c b Writing ∷ eqb (count p b) 0 ∷ eqb (windowEnd p Reading b) 0 ∷ eqb (windowEnd p Writing b) 0 ∷ []) (or-else _ _ e f) in
+    record {
+      flagZero = eqb-true _ _ (h .0);
+      keysZero = elim [ Reading ↦ keyZero-true c b Reading (h .1 .0) | Writing ↦ keyZero-true c b Writing (h .1 .1 .0) ];
+      countZero = eqb-true _ _ (h .1 .1 .1 .0);
+      windowZero = elim [ Reading ↦ eqb-true _ _ (h .1 .1 .1 .1 .0) | Writing ↦ eqb-true _ _ (h .1 .1 .1 .1 .1 .0) ];
+    }
+
+pub true-unallocatedEmpty : (c : Card) (b : ℕ) → (allocatedFlag (flag (c .public) b) ≡ false → Empty c b) → unallocatedEmpty c b ≡ true
+unfolding unallocatedEmpty
+true-unallocatedEmpty c b f =
+    or-from (allocatedFlag (flag (c .public) b)) _
+    (λ e.
+    true-every _ (
+      eq-eqb _ _ (f e .flagZero),
+      (
+        true-keyZero (f e .keysZero Reading),
+        (
+          true-keyZero (f e .keysZero Writing),
+          (
+            eq-eqb _ _ (f e .countZero),
+            (
+              eq-eqb _ _ (f e .windowZero Reading),
+              (
+                eq-eqb _ _ (f e .windowZero Writing),
+                tt,
+              ),
+            ),
+          ),
+        ),
+      ),
+    ))
+
+pub pointerRight-true : (p : Public) (w : ℕ) → pointerRight p w ≡ true → RightPointer p w
+unfolding pointerRight
+pointerRight-true p w e =
+    let h = every-true (allocated p (source w) ∷ allocated p (destination w) ∷ not (isRoot p (destination w)) ∷ not (eqb (source w) (destination w)) ∷ []) e in
+    record {
+      sourceAllocated = h .0;
+      destinationAllocated = h .1 .0;
+      noRoot = ltb-false _ _ (not-true _ (h .1 .1 .0));
+      different = eqb-false _ _ (not-true _ (h .1 .1 .1 .0));
+    }
+
+pub true-pointerRight : {p : Public} {w : ℕ} → RightPointer p w → pointerRight p w ≡ true
+unfolding pointerRight
+true-pointerRight h =
+    true-every _ (
+      h .sourceAllocated,
+      (
+        h .destinationAllocated,
+        (
+          ap not (le-ltb _ _ (h .noRoot)),
+          (
+            ap not (ne-eqb _ _ (h .different)),
+            tt,
+          ),
+        ),
+      ),
+    )
+
+-- At each block below N, by the clause at that block.
+pub rootAllocated-true : (c : Card) (b : ℕ) → rootAllocated c b ≡ true → b < c .public .info .roots → allocatedFlag (flag (c .public) b) ≡ true
+unfolding rootAllocated
+rootAllocated-true c b e l = or-else _ _ e (ap not (lt-ltb _ _ l))
+
+pub true-rootAllocated : (c : Card) (b : ℕ) → (b < c .public .info .roots → allocatedFlag (flag (c .public) b) ≡ true) → rootAllocated c b ≡ true
+unfolding rootAllocated
+true-rootAllocated c b f = or-from (not (isRoot (c .public) b)) _ (λ e. f (ltb-true _ _ (not-false _ e)))
+
+pub absentKeyZero-true : (c : Card) (b : ℕ) (mode : Mode) → absentKeyZero c b mode ≡ true → keyFlag mode (flag (c .public) b) ≡ false → KeyZero c mode b
+unfolding absentKeyZero
+absentKeyZero-true c b mode e f = keyZero-true c b mode (or-else _ _ e f)
+
+pub true-absentKeyZero : (c : Card) (b : ℕ) (mode : Mode) → (keyFlag mode (flag (c .public) b) ≡ false → KeyZero c mode b) → absentKeyZero c b mode ≡ true
+unfolding absentKeyZero
+true-absentKeyZero c b mode f = or-from (keyFlag mode (flag (c .public) b)) _ (λ e. true-keyZero (f e))
+
+pub pointedTo-true : (c : Card) (b : ℕ) → pointedTo c b ≡ true → c .public .info .roots ≤ b → allocatedFlag (flag (c .public) b) ≡ true → 1 ≤ count (c .public) b
+unfolding pointedTo
+pointedTo-true c b e l a =
+    leb-true _ _
+    (or-else (isRoot (c .public) b || not (allocatedFlag (flag (c .public) b))) _ e (or-false _ _ (le-ltb _ _ l) (ap not a)))
+
+pub true-pointedTo : (c : Card) (b : ℕ) → (c .public .info .roots ≤ b → allocatedFlag (flag (c .public) b) ≡ true → 1 ≤ count (c .public) b) → pointedTo c b ≡ true
+unfolding pointedTo
+true-pointedTo c b f =
+    or-from (isRoot (c .public) b || not (allocatedFlag (flag (c .public) b))) _
+    (λ e.
+    le-leb _ _
+    (f (ltb-false _ _ (or-false-left _ _ e))
+    (not-false _ (or-false-right (isRoot (c .public) b) _ e))))
+
+pub sound-true : (c : Card) → sound c ≡ true → Sound c
+unfolding sound flagsBelow8 countRight windowInTime
+sound-true c e =
+    let h = every-true (soundClauses c) e in
+    let blocks = c .public .info .blocks in
+    record {
+      flagsLow = λ b l. ltb-true _ _ (allBelow-true (λ b. flagsBelow8 c b) blocks (h .0) b l);
+      rootsAllocated = λ b l. rootAllocated-true c b (allBelow-true (λ b. rootAllocated c b) blocks (h .1 .0) b l);
+      unallocated = λ b l. unallocatedEmpty-true c b (allBelow-true (λ b. unallocatedEmpty c b) blocks (h .1 .1 .0) b l);
+      absentKey = elim [
+        | Reading ↦ λ b l. absentKeyZero-true c b Reading (allBelow-true (λ b. absentKeyZero c b Reading) blocks (h .1 .1 .1 .0) b l)
+        | Writing ↦ λ b l. absentKeyZero-true c b Writing (allBelow-true (λ b. absentKeyZero c b Writing) blocks (h .1 .1 .1 .1 .0) b l)
+      ];
+      ascends = h .1 .1 .1 .1 .1 .0;
+      restZero = h .1 .1 .1 .1 .1 .1 .0;
+      pointersRight = h .1 .1 .1 .1 .1 .1 .1 .0;
+      counts = λ b l. eqb-true _ _ (allBelow-true (λ b. countRight c b) blocks (h .1 .1 .1 .1 .1 .1 .1 .1 .0) b l);
+      pointed = λ b l. pointedTo-true c b (allBelow-true (λ b. pointedTo c b) blocks (h .1 .1 .1 .1 .1 .1 .1 .1 .1 .0) b l);
+      windowsLow = elim [
+        | Reading ↦ λ b l. leb-true _ _ (allBelow-true (λ b. windowInTime c b Reading) blocks (h .1 .1 .1 .1 .1 .1 .1 .1 .1 .1 .0) b l)
+        | Writing ↦ λ b l. leb-true _ _ (allBelow-true (λ b. windowInTime c b Writing) blocks (h .1 .1 .1 .1 .1 .1 .1 .1 .1 .1 .1 .0) b l)
+      ];
+    }
+
+pub true-sound : {c : Card} → Sound c → sound c ≡ true
+unfolding sound flagsBelow8 countRight windowInTime
+true-sound {c} h =
+    let blocks = c .public .info .blocks in
+    true-every (soundClauses c) (
+      true-allBelow _ blocks (λ b l. lt-ltb _ _ (h .flagsLow b l)),
+      (
+        true-allBelow _ blocks (λ b l. true-rootAllocated c b (h .rootsAllocated b l)),
+        (
+          true-allBelow _ blocks (λ b l. true-unallocatedEmpty c b (h .unallocated b l)),
+          (
+            true-allBelow _ blocks (λ b l. true-absentKeyZero c b Reading (h .absentKey Reading b l)),
+            (
+              true-allBelow _ blocks (λ b l. true-absentKeyZero c b Writing (h .absentKey Writing b l)),
+              (
+                h .ascends,
+                (
+                  h .restZero,
+                  (
+                    h .pointersRight,
+                    (
+                      true-allBelow _ blocks (λ b l. eq-eqb _ _ (h .counts b l)),
+                      (
+                        true-allBelow _ blocks (λ b l. true-pointedTo c b (h .pointed b l)),
+                        (
+                          true-allBelow _ blocks (λ b l. le-leb _ _ (h .windowsLow Reading b l)),
+                          (
+                            true-allBelow _ blocks (λ b l. le-leb _ _ (h .windowsLow Writing b l)),
+                            tt,
+                          ),
+                        ),
+                      ),
+                    ),
+                  ),
+                ),
+              ),
+            ),
+          ),
+        ),
+      ),
+    )
+
+-- A card of the right shape that is sound: what a call that is not refused 1 or 2 starts from.
+pub record SoundCard (c : Card) : Type 0 where
+  pub shaped : Shaped c
+  pub isSound : Sound c
+
+-- ---- what soundness gives
+
+-- An allocated block is below N.
+pub allocated-below : (p : Public) (b : ℕ) → allocated p b ≡ true → b < p .info .blocks
+unfolding allocated
+allocated-below p b e = ltb-true _ _ (and-left _ _ e)
+
+pub allocated-flag : (p : Public) (b : ℕ) → allocated p b ≡ true → allocatedFlag (flag p b) ≡ true
+unfolding allocated
+allocated-flag p b e = and-right (ltb b (p .info .blocks)) _ e
+
+pub flag-allocated : (p : Public) (b : ℕ) → b < p .info .blocks → allocatedFlag (flag p b) ≡ true → allocated p b ≡ true
+unfolding allocated
+flag-allocated p b l e = and-true _ _ (lt-ltb _ _ l) e
