@@ -1,7 +1,9 @@
 pub mod Lists
 pub mod ListsLaws
 pub mod Pointers
+pub mod PointersLaws
 pub mod Contents
+pub mod ContentsLaws
 pub mod Card
 pub mod Soundness
 pub mod SoundnessLaws

@@ -1,0 +1,226 @@
+-- Laws of sorted lists of pointers.
+-- Assumes nothing.
+use Prim.Native.Nat.{ℕ, zero, suc, _+_, _-_, _*_, _/_, _%_, _≤_, _<_}
+use mathlib.Core.Path.{_≡_, refl, sym, ap, _∙_, subst}
+use mathlib.Core.Logic.{_⊎_, inl, inr, ⊎-elim}
+use mathlib.Core.Bool.{Bool, true, false, _&&_, _||_, not, cond}
+use mathlib.Core.List.{List, [], _∷_, _++_}
+use native.Mathlib.Omega.{arith}
+use lib.Dec.{eqb, ltb}
+use lib.ListN.{length, take, drop, getD, length-append, length-take, length-drop}
+use lib.Seq.{take-at, drop-at, length-take-le}
+use borrow.Author.Tests.{lt-ltb, le-ltb, eq-eqb, ne-eqb, ltb-true, ltb-false, eqb-true, eqb-false}
+use Rattle.card.specs.Lists.{all, any}
+use Rattle.card.specs.ListsLaws.{and-left, and-right, and-true, or-left, or-right, or-false-left, or-false-right, or-cases, not-cases, all-cons, all-head, all-tail, absurd-test, same-or-other}
+use Rattle.card.specs.Pointers.{pointer, source, destination, ascending, contains, pointsFrom, adds, pointersTo, insert, remove}
+
+-- ---- the ends of a pointer
+
+pub source-pointer : (a b : ℕ) → b < 65536 → source (pointer a b) ≡ a
+source-pointer a b h = omega arith
+
+pub destination-pointer : (a b : ℕ) → b < 65536 → destination (pointer a b) ≡ b
+destination-pointer a b h = omega arith
+
+pub pointer-ends : (w : ℕ) → pointer (source w) (destination w) ≡ w
+pointer-ends w = omega arith
+
+-- ---- contains
+
+pub contains-cons : (w x : ℕ) (xs : List ℕ) → contains w (x ∷ xs) ≡ eqb x w || contains w xs
+unfolding contains any
+contains-cons w x xs = refl
+
+pub contains-all : (p : ℕ → Bool) (w : ℕ) (ws : List ℕ) → contains w ws ≡ true → all p ws ≡ true → p w ≡ true
+unfolding contains any
+contains-all p w [] e h = absurd-test {t = false} e refl
+contains-all p w (x ∷ xs) e h =
+    ⊎-elim
+    (λ (q : eqb x w ≡ true). subst (λ (k : ℕ). p k ≡ true) (eqb-true x w q) (all-head p x xs h))
+    (λ (q : any (λ x. eqb x w) xs ≡ true). contains-all p w xs q (all-tail p x xs h))
+    (or-cases (eqb x w) _ e)
+
+-- ---- insert
+
+pub insert-length : (w : ℕ) (ws : List ℕ) → length (insert w ws) ≡ suc (length ws)
+unfolding insert
+insert-length w [] = refl
+insert-length w (x ∷ xs) = go (ltb w x) (insert-length w xs)
+  where
+    go : (t : Bool) → length (insert w xs) ≡ suc (length xs) → length (cond t (w ∷ (x ∷ xs)) (x ∷ insert w xs)) ≡ suc (suc (length xs))
+    go true e = refl
+    go false e = ap suc e
+
+pub pointersTo-insert : (b w : ℕ) (ws : List ℕ) → pointersTo b (insert w ws) ≡ adds b w + pointersTo b ws
+unfolding insert pointersTo
+pointersTo-insert b w [] = refl
+pointersTo-insert b w (x ∷ xs) = go (ltb w x) (pointersTo-insert b w xs)
+  where
+    go : (t : Bool) → pointersTo b (insert w xs) ≡ adds b w + pointersTo b xs
+        → pointersTo b (cond t (w ∷ (x ∷ xs)) (x ∷ insert w xs)) ≡ adds b w + (adds b x + pointersTo b xs)
+    go true e = refl
+    go false e = omega arith
+
+pub all-insert : (p : ℕ → Bool) (w : ℕ) (ws : List ℕ) → p w ≡ true → all p ws ≡ true → all p (insert w ws) ≡ true
+unfolding insert
+all-insert p w [] h e = all-cons p w [] h e
+all-insert p w (x ∷ xs) h e = go (ltb w x) (all-insert p w xs h (all-tail p x xs e))
+  where
+    go : (t : Bool) → all p (insert w xs) ≡ true → all p (cond t (w ∷ (x ∷ xs)) (x ∷ insert w xs)) ≡ true
+    go true i = all-cons p w (x ∷ xs) h e
+    go false i = all-cons p x (insert w xs) (all-head p x xs e) i
+
+-- What an inserted list contains was there, or is the pointer inserted.
+pub contains-insert : (v w : ℕ) (ws : List ℕ) → contains v (insert w ws) ≡ true → (w ≡ v) ⊎ (contains v ws ≡ true)
+unfolding insert contains any
+contains-insert v w [] e = ⊎-elim (λ q. inl (eqb-true w v q)) (λ q. inr q) (or-cases (eqb w v) false e)
+contains-insert v w (x ∷ xs) e = go (ltb w x) (contains-insert v w xs) e
+  where
+    go : (t : Bool) → (contains v (insert w xs) ≡ true → (w ≡ v) ⊎ (contains v xs ≡ true))
+        → contains v (cond t (w ∷ (x ∷ xs)) (x ∷ insert w xs)) ≡ true → (w ≡ v) ⊎ (contains v (x ∷ xs) ≡ true)
+    go true f h = ⊎-elim (λ q. inl (eqb-true w v q)) (λ q. inr q) (or-cases (eqb w v) _ h)
+    go false f h =
+        ⊎-elim
+        (λ q. inr (or-left (eqb x v) _ q))
+        (λ q. ⊎-elim (λ i. inl i) (λ i. inr (or-right (eqb x v) _ i)) (f q))
+        (or-cases (eqb x v) _ h)
+
+pub ascending-cons : (x y : ℕ) (ys : List ℕ) → x < y → ascending (y ∷ ys) ≡ true → ascending (x ∷ (y ∷ ys)) ≡ true
+unfolding ascending
+ascending-cons x y ys h e = and-true (ltb x y) _ (lt-ltb x y h) e
+
+pub ascending-below : (x y : ℕ) (ys : List ℕ) → ascending (x ∷ (y ∷ ys)) ≡ true → x < y
+unfolding ascending
+ascending-below x y ys e = ltb-true x y (and-left (ltb x y) _ e)
+
+pub ascending-tail : (x : ℕ) (xs : List ℕ) → ascending (x ∷ xs) ≡ true → ascending xs ≡ true
+unfolding ascending
+ascending-tail x [] e = refl
+ascending-tail x (y ∷ ys) e = and-right (ltb x y) _ e
+
+-- In an ascending list that goes on from x, a number above x that is not there is inserted behind x.
+insert-above : (x w : ℕ) (ws : List ℕ) → x < w → ascending (x ∷ ws) ≡ true → contains w ws ≡ false → ascending (x ∷ insert w ws) ≡ true
+unfolding insert contains any ascending
+insert-above x w [] h e n = ascending-cons x w [] h refl
+insert-above x w (y ∷ ys) h e n = go (ltb w y) refl (insert-above y w ys)
+  where
+    apart : eqb y w || contains w ys ≡ false
+    apart = n
+
+    go : (t : Bool) → ltb w y ≡ t
+        → (y < w → ascending (y ∷ ys) ≡ true → contains w ys ≡ false → ascending (y ∷ insert w ys) ≡ true)
+        → ascending (x ∷ cond t (w ∷ (y ∷ ys)) (y ∷ insert w ys)) ≡ true
+    go true q f = ascending-cons x w (y ∷ ys) h (ascending-cons w y ys (ltb-true w y q) (ascending-tail x (y ∷ ys) e))
+    go false q f =
+        let le : y ≤ w = ltb-false w y q in
+        let ne : (y ≡ w → ⊥) = eqb-false y w (or-false-left (eqb y w) _ apart) in
+        ascending-cons x y (insert w ys) (ascending-below x y ys e)
+        (f (omega arith) (ascending-tail x (y ∷ ys) e) (or-false-right (eqb y w) _ apart))
+
+pub insert-ascending : (w : ℕ) (ws : List ℕ) → ascending ws ≡ true → contains w ws ≡ false → ascending (insert w ws) ≡ true
+unfolding insert ascending contains any
+insert-ascending w [] e n = refl
+insert-ascending w (x ∷ xs) e n = go (ltb w x) refl
+  where
+    apart : eqb x w || contains w xs ≡ false
+    apart = n
+
+    go : (t : Bool) → ltb w x ≡ t → ascending (cond t (w ∷ (x ∷ xs)) (x ∷ insert w xs)) ≡ true
+    go true q = ascending-cons w x xs (ltb-true w x q) e
+    go false q =
+        let le : x ≤ w = ltb-false w x q in
+        let ne : (x ≡ w → ⊥) = eqb-false x w (or-false-left (eqb x w) _ apart) in
+        insert-above x w xs (omega arith) e (or-false-right (eqb x w) _ apart)
+
+-- ---- remove
+
+pub remove-length : (w : ℕ) (ws : List ℕ) → contains w ws ≡ true → suc (length (remove w ws)) ≡ length ws
+unfolding remove contains any
+remove-length w [] e = absurd-test {t = false} e refl
+remove-length w (x ∷ xs) e = go (eqb x w) refl (remove-length w xs) e
+  where
+    go : (t : Bool) → eqb x w ≡ t → (contains w xs ≡ true → suc (length (remove w xs)) ≡ length xs) → t || contains w xs ≡ true
+        → suc (length (cond t xs (x ∷ remove w xs))) ≡ suc (length xs)
+    go true q f h = refl
+    go false q f h = ap suc (f h)
+
+pub pointersTo-remove : (b w : ℕ) (ws : List ℕ) → contains w ws ≡ true → adds b w + pointersTo b (remove w ws) ≡ pointersTo b ws
+unfolding remove contains any pointersTo
+pointersTo-remove b w [] e = absurd-test {t = false} e refl
+pointersTo-remove b w (x ∷ xs) e = go (eqb x w) refl (pointersTo-remove b w xs) e
+  where
+    go : (t : Bool) → eqb x w ≡ t → (contains w xs ≡ true → adds b w + pointersTo b (remove w xs) ≡ pointersTo b xs) → t || contains w xs ≡ true
+        → adds b w + pointersTo b (cond t xs (x ∷ remove w xs)) ≡ adds b x + pointersTo b xs
+    go true q f h = ap (λ (k : ℕ). adds b k + pointersTo b xs) (sym (eqb-true x w q))
+    go false q f h = let i : adds b w + pointersTo b (remove w xs) ≡ pointersTo b xs = f h in omega arith
+
+pub all-remove : (p : ℕ → Bool) (w : ℕ) (ws : List ℕ) → all p ws ≡ true → all p (remove w ws) ≡ true
+unfolding remove
+all-remove p w [] e = e
+all-remove p w (x ∷ xs) e = go (eqb x w) (all-remove p w xs (all-tail p x xs e))
+  where
+    go : (t : Bool) → all p (remove w xs) ≡ true → all p (cond t xs (x ∷ remove w xs)) ≡ true
+    go true i = all-tail p x xs e
+    go false i = all-cons p x (remove w xs) (all-head p x xs e) i
+
+pub contains-remove : (v w : ℕ) (ws : List ℕ) → contains v (remove w ws) ≡ true → contains v ws ≡ true
+unfolding remove contains any
+contains-remove v w [] e = e
+contains-remove v w (x ∷ xs) e = go (eqb x w) (contains-remove v w xs) e
+  where
+    go : (t : Bool) → (contains v (remove w xs) ≡ true → contains v xs ≡ true) → contains v (cond t xs (x ∷ remove w xs)) ≡ true → eqb x v || contains v xs ≡ true
+    go true f h = or-right (eqb x v) _ h
+    go false f h = ⊎-elim (λ q. or-left (eqb x v) _ q) (λ q. or-right (eqb x v) _ (f q)) (or-cases (eqb x v) _ h)
+
+-- An ascending list goes on ascending from a lower number.
+ascending-lower : (x y : ℕ) (ys : List ℕ) → x < y → ascending (y ∷ ys) ≡ true → ascending (x ∷ ys) ≡ true
+unfolding ascending
+ascending-lower x y [] h e = refl
+ascending-lower x y (z ∷ zs) h e =
+    let below : y < z = ascending-below y z zs e in
+    ascending-cons x z zs (omega arith) (ascending-tail y (z ∷ zs) e)
+
+remove-above : (x w : ℕ) (ws : List ℕ) → ascending (x ∷ ws) ≡ true → ascending (x ∷ remove w ws) ≡ true
+unfolding remove
+remove-above x w [] e = e
+remove-above x w (y ∷ ys) e = go (eqb y w) (remove-above y w ys (ascending-tail x (y ∷ ys) e))
+  where
+    go : (t : Bool) → ascending (y ∷ remove w ys) ≡ true → ascending (x ∷ cond t ys (y ∷ remove w ys)) ≡ true
+    go true i = ascending-lower x y ys (ascending-below x y ys e) (ascending-tail x (y ∷ ys) e)
+    go false i = ascending-cons x y (remove w ys) (ascending-below x y ys e) i
+
+pub remove-ascending : (w : ℕ) (ws : List ℕ) → ascending ws ≡ true → ascending (remove w ws) ≡ true
+unfolding remove
+remove-ascending w [] e = e
+remove-ascending w (x ∷ xs) e = go (eqb x w)
+  where
+    go : (t : Bool) → ascending (cond t xs (x ∷ remove w xs)) ≡ true
+    go true = ascending-tail x xs e
+    go false = remove-above x w xs e
+
+-- ---- counts
+
+-- A list that contains a pointer to the block counts it.
+pub contains-counted : (b w : ℕ) (ws : List ℕ) → contains w ws ≡ true → destination w ≡ b → 1 ≤ pointersTo b ws
+contains-counted b w ws e q =
+    let one : adds b w ≡ 1 = rw (eq-eqb (destination w) b q) in
+    omega (arith, pointersTo-remove b w ws e)
+
+-- Where no pointer goes to the block, each pointer goes elsewhere.
+pub uncounted : (b : ℕ) (ws : List ℕ) → pointersTo b ws ≡ 0 → all (λ w. not (eqb (destination w) b)) ws ≡ true
+unfolding pointersTo all
+uncounted b [] e = refl
+uncounted b (w ∷ ws) e = go (eqb (destination w) b) refl (uncounted b ws)
+  where
+    go : (t : Bool) → eqb (destination w) b ≡ t → (pointersTo b ws ≡ 0 → all (λ w. not (eqb (destination w) b)) ws ≡ true)
+        → all (λ w. not (eqb (destination w) b)) (w ∷ ws) ≡ true
+    go true q f = let z : adds b w ≡ 1 = rw q in absurd (omega arith)
+    go false q f = all-cons (λ w. not (eqb (destination w) b)) w ws (ap not q) (f (omega arith))
+
+-- A block of which no pointer starts: each pointer starts elsewhere.
+pub unpointing : (b : ℕ) (ws : List ℕ) → pointsFrom b ws ≡ false → all (λ w. not (eqb (source w) b)) ws ≡ true
+unfolding pointsFrom any all
+unpointing b [] e = refl
+unpointing b (w ∷ ws) e =
+    all-cons (λ w. not (eqb (source w) b)) w ws (ap not (or-false-left (eqb (source w) b) _ e))
+    (unpointing b ws (or-false-right (eqb (source w) b) _ e))
