@@ -5,11 +5,13 @@ use mathlib.Core.Bool.{Bool, true, false, _&&_, _||_, not}
 use mathlib.Core.List.{List, [], _∷_}
 use lib.Dec.{eqb}
 use Rattle.card.specs.Card.{Public, Card, allocated, hasKey, isRoot, windowOpen, pointsTo, keyHigh, keyLow}
-use Rattle.card.specs.Session.{Request}
+use Rattle.card.specs.Session.{Request, Sent, performed}
 use Rattle.card.specs.declared.Mode.{Mode}
 use Rattle.card.specs.declared.Mode.the-variants.{Reading, Writing}
 use Rattle.card.specs.declared.Credential.{Credential}
 use Rattle.card.specs.declared.Credential.the-variants.{Nothing, Reference, Key as KeyCredential}
+use Rattle.card.specs.declared.Answer.{Answer}
+use Rattle.card.specs.declared.Answer.the-variants.{Refused, Done, Value}
 use Rattle.card.specs.declared.Call.{Call}
 use Rattle.card.specs.declared.Call.the-variants.{Read, Write, Alloc, Create, Delete, Key, Renew, Force, Free, Tick, Audit}
 
@@ -39,6 +41,33 @@ presents Audit high low = false
 unfoldable pub presented : List Request → ℕ → ℕ → Bool
 presented [] high low = false
 presented (q ∷ qs) high low = presents (q .call) high low || presented qs high low
+
+-- ---- last pointers
+
+-- Done with result 1.
+unfoldable pub isOne : Answer → Bool
+isOne (Refused r) = false
+isOne Done = false
+isOne (Value v) = eqb v 1
+
+-- Document 01, "A block's last pointer is taken away by a DELETE to it that is done with result 1."
+unfoldable pub takesLast : Call → Answer → ℕ → Bool
+takesLast (Read o) a b = false
+takesLast (Write o) a b = false
+takesLast (Alloc o) a b = false
+takesLast (Create o) a b = false
+takesLast (Delete o) a b = eqb (o .destination) b && isOne a
+takesLast (Key o) a b = false
+takesLast (Renew o) a b = false
+takesLast (Force o) a b = false
+takesLast Free a b = false
+takesLast (Tick o) a b = false
+takesLast Audit a b = false
+
+-- Some call of the list took the block's last pointer away.
+unfoldable pub lastTaken : Card → List Sent → ℕ → Bool
+lastTaken c [] b = false
+lastTaken c (s ∷ ss) b = takesLast (s .request .call) (performed c s .answer) b || lastTaken (performed c s .after) ss b
 
 -- ---- sealed, within reach, hidden
 
