@@ -1,0 +1,419 @@
+-- A set of blocks that is closed under the four rules of reach, and how it stays closed under each change of a card.
+-- Assumes nothing.
+use Prim.Native.Nat.{ℕ, zero, suc, _+_, _-_, _*_, _≤_, _<_}
+use mathlib.Core.Path.{_≡_, refl, sym, ap, _∙_, subst}
+use mathlib.Core.Logic.{_⊎_, inl, inr, ⊎-elim}
+use mathlib.Core.Bool.{Bool, true, false, _&&_, _||_, not, cond, false≢true}
+use mathlib.Core.List.{List, [], _∷_, _++_}
+use native.Mathlib.Omega.{arith}
+use lib.Dec.{eqb, ltb, leb}
+use lib.ListN.{length, take, drop, getD, set, length-set, length-append, length-take, length-drop}
+use lib.Seq.{getD-set-same, getD-set-other, set-out, take-at, length-take-le}
+use borrow.Author.Tests.{lt-ltb, le-ltb, ltb-true, ltb-false, eqb-true, eq-eqb, eqb-false}
+use Rattle.card.specs.Lists.{all}
+use Rattle.card.specs.ListsLaws.{and-left, and-right, and-true, not-cases, absurd-test, same-or-other, below-or-not}
+use Rattle.card.specs.Pointers.{pointer, source, destination, contains, insert, remove}
+use Rattle.card.specs.PointersLaws.{source-pointer, destination-pointer, contains-insert, contains-remove, contains-all, insert-length, remove-length}
+use Rattle.card.specs.Contents.{overwrite, fill, part, zeros}
+use Rattle.card.specs.ContentsLaws.{overwrite-length, overwrite-before, overwrite-behind, fill-length, block-fits}
+use Rattle.card.specs.Card.{Public, Card, flag, allocatedFlag, keyFlag, allocated, hasKey, isRoot, windowAt, windowEnd, windowOpen, inUse, pointsTo, keyAt, keyHigh, keyLow}
+use Rattle.card.specs.SoundnessLaws.{allocated-below}
+use Rattle.card.specs.Plan.{Change, setWindow, setBlock, setKeys, takeBlock, freeBlock, addPointer, dropPointer, setTime, replaceKeys, changePublic, changeKeys, changeContents, change}
+use Rattle.card.specs.Reach.{keyPresented, sealed}
+use Rattle.card.specs.declared.Mode.{Mode}
+use Rattle.card.specs.declared.Mode.the-variants.{Reading, Writing}
+use Rattle.card.specs.declared.NewKey.{NewKey}
+use Rattle.card.specs.declared.NewKey.the-variants.{Absent}
+
+-- The set satisfies the four rules of "within reach" on the card.
+pub record Closed (K : ℕ → ℕ → Bool) (G : ℕ → Type 0) (c : Card) : Type 0 where
+  pub root : (b : ℕ) → allocated (c .public) b ≡ true → isRoot (c .public) b ≡ true → sealed K c b ≡ false → G b
+  pub key : (mode : Mode) (b : ℕ) → allocated (c .public) b ≡ true → keyPresented K c mode b ≡ true → G b
+  pub window : (mode : Mode) (b : ℕ) → allocated (c .public) b ≡ true → windowOpen (c .public) mode b ≡ true → G b
+  pub pointed : (a b : ℕ) → G a → allocated (c .public) b ≡ true → pointsTo (c .public) a b ≡ true → sealed K c b ≡ false → G b
+
+-- The lengths and bounds that every change keeps, a sound card's among them.
+pub record Regular (c : Card) : Type 0 where
+  pub blocksHigh : c .public .info .blocks ≤ 4096
+  pub flags : length (c .public .flags) ≡ c .public .info .blocks
+  pub keys : length (c .keys) ≡ 4 * c .public .info .blocks
+  pub contents : length (c .contents) ≡ c .public .info .blocks * c .public .info .bytes
+  pub usedHigh : c .public .info .used ≤ length (c .public .pointers)
+
+-- What a host's call must show of a change on a card's public part, for a set of blocks to stay closed and the others to keep their contents.
+abbrev pub Allowed : (ℕ → Type 0) → Public → Change → Type 0
+Allowed G p (setWindow mode b end) = G b ⊎ (end ≤ p .info .time)
+Allowed G p (setBlock b ys) = G b × (b < p .info .blocks) × (length ys ≡ p .info .bytes)
+Allowed G p (setKeys b r w) = G b × (b < p .info .blocks)
+Allowed G p (takeBlock b) = (b < p .info .blocks) × (allocated p b ≡ false) × (all (λ w. not (eqb (source w) b)) (inUse p) ≡ true)
+Allowed G p (freeBlock b) = b < p .info .blocks
+Allowed G p (addPointer a b) = G b × (b < p .info .blocks)
+Allowed G p (dropPointer a b) = contains (pointer a b) (inUse p) ≡ true
+Allowed G p (setTime t) = p .info .time ≤ t
+
+-- A block that is taken joins the set.
+abbrev pub Taken : Change → ℕ → Type 0
+Taken (setWindow mode b end) x = ⊥
+Taken (setBlock b ys) x = ⊥
+Taken (setKeys b r w) x = ⊥
+Taken (takeBlock b) x = x ≡ b
+Taken (freeBlock b) x = ⊥
+Taken (addPointer a b) x = ⊥
+Taken (dropPointer a b) x = ⊥
+Taken (setTime t) x = ⊥
+
+abbrev pub Grown : (ℕ → Type 0) → Change → ℕ → Type 0
+Grown G step x = G x ⊎ Taken step x
+
+-- ---- lengths are kept
+
+-- A block's four words lie within the keys of N blocks.
+keys-fit : (c : Card) (b : ℕ) → Regular c → b < c .public .info .blocks → 4 * b + 4 ≤ length (c .keys)
+keys-fit c b r h = omega (arith, r .keys)
+
+pub regular-change : (G : ℕ → Type 0) (c : Card) (step : Change) → Regular c → Allowed G (c .public) step → Regular (change c step)
+unfolding change changePublic changeKeys changeContents
+regular-change G c (setWindow mode b end) r h = record { blocksHigh = r .blocksHigh; flags = r .flags; keys = r .keys; contents = r .contents; usedHigh = r .usedHigh }
+regular-change G c (setBlock b ys) r h = record {
+  blocksHigh = r .blocksHigh;
+  flags = r .flags;
+  keys = r .keys;
+  contents = fill-length (c .public .info .bytes) (c .contents) b ys (omega (arith, r .contents, block-fits (c .public .info .bytes) (h .1))) (h .2) ∙ r .contents;
+  usedHigh = r .usedHigh;
+}
+regular-change G c (setKeys b read write) r h = record {
+  blocksHigh = r .blocksHigh;
+  flags = length-set (c .public .flags) b _ ∙ r .flags;
+  keys = overwrite-length (c .keys) (4 * b) _ (keys-fit c b r (h .1)) ∙ r .keys;
+  contents = r .contents;
+  usedHigh = r .usedHigh;
+}
+regular-change G c (takeBlock b) r h = record {
+  blocksHigh = r .blocksHigh;
+  flags = length-set (c .public .flags) b _ ∙ r .flags;
+  keys = r .keys;
+  contents = fill-length (c .public .info .bytes) (c .contents) b (zeros (c .public .info .bytes)) (omega (arith, r .contents, block-fits (c .public .info .bytes) (h .0))) (lib.ListN.length-replicate _ 0) ∙ r .contents;
+  usedHigh = r .usedHigh;
+}
+regular-change G c (freeBlock b) r h = record {
+  blocksHigh = r .blocksHigh;
+  flags = length-set (c .public .flags) b _ ∙ r .flags;
+  keys = overwrite-length (c .keys) (4 * b) _ (keys-fit c b r h) ∙ r .keys;
+  contents = r .contents;
+  usedHigh = r .usedHigh;
+}
+regular-change G c (addPointer a b) r h = record {
+  blocksHigh = r .blocksHigh;
+  flags = r .flags;
+  keys = r .keys;
+  contents = r .contents;
+  usedHigh =
+      let long : length (insert (pointer a b) (inUse (c .public))) ≡ c .public .info .used + 1 =
+      insert-length (pointer a b) (inUse (c .public)) ∙ omega (arith, length-take-le (c .public .info .used) (c .public .pointers) (r .usedHigh)) in
+      simp (length-append, long) (omega arith);
+}
+regular-change G c (dropPointer a b) r h = record {
+  blocksHigh = r .blocksHigh;
+  flags = r .flags;
+  keys = r .keys;
+  contents = r .contents;
+  usedHigh =
+      let long : suc (length (remove (pointer a b) (inUse (c .public)))) ≡ c .public .info .used =
+      remove-length (pointer a b) (inUse (c .public)) h ∙ length-take-le (c .public .info .used) (c .public .pointers) (r .usedHigh) in
+      simp length-append (omega arith);
+}
+regular-change G c (setTime t) r h = record { blocksHigh = r .blocksHigh; flags = r .flags; keys = r .keys; contents = r .contents; usedHigh = r .usedHigh }
+
+-- ---- the frame
+
+-- What held of a block before a change, from what holds of it after.
+record Framed (K : ℕ → ℕ → Bool) (G G′ : ℕ → Type 0) (c c′ : Card) (x : ℕ) : Type 0 where
+  wasAllocated : allocated (c .public) x ≡ true
+  wasUnsealed : sealed K c′ x ≡ false → sealed K c x ≡ false
+  wasPresented : (mode : Mode) → keyPresented K c′ mode x ≡ true → keyPresented K c mode x ≡ true
+  wasOpen : (mode : Mode) → windowOpen (c′ .public) mode x ≡ true → windowOpen (c .public) mode x ≡ true
+  wasPointed : (a : ℕ) → G′ a → pointsTo (c′ .public) a x ≡ true → G a × (pointsTo (c .public) a x ≡ true)
+
+-- A larger set is closed after a change if each block outside it is framed.
+frame : (K : ℕ → ℕ → Bool) (G G′ : ℕ → Type 0) (c c′ : Card) → Closed K G c → c′ .public .info .roots ≡ c .public .info .roots
+    → ((x : ℕ) → G x → G′ x)
+    → ((x : ℕ) → allocated (c′ .public) x ≡ true → G′ x ⊎ Framed K G G′ c c′ x)
+    → Closed K G′ c′
+frame K G G′ c c′ closed roots grows f = record {
+  root = λ b h r s. ⊎-elim (λ g. g) (λ w. grows b (closed .root b (w .wasAllocated) (rw roots at r) (w .wasUnsealed s))) (f b h);
+  key = λ mode b h k. ⊎-elim (λ g. g) (λ w. grows b (closed .key mode b (w .wasAllocated) (w .wasPresented mode k))) (f b h);
+  window = λ mode b h o. ⊎-elim (λ g. g) (λ w. grows b (closed .window mode b (w .wasAllocated) (w .wasOpen mode o))) (f b h);
+  pointed = λ a b g h p s.
+      ⊎-elim (λ g. g)
+      (λ w. let was = w .wasPointed a g p in grows b (closed .pointed a b (was .0) (w .wasAllocated) (was .1) (w .wasUnsealed s)))
+      (f b h);
+}
+
+-- ---- what a change leaves of a block
+
+-- A window that is open after an end was set in its table was open before, unless it is the one that was set, to an end past T.
+open-before : (windows : List ℕ) (i j time end : ℕ) → (i ≡ j → end ≤ time) → ltb time (getD (set windows j end) i 0) ≡ true → ltb time (getD windows i 0) ≡ true
+open-before windows i j time end late h =
+    ⊎-elim
+    (λ (e : i ≡ j).
+    ⊎-elim
+    (λ (l : j < length windows).
+    let same : getD (set windows j end) i 0 ≡ end = rw e (getD-set-same windows j end 0 l) in
+    let bound : end ≤ time = late e in
+    let above : time < end = ltb-true time end (rw same at h) in
+    absurd (omega arith))
+    (λ (l : length windows ≤ j). rw (set-out windows j end l) at h)
+    (below-or-not j (length windows)))
+    (λ (n : i ≡ j → ⊥). rw (getD-set-other windows j i end 0 n) at h)
+    (same-or-other i j)
+
+-- Each place of the windows' table belongs to one block.
+window-place : (m n : Mode) (x b : ℕ) → windowAt m x ≡ windowAt n b → x ≡ b
+window-place Reading Reading x b e = omega arith
+window-place Reading Writing x b e = absurd (omega arith)
+window-place Writing Reading x b e = absurd (omega arith)
+window-place Writing Writing x b e = omega arith
+
+-- Keys of one block are presented alike, and sealed alike, on two cards with the same flags and words of it.
+record SameKeys (c c′ : Card) (x : ℕ) : Type 0 where
+  sameFlag : flag (c′ .public) x ≡ flag (c .public) x
+  sameHigh : (mode : Mode) → keyHigh (c′ .keys) mode x ≡ keyHigh (c .keys) mode x
+  sameLow : (mode : Mode) → keyLow (c′ .keys) mode x ≡ keyLow (c .keys) mode x
+
+presented-same : (K : ℕ → ℕ → Bool) (c c′ : Card) (x : ℕ) → SameKeys c c′ x → (mode : Mode) → keyPresented K c′ mode x ≡ keyPresented K c mode x
+unfolding keyPresented hasKey
+presented-same K c c′ x s mode = rw (s .sameFlag, s .sameHigh mode, s .sameLow mode)
+
+sealed-same : (K : ℕ → ℕ → Bool) (c c′ : Card) (x : ℕ) → SameKeys c c′ x → sealed K c′ x ≡ sealed K c x
+unfolding sealed hasKey
+sealed-same K c c′ x s = rw (presented-same K c c′ x s Reading, presented-same K c c′ x s Writing, s .sameFlag)
+
+-- Another block's words are left where a block's keys are replaced.
+word-kept : (keys : List ℕ) (b : ℕ) (words : List ℕ) → length words ≡ 4 → 4 * b + 4 ≤ length keys → (x k : ℕ) → k < 4 → (x ≡ b → ⊥)
+    → getD (overwrite keys (4 * b) words) (4 * x + k) 0 ≡ getD keys (4 * x + k) 0
+word-kept keys b words four fits x k low other =
+    ⊎-elim
+    (λ (h : x < b). overwrite-before keys (4 * b) words (omega arith) (4 * x + k) (omega arith))
+    (λ (h : b ≤ x). overwrite-behind keys (4 * b) words (omega arith) (4 * x + k) (omega arith))
+    (below-or-not x b)
+
+module _ (keys : List ℕ) (b : ℕ) (read write : NewKey) (fits : 4 * b + 4 ≤ length keys) (x : ℕ) (other : x ≡ b → ⊥) where
+  high-kept : (mode : Mode) → keyHigh (replaceKeys keys b read write) mode x ≡ keyHigh keys mode x
+  high-kept Reading = rw (← native.Mathlib.Nat.add-zero (4 * x)) (word-kept keys b _ refl fits x 0 (omega arith) other)
+  high-kept Writing = word-kept keys b _ refl fits x 2 (omega arith) other
+
+  low-kept : (mode : Mode) → keyLow (replaceKeys keys b read write) mode x ≡ keyLow keys mode x
+  low-kept Reading = word-kept keys b _ refl fits x 1 (omega arith) other
+  low-kept Writing = rw (native.Mathlib.Nat.add-assoc (4 * x) 2 1) (word-kept keys b _ refl fits x 3 (omega arith) other)
+
+-- ---- pointers after a change
+
+pub inUse-added : (c : Card) (a b : ℕ) → c .public .info .used ≤ length (c .public .pointers)
+    → inUse (changePublic (addPointer a b) (c .public)) ≡ insert (pointer a b) (inUse (c .public))
+unfolding changePublic
+inUse-added c a b h =
+    take-at (insert (pointer a b) (inUse (c .public))) (drop (c .public .info .used + 1) (c .public .pointers)) (c .public .info .used + 1)
+    (insert-length (pointer a b) (inUse (c .public)) ∙ omega (arith, length-take-le (c .public .info .used) (c .public .pointers) h))
+
+pub inUse-dropped : (c : Card) (a b : ℕ) → c .public .info .used ≤ length (c .public .pointers) → contains (pointer a b) (inUse (c .public)) ≡ true
+    → inUse (changePublic (dropPointer a b) (c .public)) ≡ remove (pointer a b) (inUse (c .public))
+unfolding changePublic
+inUse-dropped c a b h e =
+    let long : suc (length (remove (pointer a b) (inUse (c .public)))) ≡ c .public .info .used =
+    remove-length (pointer a b) (inUse (c .public)) e ∙ length-take-le (c .public .info .used) (c .public .pointers) h in
+    take-at (remove (pointer a b) (inUse (c .public))) (0 ∷ drop (c .public .info .used) (c .public .pointers)) (c .public .info .used - 1) (omega arith)
+
+-- ---- closed after each change
+
+-- The set is no larger where nothing is taken.
+same-set : (G : ℕ → Type 0) (x : ℕ) → G x ⊎ ⊥ → G x
+same-set G x g = ⊎-elim (λ h. h) (λ h. absurd h) g
+
+module _ (K : ℕ → ℕ → Bool) (G : ℕ → Type 0) (c : Card) (r : Regular c) (closed : Closed K G c) where
+  closed-setWindow : (mode : Mode) (b end : ℕ) → Allowed G (c .public) (setWindow mode b end) → Closed K (Grown G (setWindow mode b end)) (change c (setWindow mode b end))
+  unfolding change changePublic changeKeys changeContents allocated sealed keyPresented hasKey windowOpen pointsTo
+  closed-setWindow mode b end h =
+      frame K G (Grown G (setWindow mode b end)) c (change c (setWindow mode b end)) closed refl (λ x g. inl g)
+      (λ x a.
+      ⊎-elim
+      (λ (e : x ≡ b). ⊎-elim (λ (g : G b). inl (inl (subst G (sym e) g))) (λ (l : end ≤ c .public .info .time). inr (framed x a (λ _. l))) h)
+      (λ (n : x ≡ b → ⊥). inr (framed x a (λ e. absurd (n e))))
+      (same-or-other x b))
+    where
+      framed : (x : ℕ) → allocated (c .public) x ≡ true → (x ≡ b → end ≤ c .public .info .time)
+          → Framed K G (Grown G (setWindow mode b end)) c (change c (setWindow mode b end)) x
+      framed x a late = record {
+        wasAllocated = a;
+        wasUnsealed = λ s. s;
+        wasPresented = λ m k. k;
+        wasOpen = λ m o.
+            open-before (c .public .windows) (windowAt m x) (windowAt mode b) (c .public .info .time) end (λ e. late (window-place m mode x b e)) o;
+        wasPointed = λ y g p. (same-set G y g, p);
+      }
+
+  closed-setBlock : (b : ℕ) (ys : List ℕ) → Closed K (Grown G (setBlock b ys)) (change c (setBlock b ys))
+  unfolding change changePublic changeKeys changeContents allocated sealed keyPresented hasKey windowOpen pointsTo
+  closed-setBlock b ys =
+      frame K G (Grown G (setBlock b ys)) c (change c (setBlock b ys)) closed refl (λ x g. inl g)
+      (λ x a.
+      inr
+      (record {
+        wasAllocated = a;
+        wasUnsealed = λ s. s;
+        wasPresented = λ m k. k;
+        wasOpen = λ m o. o;
+        wasPointed = λ y g p. (same-set G y g, p);
+      }))
+
+  closed-setKeys : (b : ℕ) (read write : NewKey) → Allowed G (c .public) (setKeys b read write) → Closed K (Grown G (setKeys b read write)) (change c (setKeys b read write))
+  unfolding change changePublic changeKeys changeContents allocated windowOpen pointsTo
+  closed-setKeys b read write h =
+      frame K G (Grown G (setKeys b read write)) c (change c (setKeys b read write)) closed refl (λ x g. inl g)
+      (λ x a. ⊎-elim (λ (e : x ≡ b). inl (inl (subst G (sym e) (h .0)))) (λ (n : x ≡ b → ⊥). inr (framed x a n)) (same-or-other x b))
+    where
+      same : (x : ℕ) → (x ≡ b → ⊥) → SameKeys c (change c (setKeys b read write)) x
+      same x n = record {
+        sameFlag = getD-set-other (c .public .flags) b x _ 0 n;
+        sameHigh = high-kept (c .keys) b read write (keys-fit c b r (h .1)) x n;
+        sameLow = low-kept (c .keys) b read write (keys-fit c b r (h .1)) x n;
+      }
+
+      framed : (x : ℕ) → allocated (change c (setKeys b read write) .public) x ≡ true → (x ≡ b → ⊥)
+          → Framed K G (Grown G (setKeys b read write)) c (change c (setKeys b read write)) x
+      framed x a n = record {
+        wasAllocated = rw (getD-set-other (c .public .flags) b x _ 0 n) at a;
+        wasUnsealed = λ s. sym (sealed-same K c _ x (same x n)) ∙ s;
+        wasPresented = λ m k. sym (presented-same K c _ x (same x n) m) ∙ k;
+        wasOpen = λ m o. o;
+        wasPointed = λ y g p. (same-set G y g, p);
+      }
+
+  closed-takeBlock : (b : ℕ) → Allowed G (c .public) (takeBlock b) → Closed K (Grown G (takeBlock b)) (change c (takeBlock b))
+  unfolding change changePublic changeKeys changeContents allocated windowOpen pointsTo
+  closed-takeBlock b h =
+      frame K G (Grown G (takeBlock b)) c (change c (takeBlock b)) closed refl (λ x g. inl g)
+      (λ x a. ⊎-elim (λ (e : x ≡ b). inl (inr e)) (λ (n : x ≡ b → ⊥). inr (framed x a n)) (same-or-other x b))
+    where
+      same : (x : ℕ) → (x ≡ b → ⊥) → SameKeys c (change c (takeBlock b)) x
+      same x n = record { sameFlag = getD-set-other (c .public .flags) b x _ 0 n; sameHigh = λ m. refl; sameLow = λ m. refl }
+
+      -- No pointer leaves the block that is taken.
+      unpointed : (x y : ℕ) → x < 65536 → y ≡ b → contains (pointer y x) (inUse (c .public)) ≡ true → ⊥
+      unpointed x y l e p =
+          let elsewhere = contains-all (λ w. not (eqb (source w) b)) (pointer y x) (inUse (c .public)) p (h .2) in
+          absurd-test (eq-eqb (source (pointer y x)) b (source-pointer y x l ∙ e)) (borrow.Author.Tests.not-true _ elsewhere)
+
+      framed : (x : ℕ) → allocated (change c (takeBlock b) .public) x ≡ true → (x ≡ b → ⊥)
+          → Framed K G (Grown G (takeBlock b)) c (change c (takeBlock b)) x
+      framed x a n = record {
+        wasAllocated = rw (getD-set-other (c .public .flags) b x 1 0 n) at a;
+        wasUnsealed = λ s. sym (sealed-same K c _ x (same x n)) ∙ s;
+        wasPresented = λ m k. sym (presented-same K c _ x (same x n) m) ∙ k;
+        wasOpen = λ m o. o;
+        wasPointed = λ y g p.
+            ⊎-elim (λ (k : G y). (k, p))
+            (λ (e : y ≡ b).
+            absurd (unpointed x y (omega (arith, r .blocksHigh, allocated-below (change c (takeBlock b) .public) x a)) e p))
+            g;
+      }
+
+  closed-freeBlock : (b : ℕ) → Allowed G (c .public) (freeBlock b) → Closed K (Grown G (freeBlock b)) (change c (freeBlock b))
+  unfolding change changePublic changeKeys changeContents allocated windowOpen pointsTo
+  closed-freeBlock b h =
+      frame K G (Grown G (freeBlock b)) c (change c (freeBlock b)) closed refl (λ x g. inl g)
+      (λ x a. ⊎-elim (λ (e : x ≡ b). absurd (freed x e a)) (λ (n : x ≡ b → ⊥). inr (framed x a n)) (same-or-other x b))
+    where
+      freed : (x : ℕ) → x ≡ b → allocated (change c (freeBlock b) .public) x ≡ true → ⊥
+      freed x e a =
+          let zero-flag : getD (set (c .public .flags) b 0) x 0 ≡ 0 = rw e (getD-set-same (c .public .flags) b 0 0 (omega (arith, r .flags))) in
+          false≢true (rw zero-flag at (and-right (ltb x (c .public .info .blocks)) _ a))
+
+      same : (x : ℕ) → (x ≡ b → ⊥) → SameKeys c (change c (freeBlock b)) x
+      same x n = record {
+        sameFlag = getD-set-other (c .public .flags) b x 0 0 n;
+        sameHigh = high-kept (c .keys) b Absent Absent (keys-fit c b r h) x n;
+        sameLow = low-kept (c .keys) b Absent Absent (keys-fit c b r h) x n;
+      }
+
+      -- Both windows of the block were set to 0.
+      opened : (m : Mode) (x : ℕ) → windowOpen (change c (freeBlock b) .public) m x ≡ true → windowOpen (c .public) m x ≡ true
+      opened m x o =
+          open-before (c .public .windows) (windowAt m x) (windowAt Reading b) (c .public .info .time) 0 (λ _. omega arith)
+          (open-before (set (c .public .windows) (windowAt Reading b) 0) (windowAt m x) (windowAt Writing b) (c .public .info .time) 0 (λ _. omega arith) o)
+
+      framed : (x : ℕ) → allocated (change c (freeBlock b) .public) x ≡ true → (x ≡ b → ⊥)
+          → Framed K G (Grown G (freeBlock b)) c (change c (freeBlock b)) x
+      framed x a n = record {
+        wasAllocated = rw (getD-set-other (c .public .flags) b x 0 0 n) at a;
+        wasUnsealed = λ s. sym (sealed-same K c _ x (same x n)) ∙ s;
+        wasPresented = λ m k. sym (presented-same K c _ x (same x n) m) ∙ k;
+        wasOpen = λ m o. opened m x o;
+        wasPointed = λ y g p. (same-set G y g, p);
+      }
+
+  closed-addPointer : (a b : ℕ) → Allowed G (c .public) (addPointer a b) → Closed K (Grown G (addPointer a b)) (change c (addPointer a b))
+  unfolding change changePublic changeKeys changeContents allocated sealed keyPresented hasKey windowOpen pointsTo
+  closed-addPointer a b h =
+      frame K G (Grown G (addPointer a b)) c (change c (addPointer a b)) closed refl (λ x g. inl g)
+      (λ x al. ⊎-elim (λ (e : x ≡ b). inl (inl (subst G (sym e) (h .0)))) (λ (n : x ≡ b → ⊥). inr (framed x al n)) (same-or-other x b))
+    where
+      other : (x y : ℕ) → x < 65536 → (x ≡ b → ⊥) → pointer a b ≡ pointer y x → ⊥
+      other x y l n e = n (sym (destination-pointer y x l) ∙ ap destination (sym e) ∙ destination-pointer a b (omega (arith, r .blocksHigh, h .1)))
+
+      framed : (x : ℕ) → allocated (c .public) x ≡ true → (x ≡ b → ⊥) → Framed K G (Grown G (addPointer a b)) c (change c (addPointer a b)) x
+      framed x al n = record {
+        wasAllocated = al;
+        wasUnsealed = λ s. s;
+        wasPresented = λ m k. k;
+        wasOpen = λ m o. o;
+        wasPointed = λ y g p. (
+          same-set G y g,
+          ⊎-elim
+              (λ (e : pointer a b ≡ pointer y x). absurd (other x y (omega (arith, r .blocksHigh, allocated-below (c .public) x al)) n e))
+              (λ (k : contains (pointer y x) (inUse (c .public)) ≡ true). k)
+              (contains-insert (pointer y x) (pointer a b) (inUse (c .public)) (rw (inUse-added c a b (r .usedHigh)) at p)),
+        );
+      }
+
+  closed-dropPointer : (a b : ℕ) → Allowed G (c .public) (dropPointer a b) → Closed K (Grown G (dropPointer a b)) (change c (dropPointer a b))
+  unfolding change changePublic changeKeys changeContents allocated sealed keyPresented hasKey windowOpen pointsTo
+  closed-dropPointer a b h =
+      frame K G (Grown G (dropPointer a b)) c (change c (dropPointer a b)) closed refl (λ x g. inl g)
+      (λ x al.
+      inr
+      (record {
+        wasAllocated = al;
+        wasUnsealed = λ s. s;
+        wasPresented = λ m k. k;
+        wasOpen = λ m o. o;
+        wasPointed = λ y g p.
+            (same-set G y g, contains-remove (pointer y x) (pointer a b) (inUse (c .public)) (rw (inUse-dropped c a b (r .usedHigh) h) at p));
+      }))
+
+  closed-setTime : (t : ℕ) → Allowed G (c .public) (setTime t) → Closed K (Grown G (setTime t)) (change c (setTime t))
+  unfolding change changePublic changeKeys changeContents allocated sealed keyPresented hasKey windowOpen pointsTo
+  closed-setTime t h =
+      frame K G (Grown G (setTime t)) c (change c (setTime t)) closed refl (λ x g. inl g)
+      (λ x al.
+      inr
+      (record {
+        wasAllocated = al;
+        wasUnsealed = λ s. s;
+        wasPresented = λ m k. k;
+        wasOpen = λ m o. still (windowEnd (c .public) m x) o;
+        wasPointed = λ y g p. (same-set G y g, p);
+      }))
+    where
+      still : (end : ℕ) → ltb t end ≡ true → ltb (c .public .info .time) end ≡ true
+      still end o = lt-ltb (c .public .info .time) end (omega (arith, ltb-true t end o))
+
+  -- The set, with a block that is taken, stays closed under an allowed change.
+  pub closed-change : (step : Change) → Allowed G (c .public) step → Closed K (Grown G step) (change c step)
+  closed-change (setWindow mode b end) h = closed-setWindow mode b end h
+  closed-change (setBlock b ys) h = closed-setBlock b ys
+  closed-change (setKeys b read write) h = closed-setKeys b read write h
+  closed-change (takeBlock b) h = closed-takeBlock b h
+  closed-change (freeBlock b) h = closed-freeBlock b h
+  closed-change (addPointer a b) h = closed-addPointer a b h
+  closed-change (dropPointer a b) h = closed-dropPointer a b h
+  closed-change (setTime t) h = closed-setTime t h

@@ -1,0 +1,259 @@
+-- Changes on two cards that agree on a set of blocks, and changes in order: what stays closed, alike and unwritten.
+-- Assumes nothing.
+use Prim.Native.Nat.{ℕ, zero, suc, _+_, _*_, _≤_, _<_}
+use mathlib.Core.Path.{_≡_, refl, sym, ap, _∙_, subst}
+use mathlib.Core.Logic.{_⊎_, inl, inr, ⊎-elim}
+use mathlib.Core.Bool.{Bool, true, false, _&&_, not}
+use mathlib.Core.List.{List, [], _∷_, _++_}
+use native.Mathlib.Omega.{arith}
+use lib.Dec.{eqb, ltb}
+use lib.ListN.{length, getD, set, length-replicate}
+use lib.Seq.{getD-set-same, getD-set-other}
+use Rattle.card.specs.ListsLaws.{and-left, and-right, absurd-test, same-or-other}
+use Rattle.card.specs.Contents.{fill, part, zeros}
+use Rattle.card.specs.ContentsLaws.{part-fill-same, part-fill-other, block-fits}
+use Rattle.card.specs.Card.{Public, Card, flag, allocated, block}
+use Rattle.card.specs.Plan.{Change, setWindow, setBlock, setKeys, takeBlock, freeBlock, addPointer, dropPointer, setTime, keyBit, changePublic, changeKeys, changeContents, change, changes}
+use Rattle.card.specs.declared.Mode.the-variants.{Reading, Writing}
+use Rattle.card.specs.declared.NewKey.{NewKey}
+use Rattle.card.specs.declared.NewKey.the-variants.{Absent, Present}
+use Rattle.secrecy.specs.Closed.{Closed, Regular, Allowed, Taken, Grown, regular-change, closed-change}
+
+-- ---- the contents of a block after one change
+
+-- The change writes the block's contents.
+abbrev pub Written : Change → ℕ → Type 0
+Written (setWindow mode b end) x = ⊥
+Written (setBlock b ys) x = x ≡ b
+Written (setKeys b r w) x = ⊥
+Written (takeBlock b) x = x ≡ b
+Written (freeBlock b) x = ⊥
+Written (addPointer a b) x = ⊥
+Written (dropPointer a b) x = ⊥
+Written (setTime t) x = ⊥
+
+-- A block lies within the contents.
+fits : (c : Card) (b : ℕ) → Regular c → b < c .public .info .blocks → b * c .public .info .bytes + c .public .info .bytes ≤ length (c .contents)
+fits c b r h = omega (arith, r .contents, block-fits (c .public .info .bytes) h)
+
+block-kept : (G : ℕ → Type 0) (c : Card) (step : Change) → Regular c → Allowed G (c .public) step → (x : ℕ) → (Written step x → ⊥)
+    → block (change c step) x ≡ block c x
+unfolding change changePublic changeContents
+block-kept G c (setWindow mode b end) r h x n = refl
+block-kept G c (setBlock b ys) r h x n = part-fill-other (c .public .info .bytes) (c .contents) b ys (fits c b r (h .1)) (h .2) x n
+block-kept G c (setKeys b read write) r h x n = refl
+block-kept G c (takeBlock b) r h x n =
+    part-fill-other (c .public .info .bytes) (c .contents) b (zeros (c .public .info .bytes)) (fits c b r (h .0)) (length-replicate _ 0) x n
+block-kept G c (freeBlock b) r h x n = refl
+block-kept G c (addPointer a b) r h x n = refl
+block-kept G c (dropPointer a b) r h x n = refl
+block-kept G c (setTime t) r h x n = refl
+
+-- ---- two cards
+
+-- Equal but for keys, which are linked, and for the contents of blocks outside the set.
+pub record Alike (L : Public → List ℕ → List ℕ → Type 0) (G : ℕ → Type 0) (c d : Card) : Type 0 where
+  pub samePublic : c .public ≡ d .public
+  pub linked : L (c .public) (c .keys) (d .keys)
+  pub sameBlocks : (b : ℕ) → G b → block c b ≡ block d b
+
+-- A link between the keys of two cards is kept by every change that both undergo.
+abbrev pub Kept : (Public → List ℕ → List ℕ → Type 0) → Type 0
+Kept L = (p : Public) (ks ls : List ℕ) (step : Change) → L p ks ls → L (changePublic step p) (changeKeys step ks) (changeKeys step ls)
+
+module _ (L : Public → List ℕ → List ℕ → Type 0) (kept : Kept L) (G : ℕ → Type 0) (c d : Card) (rc : Regular c) (rd : Regular d) (alike : Alike L G c d) where
+  -- A block that both cards have written alike.
+  same-written : (step : Change) → Allowed G (c .public) step → (x : ℕ) → Written step x → block (change c step) x ≡ block (change d step) x
+  unfolding change changePublic changeContents
+  same-written (setWindow mode b end) h x w = absurd w
+  same-written (setBlock b ys) h x w =
+      let h′ = subst (λ (p : Public). Allowed G p (setBlock b ys)) (alike .samePublic) h in
+      rw w
+      (part-fill-same (c .public .info .bytes) (c .contents) b ys (fits c b rc (h .1)) (h .2)
+      ∙ sym (part-fill-same (d .public .info .bytes) (d .contents) b ys (fits d b rd (h′ .1)) (h′ .2)))
+  same-written (setKeys b read write) h x w = absurd w
+  same-written (takeBlock b) h x w =
+      let h′ = subst (λ (p : Public). Allowed G p (takeBlock b)) (alike .samePublic) h in
+      rw w
+      (part-fill-same (c .public .info .bytes) (c .contents) b (zeros (c .public .info .bytes)) (fits c b rc (h .0)) (length-replicate _ 0)
+      ∙ ap (λ (p : Public). zeros (p .info .bytes)) (alike .samePublic)
+      ∙ sym (part-fill-same (d .public .info .bytes) (d .contents) b (zeros (d .public .info .bytes)) (fits d b rd (h′ .0)) (length-replicate _ 0)))
+  same-written (freeBlock b) h x w = absurd w
+  same-written (addPointer a b) h x w = absurd w
+  same-written (dropPointer a b) h x w = absurd w
+  same-written (setTime t) h x w = absurd w
+
+  -- A block of the grown set was in the set, or is written.
+  joins : (step : Change) (x : ℕ) → Grown G step x → G x ⊎ Written step x
+  joins (setWindow mode b end) x g = g
+  joins (setBlock b ys) x g = ⊎-elim (λ k. inl k) (λ k. absurd k) g
+  joins (setKeys b read write) x g = g
+  joins (takeBlock b) x g = g
+  joins (freeBlock b) x g = g
+  joins (addPointer a b) x g = g
+  joins (dropPointer a b) x g = g
+  joins (setTime t) x g = g
+
+  written-or-not : (step : Change) (x : ℕ) → Written step x ⊎ (Written step x → ⊥)
+  written-or-not (setWindow mode b end) x = inr (λ w. w)
+  written-or-not (setBlock b ys) x = same-or-other x b
+  written-or-not (setKeys b read write) x = inr (λ w. w)
+  written-or-not (takeBlock b) x = same-or-other x b
+  written-or-not (freeBlock b) x = inr (λ w. w)
+  written-or-not (addPointer a b) x = inr (λ w. w)
+  written-or-not (dropPointer a b) x = inr (λ w. w)
+  written-or-not (setTime t) x = inr (λ w. w)
+
+  pub alike-change : (step : Change) → Allowed G (c .public) step → Alike L (Grown G step) (change c step) (change d step)
+  unfolding change
+  alike-change step h = record {
+    samePublic = ap (changePublic step) (alike .samePublic);
+    linked = kept (c .public) (c .keys) (d .keys) step (alike .linked);
+    sameBlocks = λ x g.
+        ⊎-elim (λ w. same-written step h x w)
+        (λ n.
+        block-kept G c step rc h x n
+        ∙ alike .sameBlocks x (⊎-elim (λ k. k) (λ w. absurd (n w)) (joins step x g))
+        ∙ sym (block-kept G d step rd (subst (λ (p : Public). Allowed G p step) (alike .samePublic) h) x n))
+        (written-or-not step x);
+  }
+
+-- ---- changes in order
+
+-- Each change is allowed on what the changes before it left.
+abbrev pub AllowedAll : (ℕ → Type 0) → Public → List Change → Type 0
+AllowedAll G p [] = Unit {0}
+AllowedAll G p (step ∷ steps) = Allowed G p step × AllowedAll (Grown G step) (changePublic step p) steps
+
+-- The set with each block that the changes take.
+abbrev pub GrownAll : (ℕ → Type 0) → List Change → ℕ → Type 0
+GrownAll G [] = G
+GrownAll G (step ∷ steps) = GrownAll (Grown G step) steps
+
+pub grows : (G : ℕ → Type 0) (steps : List Change) (x : ℕ) → G x → GrownAll G steps x
+grows G [] x g = g
+grows G (step ∷ steps) x g = grows (Grown G step) steps x (inl g)
+
+pub regular-changes : (G : ℕ → Type 0) (c : Card) (steps : List Change) → Regular c → AllowedAll G (c .public) steps → Regular (changes c steps)
+unfolding changes change
+regular-changes G c [] r h = r
+regular-changes G c (step ∷ steps) r h = regular-changes (Grown G step) (change c step) steps (regular-change G c step r (h .0)) (h .1)
+
+pub closed-changes : (K : ℕ → ℕ → Bool) (G : ℕ → Type 0) (c : Card) (steps : List Change) → Regular c → AllowedAll G (c .public) steps
+    → Closed K G c → Closed K (GrownAll G steps) (changes c steps)
+unfolding changes change
+closed-changes K G c [] r h closed = closed
+closed-changes K G c (step ∷ steps) r h closed =
+    closed-changes K (Grown G step) (change c step) steps (regular-change G c step r (h .0)) (h .1) (closed-change K G c r closed step (h .0))
+
+pub alike-changes : (L : Public → List ℕ → List ℕ → Type 0) → Kept L → (G : ℕ → Type 0) (c d : Card) (steps : List Change) → Regular c → Regular d
+    → AllowedAll G (c .public) steps → Alike L G c d → Alike L (GrownAll G steps) (changes c steps) (changes d steps)
+unfolding changes change
+alike-changes L kept G c d [] rc rd h alike = alike
+alike-changes L kept G c d (step ∷ steps) rc rd h alike =
+    let h′ = subst (λ (p : Public). Allowed G p step) (alike .samePublic) (h .0) in
+    alike-changes L kept (Grown G step) (change c step) (change d step) steps (regular-change G c step rc (h .0)) (regular-change G d step rd h′) (h .1)
+    (alike-change L kept G c d rc rd alike step (h .0))
+
+-- ---- a block that is allocated after changes was taken, or was allocated before
+
+allocated-before : (c : Card) (step : Change) (G : ℕ → Type 0) → Regular c → Allowed G (c .public) step → (x : ℕ)
+    → allocated (changePublic step (c .public)) x ≡ true → Grown G step x ⊎ (allocated (c .public) x ≡ true)
+unfolding changePublic allocated
+allocated-before c (setWindow mode b end) G r h x a = inr a
+allocated-before c (setBlock b ys) G r h x a = inr a
+allocated-before c (setKeys b read write) G r h x a =
+    ⊎-elim (λ (e : x ≡ b). inl (inl (subst G (sym e) (h .0)))) (λ (n : x ≡ b → ⊥). inr (rw (getD-set-other (c .public .flags) b x _ 0 n) at a)) (same-or-other x b)
+allocated-before c (takeBlock b) G r h x a =
+    ⊎-elim (λ (e : x ≡ b). inl (inr e)) (λ (n : x ≡ b → ⊥). inr (rw (getD-set-other (c .public .flags) b x 1 0 n) at a)) (same-or-other x b)
+allocated-before c (freeBlock b) G r h x a =
+    ⊎-elim
+    (λ (e : x ≡ b).
+    let zero-flag : getD (set (c .public .flags) b 0) x 0 ≡ 0 = rw e (getD-set-same (c .public .flags) b 0 0 (omega (arith, r .flags))) in
+    absurd (mathlib.Core.Bool.false≢true (rw zero-flag at (and-right (ltb x (c .public .info .blocks)) _ a))))
+    (λ (n : x ≡ b → ⊥). inr (rw (getD-set-other (c .public .flags) b x 0 0 n) at a))
+    (same-or-other x b)
+allocated-before c (addPointer y b) G r h x a = inr a
+allocated-before c (dropPointer y b) G r h x a = inr a
+allocated-before c (setTime t) G r h x a = inr a
+
+pub covered : (G : ℕ → Type 0) (c : Card) (steps : List Change) → Regular c → AllowedAll G (c .public) steps → (x : ℕ)
+    → allocated (changes c steps .public) x ≡ true → GrownAll G steps x ⊎ (allocated (c .public) x ≡ true)
+unfolding changes change
+covered G c [] r h x a = inr a
+covered G c (step ∷ steps) r h x a =
+    ⊎-elim (λ g. inl g)
+    (λ b. ⊎-elim (λ g. inl (grows (Grown G step) steps x g)) (λ k. inr k) (allocated-before c step G r (h .0) x b))
+    (covered (Grown G step) (change c step) steps (regular-change G c step r (h .0)) (h .1) x a)
+
+-- ---- a block outside the set
+
+abbrev pub Frees : Change → ℕ → Type 0
+Frees (setWindow mode b end) x = ⊥
+Frees (setBlock b ys) x = ⊥
+Frees (setKeys b r w) x = ⊥
+Frees (takeBlock b) x = ⊥
+Frees (freeBlock b) x = x ≡ b
+Frees (addPointer a b) x = ⊥
+Frees (dropPointer a b) x = ⊥
+Frees (setTime t) x = ⊥
+
+abbrev pub FreesNone : List Change → ℕ → Type 0
+FreesNone [] x = Unit {0}
+FreesNone (step ∷ steps) x = (Frees step x → ⊥) × FreesNone steps x
+
+-- An allocated block outside the set, as one change leaves it: allocated, outside the grown set, and unwritten.
+pub record Apart (G : ℕ → Type 0) (c c′ : Card) (x : ℕ) : Type 0 where
+  pub stillAllocated : allocated (c′ .public) x ≡ true
+  pub stillOutside : G x → ⊥
+  pub sameBlock : block c′ x ≡ block c x
+
+module _ (G : ℕ → Type 0) (c : Card) (r : Regular c) (x : ℕ) (a : allocated (c .public) x ≡ true) (out : G x → ⊥) where
+  -- A block that is written or taken is in the set or unallocated.
+  unwritten : (step : Change) → Allowed G (c .public) step → Written step x → ⊥
+  unwritten (setWindow mode b end) h w = w
+  unwritten (setBlock b ys) h w = out (subst G (sym w) (h .0))
+  unwritten (setKeys b read write) h w = w
+  unwritten (takeBlock b) h w = absurd-test a (subst (λ (k : ℕ). allocated (c .public) k ≡ false) (sym w) (h .1))
+  unwritten (freeBlock b) h w = w
+  unwritten (addPointer y b) h w = w
+  unwritten (dropPointer y b) h w = w
+  unwritten (setTime t) h w = w
+
+  still-outside : (step : Change) → Allowed G (c .public) step → Grown G step x → ⊥
+  still-outside (setWindow mode b end) h g = ⊎-elim out (λ k. k) g
+  still-outside (setBlock b ys) h g = ⊎-elim out (λ k. k) g
+  still-outside (setKeys b read write) h g = ⊎-elim out (λ k. k) g
+  still-outside (takeBlock b) h g = ⊎-elim out (λ k. unwritten (takeBlock b) h k) g
+  still-outside (freeBlock b) h g = ⊎-elim out (λ k. k) g
+  still-outside (addPointer y b) h g = ⊎-elim out (λ k. k) g
+  still-outside (dropPointer y b) h g = ⊎-elim out (λ k. k) g
+  still-outside (setTime t) h g = ⊎-elim out (λ k. k) g
+
+  still-allocated : (step : Change) → Allowed G (c .public) step → (Frees step x → ⊥) → allocated (changePublic step (c .public)) x ≡ true
+  unfolding changePublic allocated
+  still-allocated (setWindow mode b end) h n = a
+  still-allocated (setBlock b ys) h n = a
+  still-allocated (setKeys b read write) h n = rw (getD-set-other (c .public .flags) b x _ 0 (λ e. out (subst G (sym e) (h .0)))) a
+  still-allocated (takeBlock b) h n = rw (getD-set-other (c .public .flags) b x 1 0 (λ e. unwritten (takeBlock b) h e)) a
+  still-allocated (freeBlock b) h n = rw (getD-set-other (c .public .flags) b x 0 0 n) a
+  still-allocated (addPointer y b) h n = a
+  still-allocated (dropPointer y b) h n = a
+  still-allocated (setTime t) h n = a
+
+  apart-change : (step : Change) → Allowed G (c .public) step → (Frees step x → ⊥) → Apart (Grown G step) c (change c step) x
+  unfolding change
+  apart-change step h n = record {
+    stillAllocated = still-allocated step h n;
+    stillOutside = still-outside step h;
+    sameBlock = block-kept G c step r h x (unwritten step h);
+  }
+
+pub apart-changes : (G : ℕ → Type 0) (c : Card) (steps : List Change) → Regular c → (x : ℕ) → allocated (c .public) x ≡ true → (G x → ⊥)
+    → AllowedAll G (c .public) steps → FreesNone steps x → Apart (GrownAll G steps) c (changes c steps) x
+unfolding changes change
+apart-changes G c [] r x a out h n = record { stillAllocated = a; stillOutside = out; sameBlock = refl }
+apart-changes G c (step ∷ steps) r x a out h n =
+    let one = apart-change G c r x a out step (h .0) (n .0) in
+    let rest = apart-changes (Grown G step) (change c step) steps (regular-change G c step r (h .0)) x (one .stillAllocated) (one .stillOutside) (h .1) (n .1) in
+    record { stillAllocated = rest .stillAllocated; stillOutside = rest .stillOutside; sameBlock = rest .sameBlock ∙ one .sameBlock }
