@@ -65,6 +65,33 @@ Taken (setTime t) x = ⊥
 abbrev pub Grown : (ℕ → Type 0) → Change → ℕ → Type 0
 Grown G step x = G x ⊎ Taken step x
 
+-- ---- pointers after a change
+
+module _ (p : Public) (a b : ℕ) (h : p .info .used ≤ length (p .pointers)) where
+  added-length : length (insert (pointer a b) (inUse p)) ≡ p .info .used + 1
+  added-length = insert-length (pointer a b) (inUse p) ∙ omega (arith, length-take-le (p .info .used) (p .pointers) h)
+
+  pub inUse-added : inUse (changePublic (addPointer a b) p) ≡ insert (pointer a b) (inUse p)
+  unfolding changePublic
+  inUse-added = take-at (insert (pointer a b) (inUse p)) (drop (p .info .used + 1) (p .pointers)) (p .info .used + 1) added-length
+
+  pub used-added : changePublic (addPointer a b) p .info .used ≤ length (changePublic (addPointer a b) p .pointers)
+  unfolding changePublic
+  used-added = simp (length-append, added-length) (omega arith)
+
+  dropped-length : contains (pointer a b) (inUse p) ≡ true → suc (length (remove (pointer a b) (inUse p))) ≡ p .info .used
+  dropped-length e = remove-length (pointer a b) (inUse p) e ∙ length-take-le (p .info .used) (p .pointers) h
+
+  pub inUse-dropped : contains (pointer a b) (inUse p) ≡ true → inUse (changePublic (dropPointer a b) p) ≡ remove (pointer a b) (inUse p)
+  unfolding changePublic
+  inUse-dropped e =
+      take-at (remove (pointer a b) (inUse p)) (0 ∷ drop (p .info .used) (p .pointers)) (p .info .used - 1) (omega (arith, dropped-length e))
+
+  pub used-dropped : contains (pointer a b) (inUse p) ≡ true
+      → changePublic (dropPointer a b) p .info .used ≤ length (changePublic (dropPointer a b) p .pointers)
+  unfolding changePublic
+  used-dropped e = simp length-append (omega (arith, dropped-length e))
+
 -- ---- lengths are kept
 
 -- A block's four words lie within the keys of N blocks.
@@ -107,20 +134,14 @@ regular-change G c (addPointer a b) r h = record {
   flags = r .flags;
   keys = r .keys;
   contents = r .contents;
-  usedHigh =
-      let long : length (insert (pointer a b) (inUse (c .public))) ≡ c .public .info .used + 1 =
-      insert-length (pointer a b) (inUse (c .public)) ∙ omega (arith, length-take-le (c .public .info .used) (c .public .pointers) (r .usedHigh)) in
-      simp (length-append, long) (omega arith);
+  usedHigh = used-added (c .public) a b (r .usedHigh);
 }
 regular-change G c (dropPointer a b) r h = record {
   blocksHigh = r .blocksHigh;
   flags = r .flags;
   keys = r .keys;
   contents = r .contents;
-  usedHigh =
-      let long : suc (length (remove (pointer a b) (inUse (c .public)))) ≡ c .public .info .used =
-      remove-length (pointer a b) (inUse (c .public)) h ∙ length-take-le (c .public .info .used) (c .public .pointers) (r .usedHigh) in
-      simp length-append (omega arith);
+  usedHigh = used-dropped (c .public) a b (r .usedHigh) h;
 }
 regular-change G c (setTime t) r h = record { blocksHigh = r .blocksHigh; flags = r .flags; keys = r .keys; contents = r .contents; usedHigh = r .usedHigh }
 
@@ -205,23 +226,6 @@ module _ (keys : List ℕ) (b : ℕ) (read write : NewKey) (fits : 4 * b + 4 ≤
   low-kept : (mode : Mode) → keyLow (replaceKeys keys b read write) mode x ≡ keyLow keys mode x
   low-kept Reading = word-kept keys b _ refl fits x 1 (omega arith) other
   low-kept Writing = rw (native.Mathlib.Nat.add-assoc (4 * x) 2 1) (word-kept keys b _ refl fits x 3 (omega arith) other)
-
--- ---- pointers after a change
-
-pub inUse-added : (c : Card) (a b : ℕ) → c .public .info .used ≤ length (c .public .pointers)
-    → inUse (changePublic (addPointer a b) (c .public)) ≡ insert (pointer a b) (inUse (c .public))
-unfolding changePublic
-inUse-added c a b h =
-    take-at (insert (pointer a b) (inUse (c .public))) (drop (c .public .info .used + 1) (c .public .pointers)) (c .public .info .used + 1)
-    (insert-length (pointer a b) (inUse (c .public)) ∙ omega (arith, length-take-le (c .public .info .used) (c .public .pointers) h))
-
-pub inUse-dropped : (c : Card) (a b : ℕ) → c .public .info .used ≤ length (c .public .pointers) → contains (pointer a b) (inUse (c .public)) ≡ true
-    → inUse (changePublic (dropPointer a b) (c .public)) ≡ remove (pointer a b) (inUse (c .public))
-unfolding changePublic
-inUse-dropped c a b h e =
-    let long : suc (length (remove (pointer a b) (inUse (c .public)))) ≡ c .public .info .used =
-    remove-length (pointer a b) (inUse (c .public)) e ∙ length-take-le (c .public .info .used) (c .public .pointers) h in
-    take-at (remove (pointer a b) (inUse (c .public))) (0 ∷ drop (c .public .info .used) (c .public .pointers)) (c .public .info .used - 1) (omega arith)
 
 -- ---- closed after each change
 
@@ -371,7 +375,7 @@ module _ (K : ℕ → ℕ → Bool) (G : ℕ → Type 0) (c : Card) (r : Regular
           ⊎-elim
               (λ (e : pointer a b ≡ pointer y x). absurd (other x y (omega (arith, r .blocksHigh, allocated-below (c .public) x al)) n e))
               (λ (k : contains (pointer y x) (inUse (c .public)) ≡ true). k)
-              (contains-insert (pointer y x) (pointer a b) (inUse (c .public)) (rw (inUse-added c a b (r .usedHigh)) at p)),
+              (contains-insert (pointer y x) (pointer a b) (inUse (c .public)) (rw (inUse-added (c .public) a b (r .usedHigh)) at p)),
         );
       }
 
@@ -387,7 +391,7 @@ module _ (K : ℕ → ℕ → Bool) (G : ℕ → Type 0) (c : Card) (r : Regular
         wasPresented = λ m k. k;
         wasOpen = λ m o. o;
         wasPointed = λ y g p.
-            (same-set G y g, contains-remove (pointer y x) (pointer a b) (inUse (c .public)) (rw (inUse-dropped c a b (r .usedHigh) h) at p));
+            (same-set G y g, contains-remove (pointer y x) (pointer a b) (inUse (c .public)) (rw (inUse-dropped (c .public) a b (r .usedHigh) h) at p));
       }))
 
   closed-setTime : (t : ℕ) → Allowed G (c .public) (setTime t) → Closed K (Grown G (setTime t)) (change c (setTime t))

@@ -1,2 +1,4 @@
 pub mod Closed
 pub mod Steps
+pub mod Opened
+pub mod Plans

@@ -1,0 +1,196 @@
+-- Each call of a host, where it is done: it shows and writes blocks of the closed set alone.
+-- Assumes nothing.
+use Prim.Native.Nat.{ℕ, zero, suc, _+_, _*_, _≤_, _<_}
+use mathlib.Core.Path.{_≡_, refl, sym, ap, _∙_, subst}
+use mathlib.Core.Logic.{_⊎_, inl, inr, ⊎-elim}
+use mathlib.Core.Bool.{Bool, true, false, _&&_, _||_, not, cond}
+use mathlib.Core.List.{List, [], _∷_}
+use native.Mathlib.Omega.{arith}
+use lib.Dec.{eqb, ltb, leb}
+use lib.ListN.{length, getD, set}
+use lib.Seq.{getD-set-other}
+use borrow.Author.Tests.{eqb-true, eqb-false, ltb-false, not-false, not-true, ne-eqb}
+use Rattle.card.specs.Lists.{all}
+use Rattle.card.specs.ListsLaws.{or-left, or-right, or-false-left, and-left, and-right, and-true, all-head, all-tail, all-cons, all-map, absurd-test, same-or-other}
+use Rattle.card.specs.Pointers.{pointer, source, contains}
+use Rattle.card.specs.PointersLaws.{all-insert, source-pointer}
+use Rattle.card.specs.Card.{Public, Card, flag, allocatedFlag, allocated, inUse, pointsTo, hasKey, freeBlocks, count}
+use Rattle.card.specs.Soundness.{pointerRight}
+use Rattle.card.specs.SoundnessLaws.{SoundCard, pointerRight-true, allocated-below}
+use Rattle.card.specs.Access.{opens, admits}
+use Rattle.card.specs.Plan.{Change, setWindow, setBlock, setKeys, takeBlock, freeBlock, addPointer, dropPointer, setTime, changePublic, change, Shown, nothing, blockPart, numbers, Plan, Buffers}
+use Rattle.card.specs.PlanLaws.{NoneHolds}
+use Rattle.card.specs.Calls.{windowAfter, opensWindow, modeOf, wanted, picks, takeAll, readPlan, writePlan, allocPlan, createPlan, deletePlan, keyPlan, renewPlan, forcePlan, freePlan, tickPlan, auditPlan}
+use Rattle.card.specs.Session.{plan}
+use Rattle.card.specs.Reach.{shows, presents}
+use Rattle.card.specs.declared.Port.the-variants.{Host}
+use Rattle.card.specs.declared.Mode.{Mode}
+use Rattle.card.specs.declared.Mode.the-variants.{Reading, Writing}
+use Rattle.card.specs.declared.Credential.the-variants.{Key as KeyCredential}
+use Rattle.card.specs.declared.ReadOperands.{ReadOperands}
+use Rattle.card.specs.declared.WriteOperands.{WriteOperands}
+use Rattle.card.specs.declared.AllocOperands.{AllocOperands}
+use Rattle.card.specs.declared.CreateOperands.{CreateOperands}
+use Rattle.card.specs.declared.DeleteOperands.{DeleteOperands}
+use Rattle.card.specs.declared.KeyOperands.{KeyOperands}
+use Rattle.card.specs.declared.RenewOperands.{RenewOperands}
+use Rattle.card.specs.declared.ForceOperands.{ForceOperands}
+use Rattle.card.specs.declared.TickOperands.{TickOperands}
+use Rattle.card.specs.declared.Call.{Call}
+use Rattle.card.specs.declared.Call.the-variants.{Read, Write, Alloc, Create, Delete, Key, Renew, Force, Free, Tick, Audit}
+use Rattle.secrecy.specs.Closed.{Closed, Regular, Allowed, Grown, inUse-added, used-added}
+use Rattle.secrecy.specs.Steps.{AllowedAll}
+use Rattle.secrecy.specs.Opened.{AllPresented, opened-within}
+
+-- A sound card has the lengths that every change keeps.
+pub sound-regular : {c : Card} → SoundCard c → Regular c
+sound-regular s = record {
+  blocksHigh = s .shaped .inRanges .blocksHigh;
+  flags = s .shaped .hasLengths .flags;
+  keys = s .shaped .hasLengths .keys;
+  contents = s .shaped .hasLengths .contents;
+  usedHigh = s .shaped .usedHigh;
+}
+
+-- What is shown is a block of the set, or no block.
+abbrev pub ShownIn : (ℕ → Type 0) → Shown → Type 0
+ShownIn G nothing = Unit {0}
+ShownIn G (blockPart b) = G b
+ShownIn G (numbers ns) = Unit {0}
+
+-- What a done call shows and changes is allowed.
+pub record Safe (G : ℕ → Type 0) (c : Card) (done : Plan) : Type 0 where
+  pub shownIn : ShownIn G (done .shown)
+  pub allowed : AllowedAll G (c .public) (done .steps)
+
+-- Every key that the call presents is presented in the session.
+abbrev pub CallPresents : (ℕ → ℕ → Bool) → Call → Type 0
+CallPresents K call = (high low : ℕ) → presents call high low ≡ true → K high low ≡ true
+
+-- A host's READ or WRITE opens a window of the block that it opened.
+window-allowed : (G : ℕ → Type 0) (p q : Public) (mode : Mode) (b interval : ℕ) → G b → AllowedAll G q (opensWindow Host p mode b interval)
+unfolding opensWindow
+window-allowed G p q mode b interval g = go (eqb interval 0)
+  where
+    go : (t : Bool) → AllowedAll G q (cond t [] (setWindow mode b (windowAfter p mode b interval) ∷ []))
+    go true = tt
+    go false = (inl g, tt)
+
+-- ---- ALLOC takes blocks that no pointer leaves
+
+abbrev Without : ℕ → List ℕ → Type 0
+Without x xs = all (λ y. not (eqb y x)) xs ≡ true
+
+Unpointing : Public → ℕ → Type 0
+Unpointing p b = all (λ w. not (eqb (source w) b)) (inUse p) ≡ true
+
+-- Blocks that can be taken one after the other, and pointed to by the reference.
+data Ready (p : Public) (reference : ℕ) : List ℕ → Type 0 where
+  none : Ready p reference []
+  more : {b : ℕ} {bs : List ℕ} → b < p .info .blocks → allocated p b ≡ false → Unpointing p b → (reference ≡ b → ⊥) → Without b bs → Ready p reference bs
+      → Ready p reference (b ∷ bs)
+
+-- The public part after one block is taken and pointed to.
+abbrev takenOne : Public → ℕ → ℕ → Public
+takenOne p reference b = changePublic (addPointer reference b) (changePublic (takeBlock b) p)
+
+-- The other blocks are still ready.
+ready-next : (p : Public) (reference b : ℕ) → p .info .used ≤ length (p .pointers) → b < 65536 → {bs : List ℕ} → Without b bs → Ready p reference bs
+    → Ready (takenOne p reference b) reference bs
+unfolding changePublic allocated Unpointing
+ready-next p reference b used low w none = none
+ready-next p reference b used low w (more {b = x} {bs = bs} l a u n d r) =
+    let other : x ≡ b → ⊥ = eqb-false x b (not-true _ (all-head (λ y. not (eqb y b)) x bs w)) in
+    let here = source-pointer reference b low in
+    more l
+    (rw (getD-set-other (p .flags) b x 1 0 other) a)
+    (rw (inUse-added (changePublic (takeBlock b) p) reference b used)
+    (all-insert (λ w. not (eqb (source w) x)) (pointer reference b) (inUse p) (ap not (ne-eqb (source (pointer reference b)) x (λ e. n (sym here ∙ e)))) u))
+    n d
+    (ready-next p reference b used low (all-tail (λ y. not (eqb y b)) x bs w) r)
+
+takeAll-allowed : (G : ℕ → Type 0) (p : Public) (reference : ℕ) {bs : List ℕ} → p .info .blocks ≤ 4096 → p .info .used ≤ length (p .pointers)
+    → Ready p reference bs → AllowedAll G p (takeAll reference bs)
+unfolding takeAll changePublic Unpointing
+takeAll-allowed G p reference high used none = tt
+takeAll-allowed G p reference high used (more {b = b} {bs = bs} l a u n d r) =
+    ((l, a, u), (((inr refl, l)), takeAll-allowed _ (takenOne p reference b) reference high (used-added p reference b used) (ready-next p reference b used (omega arith) d r)))
+
+module _ (K : ℕ → ℕ → Bool) (G : ℕ → Type 0) (c : Card) (s : SoundCard c) (closed : Closed K G c) where
+  -- A block that is allocated and opened to a presented credential is in the set.
+  within : (mode : Mode) (b : ℕ) (credential : _) → not (allocated (c .public) b) ≡ false → not (admits Host c mode b credential) ≡ false
+      → AllPresented K credential → G b
+  unfolding admits
+  within mode b credential a o k = opened-within K G c closed b (not-false _ a) mode credential (not-false _ o) k
+
+  below : (b : ℕ) → not (allocated (c .public) b) ≡ false → b < c .public .info .blocks
+  below b a = allocated-below (c .public) b (not-false _ a)
+
+  safe-read : (o : ReadOperands) (lent : Buffers) → CallPresents K (Read o) → NoneHolds (plan Host c (Read o) lent .checks) → Safe G c (plan Host c (Read o) lent)
+  unfolding plan readPlan presents
+  safe-read o lent k n =
+      let g = within Reading (o .block) (o .credential) (n .1 .0) (n .1 .1 .0) k in
+      record { shownIn = g; allowed = window-allowed G (c .public) (c .public) Reading (o .block) (o .interval) g }
+
+  safe-write : (o : WriteOperands) (lent : Buffers) → CallPresents K (Write o) → NoneHolds (plan Host c (Write o) lent .checks) → Safe G c (plan Host c (Write o) lent)
+  unfolding plan writePlan presents changePublic
+  safe-write o lent k n =
+      let g = within Writing (o .block) (o .credential) (n .1 .0) (n .1 .1 .0) k in
+      record {
+        shownIn = tt;
+        allowed =
+            ((g, below (o .block) (n .1 .0), eqb-true _ _ (not-false _ (or-false-left _ _ (n .0)))), window-allowed (Grown G (setBlock (o .block) (lent .input))) (c .public) (c .public) Writing (o .block) (o .interval) (inl g));
+      }
+
+  safe-create : (o : CreateOperands) (lent : Buffers) → CallPresents K (Create o) → NoneHolds (plan Host c (Create o) lent .checks) → Safe G c (plan Host c (Create o) lent)
+  unfolding plan createPlan presents
+  safe-create o lent k n = record {
+    shownIn = tt;
+    allowed =
+        ((within Writing (o .destination) (o .second) (n .1 .0) (n .1 .1 .1 .1 .0) (λ high low h. k high low (or-right (shows (o .credential) high low) _ h)), below (o .destination) (n .1 .0)), tt);
+  }
+
+  safe-delete : (o : DeleteOperands) (lent : Buffers) → NoneHolds (plan Host c (Delete o) lent .checks) → Safe G c (plan Host c (Delete o) lent)
+  unfolding plan deletePlan pointsTo changePublic
+  safe-delete o lent n = record { shownIn = tt; allowed = (not-false _ (n .1 .1 .1 .1 .0), go (eqb (count (c .public) (o .destination)) 1)) }
+    where
+      go : (t : Bool)
+          → AllowedAll (Grown G (dropPointer (o .source) (o .destination))) (changePublic (dropPointer (o .source) (o .destination)) (c .public)) (cond t (freeBlock (o .destination) ∷ []) [])
+      go true = (below (o .destination) (n .1 .0), tt)
+      go false = tt
+
+  closing-allowed : (H : ℕ → Type 0) (p : Public) (b : ℕ) → AllowedAll H p (setWindow Reading b 0 ∷ (setWindow Writing b 0 ∷ []))
+  closing-allowed H p b = (inr (omega arith), (inr (omega arith), tt))
+
+  safe-key : (o : KeyOperands) (lent : Buffers) → CallPresents K (Key o) → NoneHolds (plan Host c (Key o) lent .checks) → Safe G c (plan Host c (Key o) lent)
+  unfolding plan keyPlan presents
+  safe-key o lent k n = record {
+    shownIn = tt;
+    allowed =
+        ((within Writing (o .block) (o .credential) (n .0) (n .1 .1 .0) k, below (o .block) (n .0)), closing-allowed (Grown G (setKeys (o .block) (o .read) (o .write))) _ (o .block));
+  }
+
+  safe-renew : (o : RenewOperands) (lent : Buffers) → CallPresents K (Renew o) → NoneHolds (plan Host c (Renew o) lent .checks) → Safe G c (plan Host c (Renew o) lent)
+  unfolding plan renewPlan presents
+  safe-renew o lent k n =
+      let opened = not-false _ (Rattle.card.specs.ListsLaws.or-false-right (not (hasKey (c .public) (modeOf (o .mode)) (o .block))) _ (n .1 .1 .0)) in
+      record {
+        shownIn = tt;
+        allowed = (inl (opened-within K G c closed (o .block) (not-false _ (n .1 .0)) (modeOf (o .mode)) (KeyCredential (o .high) (o .low)) opened k), tt);
+      }
+
+  safe-force : (o : ForceOperands) (lent : Buffers) → Safe G c (plan Host c (Force o) lent)
+  unfolding plan forcePlan
+  safe-force o lent = record { shownIn = tt; allowed = closing-allowed G (c .public) (o .block) }
+
+  safe-free : (lent : Buffers) → Safe G c (plan Host c Free lent)
+  unfolding plan freePlan
+  safe-free lent = record { shownIn = tt; allowed = tt }
+
+  safe-tick : (o : TickOperands) (lent : Buffers) → Safe G c (plan Host c (Tick o) lent)
+  unfolding plan tickPlan
+  safe-tick o lent = record { shownIn = tt; allowed = (omega arith, tt) }
+
+  safe-audit : (lent : Buffers) → Safe G c (plan Host c Audit lent)
+  unfolding plan auditPlan
+  safe-audit lent = record { shownIn = tt; allowed = tt }
