@@ -158,3 +158,10 @@ pub true-allBelow : (p : ℕ → Bool) (n : ℕ) → ((i : ℕ) → i < n → p 
 unfolding allBelow
 true-allBelow p zero f = refl
 true-allBelow p (suc n) f = and-true (p n) _ (f n (omega arith)) (true-allBelow p n (λ i h. f i (omega arith)))
+
+-- What two tests give of each element together.
+pub all-both : (p q r : ℕ → Bool) → ((x : ℕ) → p x ≡ true → q x ≡ true → r x ≡ true) → (xs : List ℕ) → all p xs ≡ true → all q xs ≡ true → all r xs ≡ true
+unfolding all
+all-both p q r f [] h g = refl
+all-both p q r f (x ∷ xs) h g =
+    and-true (r x) _ (f x (and-left (p x) _ h) (and-left (q x) _ g)) (all-both p q r f xs (and-right (p x) _ h) (and-right (q x) _ g))

@@ -9,7 +9,7 @@ use native.Mathlib.Omega.{arith}
 use lib.Dec.{eqb, ltb, leb}
 use lib.ListN.{length, getD, set}
 use lib.Seq.{getD-set-other}
-use borrow.Author.Tests.{eqb-true, eqb-false, ltb-false, not-false, not-true, ne-eqb}
+use borrow.Author.Tests.{eqb-true, eqb-false, ltb-true, not-false, not-true, ne-eqb}
 use Rattle.card.specs.Lists.{all}
 use Rattle.card.specs.ListsLaws.{or-left, or-right, or-false-left, and-left, and-right, and-true, all-head, all-tail, all-cons, all-map, absurd-test, same-or-other}
 use Rattle.card.specs.Pointers.{pointer, source, contains}
@@ -38,6 +38,7 @@ use Rattle.card.specs.declared.ForceOperands.{ForceOperands}
 use Rattle.card.specs.declared.TickOperands.{TickOperands}
 use Rattle.card.specs.declared.Call.{Call}
 use Rattle.card.specs.declared.Call.the-variants.{Read, Write, Alloc, Create, Delete, Key, Renew, Force, Free, Tick, Audit}
+use Rattle.guarantees.specs.Picks.{Without, Distinct, none, more, Takeable, picks-takeable}
 use Rattle.secrecy.specs.Closed.{Closed, Regular, Allowed, Grown, inUse-added, used-added}
 use Rattle.secrecy.specs.Steps.{AllowedAll}
 use Rattle.secrecy.specs.Opened.{AllPresented, opened-within}
@@ -78,43 +79,76 @@ window-allowed G p q mode b interval g = go (eqb interval 0)
 
 -- ---- ALLOC takes blocks that no pointer leaves
 
-abbrev Without : ℕ → List ℕ → Type 0
-Without x xs = all (λ y. not (eqb y x)) xs ≡ true
-
-Unpointing : Public → ℕ → Type 0
+-- No pointer in use starts at the block.
+abbrev Unpointing : Public → ℕ → Type 0
 Unpointing p b = all (λ w. not (eqb (source w) b)) (inUse p) ≡ true
 
--- Blocks that can be taken one after the other, and pointed to by the reference.
-data Ready (p : Public) (reference : ℕ) : List ℕ → Type 0 where
-  none : Ready p reference []
-  more : {b : ℕ} {bs : List ℕ} → b < p .info .blocks → allocated p b ≡ false → Unpointing p b → (reference ≡ b → ⊥) → Without b bs → Ready p reference bs
-      → Ready p reference (b ∷ bs)
+-- A block that can be taken, and pointed to by the reference.
+record Free (p : Public) (reference b : ℕ) : Type 0 where
+  below : b < p .info .blocks
+  unallocated : allocated p b ≡ false
+  unpointing : Unpointing p b
+  other : reference ≡ b → ⊥
+
+-- Blocks that can be taken one after the other.
+abbrev Ready : Public → ℕ → List ℕ → Type 0
+Ready p reference [] = Unit {0}
+Ready p reference (b ∷ bs) = Free p reference b × Without b bs × Ready p reference bs
 
 -- The public part after one block is taken and pointed to.
 abbrev takenOne : Public → ℕ → ℕ → Public
 takenOne p reference b = changePublic (addPointer reference b) (changePublic (takeBlock b) p)
 
--- The other blocks are still ready.
-ready-next : (p : Public) (reference b : ℕ) → p .info .used ≤ length (p .pointers) → b < 65536 → {bs : List ℕ} → Without b bs → Ready p reference bs
-    → Ready (takenOne p reference b) reference bs
-unfolding changePublic allocated Unpointing
-ready-next p reference b used low w none = none
-ready-next p reference b used low w (more {b = x} {bs = bs} l a u n d r) =
-    let other : x ≡ b → ⊥ = eqb-false x b (not-true _ (all-head (λ y. not (eqb y b)) x bs w)) in
-    let here = source-pointer reference b low in
-    more l
-    (rw (getD-set-other (p .flags) b x 1 0 other) a)
-    (rw (inUse-added (changePublic (takeBlock b) p) reference b used)
-    (all-insert (λ w. not (eqb (source w) x)) (pointer reference b) (inUse p) (ap not (ne-eqb (source (pointer reference b)) x (λ e. n (sym here ∙ e)))) u))
-    n d
-    (ready-next p reference b used low (all-tail (λ y. not (eqb y b)) x bs w) r)
+module _ (p : Public) (reference b : ℕ) (used : p .info .used ≤ length (p .pointers)) (low : b < 65536) where
+  free-next : (x : ℕ) → (x ≡ b → ⊥) → Free p reference x → Free (takenOne p reference b) reference x
+  unfolding changePublic allocated
+  free-next x apart f = record {
+    below = f .below;
+    unallocated = rw (getD-set-other (p .flags) b x 1 0 apart) (f .unallocated);
+    unpointing =
+        rw (inUse-added (changePublic (takeBlock b) p) reference b used)
+        (all-insert (λ w. not (eqb (source w) x)) (pointer reference b) (inUse p)
+        (ap not (ne-eqb (source (pointer reference b)) x (λ e. f .other (sym (source-pointer reference b low) ∙ e))))
+        (f .unpointing));
+    other = f .other;
+  }
 
-takeAll-allowed : (G : ℕ → Type 0) (p : Public) (reference : ℕ) {bs : List ℕ} → p .info .blocks ≤ 4096 → p .info .used ≤ length (p .pointers)
+  -- The other blocks are still ready.
+  ready-next : (bs : List ℕ) → Without b bs → Ready p reference bs → Ready (takenOne p reference b) reference bs
+  ready-next [] w r = tt
+  ready-next (x ∷ xs) w r =
+      (free-next x (eqb-false x b (not-true _ (all-head (λ y. not (eqb y b)) x xs w))) (r .0), r .1, ready-next xs (all-tail (λ y. not (eqb y b)) x xs w) (r .2))
+
+takeAll-allowed : (G : ℕ → Type 0) (p : Public) (reference : ℕ) (bs : List ℕ) → p .info .blocks ≤ 4096 → p .info .used ≤ length (p .pointers)
     → Ready p reference bs → AllowedAll G p (takeAll reference bs)
-unfolding takeAll changePublic Unpointing
-takeAll-allowed G p reference high used none = tt
-takeAll-allowed G p reference high used (more {b = b} {bs = bs} l a u n d r) =
-    ((l, a, u), (((inr refl, l)), takeAll-allowed _ (takenOne p reference b) reference high (used-added p reference b used) (ready-next p reference b used (omega arith) d r)))
+unfolding takeAll changePublic
+takeAll-allowed G p reference [] high used r = tt
+takeAll-allowed G p reference (b ∷ bs) high used r =
+    let f = r .0 in
+    ((f .below, f .unallocated, f .unpointing), ((inr refl, f .below), takeAll-allowed _ (takenOne p reference b) reference bs high (used-added (changePublic (takeBlock b) p) reference b used)
+    (ready-next p reference b used (omega (arith, f .below)) bs (r .1) (r .2))))
+
+-- On a sound card no pointer starts at an unallocated block.
+sound-unpointing : {c : Card} → SoundCard c → (b : ℕ) → allocated (c .public) b ≡ false → Unpointing (c .public) b
+sound-unpointing {c} s b a =
+    all-map (λ w. pointerRight (c .public) w) (λ w. not (eqb (source w) b))
+    (λ w h.
+    ap not
+    (ne-eqb (source w) b
+    (λ e. absurd-test (pointerRight-true (c .public) w h .sourceAllocated) (subst (λ (n : ℕ). allocated (c .public) n ≡ false) (sym e) a))))
+    (inUse (c .public)) (s .isSound .pointersRight)
+
+ready : {c : Card} → SoundCard c → (reference : ℕ) → allocated (c .public) reference ≡ true → (bs : List ℕ)
+    → all (λ b. ltb b (c .public .info .blocks)) bs ≡ true → all (λ b. not (allocated (c .public) b)) bs ≡ true → Distinct bs → Ready (c .public) reference bs
+ready s reference a [] l u none = tt
+ready {c} s reference a (b ∷ bs) l u (more w d) =
+    let free : allocated (c .public) b ≡ false = not-true _ (all-head (λ x. not (allocated (c .public) x)) b bs u) in
+    (record {
+      below = ltb-true _ _ (all-head (λ x. ltb x (c .public .info .blocks)) b bs l);
+      unallocated = free;
+      unpointing = sound-unpointing s b free;
+      other = λ e. absurd-test a (subst (λ (n : ℕ). allocated (c .public) n ≡ false) (sym e) free);
+    }, w, ready s reference a bs (all-tail (λ x. ltb x (c .public .info .blocks)) b bs l) (all-tail (λ x. not (allocated (c .public) x)) b bs u) d)
 
 module _ (K : ℕ → ℕ → Bool) (G : ℕ → Type 0) (c : Card) (s : SoundCard c) (closed : Closed K G c) where
   -- A block that is allocated and opened to a presented credential is in the set.
@@ -140,6 +174,18 @@ module _ (K : ℕ → ℕ → Bool) (G : ℕ → Type 0) (c : Card) (s : SoundCa
         shownIn = tt;
         allowed =
             ((g, below (o .block) (n .1 .0), eqb-true _ _ (not-false _ (or-false-left _ _ (n .0)))), window-allowed (Grown G (setBlock (o .block) (lent .input))) (c .public) (c .public) Writing (o .block) (o .interval) (inl g));
+      }
+
+  safe-alloc : (o : AllocOperands) (lent : Buffers) → NoneHolds (plan Host c (Alloc o) lent .checks) → Safe G c (plan Host c (Alloc o) lent)
+  unfolding plan allocPlan
+  safe-alloc o lent n =
+      let t = picks-takeable (c .public) (wanted (o .hint)) (o .count) in
+      record {
+        shownIn = tt;
+        allowed =
+            takeAll-allowed G (c .public) (o .reference) (picks (wanted (o .hint)) (o .count) (freeBlocks (c .public)))
+            (s .shaped .inRanges .blocksHigh) (s .shaped .usedHigh)
+            (ready s (o .reference) (not-false _ (n .1 .0)) (picks (wanted (o .hint)) (o .count) (freeBlocks (c .public))) (t .below) (t .free) (t .distinct));
       }
 
   safe-create : (o : CreateOperands) (lent : Buffers) → CallPresents K (Create o) → NoneHolds (plan Host c (Create o) lent .checks) → Safe G c (plan Host c (Create o) lent)
@@ -194,3 +240,17 @@ module _ (K : ℕ → ℕ → Bool) (G : ℕ → Type 0) (c : Card) (s : SoundCa
   safe-audit : (lent : Buffers) → Safe G c (plan Host c Audit lent)
   unfolding plan auditPlan
   safe-audit lent = record { shownIn = tt; allowed = tt }
+
+  -- A host's call that no check refuses is safe.
+  pub safe : (call : Call) (lent : Buffers) → CallPresents K call → NoneHolds (plan Host c call lent .checks) → Safe G c (plan Host c call lent)
+  safe (Read o) lent k n = safe-read o lent k n
+  safe (Write o) lent k n = safe-write o lent k n
+  safe (Alloc o) lent k n = safe-alloc o lent n
+  safe (Create o) lent k n = safe-create o lent k n
+  safe (Delete o) lent k n = safe-delete o lent n
+  safe (Key o) lent k n = safe-key o lent k n
+  safe (Renew o) lent k n = safe-renew o lent k n
+  safe (Force o) lent k n = safe-force o lent
+  safe Free lent k n = safe-free lent
+  safe (Tick o) lent k n = safe-tick o lent
+  safe Audit lent k n = safe-audit lent

@@ -1,0 +1,106 @@
+-- Laws of a list with one element set, and of where a block's windows and keys stand in their tables.
+-- Assumes nothing.
+use Prim.Native.Nat.{ℕ, zero, suc, _+_, _*_, _≤_, _<_}
+use mathlib.Core.Path.{_≡_, refl, sym, ap, _∙_, subst}
+use mathlib.Core.Logic.{_⊎_, inl, inr, ⊎-elim}
+use mathlib.Core.Bool.{Bool, true, false, true≢false}
+use mathlib.Core.List.{List, [], _∷_}
+use native.Mathlib.Omega.{arith}
+use lib.ListN.{length, getD, set}
+use lib.Seq.{getD-set-same, getD-set-other, set-out}
+use Rattle.card.specs.Lists.{all}
+use Rattle.card.specs.ListsLaws.{below-or-not, same-or-other}
+use Rattle.card.specs.Contents.{overwrite}
+use Rattle.card.specs.ContentsLaws.{overwrite-before, overwrite-within, overwrite-behind}
+use Rattle.card.specs.Card.{allocatedFlag, windowAt, keyAt, keyHigh, keyLow, keyFlag}
+use Rattle.card.specs.Plan.{keyBit, highWord, lowWord, replaceKeys}
+use Rattle.card.specs.declared.Mode.{Mode}
+use Rattle.card.specs.declared.Mode.the-variants.{Reading, Writing}
+use Rattle.card.specs.declared.NewKey.{NewKey}
+use Rattle.card.specs.declared.NewKey.the-variants.{Absent, Present}
+
+-- ---- one element set
+
+-- What holds of the new element and held of the old one holds of each element.
+pub getD-set-either : (P : ℕ → Type 0) (xs : List ℕ) (i v j : ℕ) → P v → P (getD xs j 0) → P (getD (set xs i v) j 0)
+getD-set-either P [] i v j new old = old
+getD-set-either P (x ∷ xs) zero v zero new old = new
+getD-set-either P (x ∷ xs) zero v (suc j) new old = old
+getD-set-either P (x ∷ xs) (suc i) v zero new old = old
+getD-set-either P (x ∷ xs) (suc i) v (suc j) new old = getD-set-either P xs i v j new old
+
+-- ---- windows
+
+-- Windows of two blocks stand at different places.
+pub windowAt-apart : (m n : Mode) {a b : ℕ} → (a ≡ b → ⊥) → windowAt m a ≡ windowAt n b → ⊥
+windowAt-apart Reading Reading other e = other (omega arith)
+windowAt-apart Reading Writing other e = omega arith
+windowAt-apart Writing Reading other e = omega arith
+windowAt-apart Writing Writing other e = other (omega arith)
+
+-- ---- keys
+
+-- The new key for the mode.
+abbrev pub chosen : Mode → NewKey → NewKey → NewKey
+chosen Reading read write = read
+chosen Writing read write = write
+
+-- The flags of a block with these keys.
+abbrev pub keyedFlag : NewKey → NewKey → ℕ
+keyedFlag read write = 1 + keyBit Reading read + keyBit Writing write
+
+pub keyedFlag-low : (read write : NewKey) → keyedFlag read write < 8
+keyedFlag-low Absent Absent = omega arith
+keyedFlag-low Absent (Present h l) = omega arith
+keyedFlag-low (Present h l) Absent = omega arith
+keyedFlag-low (Present h l) (Present i m) = omega arith
+
+pub keyedFlag-allocated : (read write : NewKey) → allocatedFlag (keyedFlag read write) ≡ true
+keyedFlag-allocated Absent Absent = refl
+keyedFlag-allocated Absent (Present h l) = refl
+keyedFlag-allocated (Present h l) Absent = refl
+keyedFlag-allocated (Present h l) (Present i m) = refl
+
+-- A key whose flag is not set is absent.
+pub keyedFlag-absent : (mode : Mode) (read write : NewKey) → keyFlag mode (keyedFlag read write) ≡ false → chosen mode read write ≡ Absent
+keyedFlag-absent Reading Absent write e = refl
+keyedFlag-absent Reading (Present h l) Absent e = absurd (true≢false e)
+keyedFlag-absent Reading (Present h l) (Present i m) e = absurd (true≢false e)
+keyedFlag-absent Writing read Absent e = refl
+keyedFlag-absent Writing Absent (Present h l) e = absurd (true≢false e)
+keyedFlag-absent Writing (Present h l) (Present i m) e = absurd (true≢false e)
+
+module _ (keys : List ℕ) (b : ℕ) (read write : NewKey) (fits : 4 * b + 4 ≤ length keys) where
+  abbrev words : List ℕ
+  words = highWord read ∷ lowWord read ∷ highWord write ∷ lowWord write ∷ []
+
+  -- Word k of the block's four.
+  word : (i k : ℕ) → 4 * b + k ≡ i → k < 4 → getD (replaceKeys keys b read write) i 0 ≡ getD words k 0
+  word i k e h = subst (λ (n : ℕ). getD (replaceKeys keys b read write) n 0 ≡ getD words k 0) e (overwrite-within keys (4 * b) words fits k h)
+
+  pub replaced-high : (mode : Mode) → keyHigh (replaceKeys keys b read write) mode b ≡ highWord (chosen mode read write)
+  replaced-high Reading = word (4 * b) 0 (omega arith) (omega arith)
+  replaced-high Writing = word (4 * b + 2) 2 refl (omega arith)
+
+  pub replaced-low : (mode : Mode) → keyLow (replaceKeys keys b read write) mode b ≡ lowWord (chosen mode read write)
+  replaced-low Reading = word (4 * b + 1) 1 refl (omega arith)
+  replaced-low Writing = word (4 * b + 2 + 1) 3 (omega arith) (omega arith)
+
+  -- A word of no key of the block.
+  outside : (i : ℕ) → (i < 4 * b) ⊎ (4 * b + 4 ≤ i) → getD (replaceKeys keys b read write) i 0 ≡ getD keys i 0
+  outside i (inl h) = overwrite-before keys (4 * b) words fits i h
+  outside i (inr h) = overwrite-behind keys (4 * b) words fits i h
+
+  apart : (a k : ℕ) → (a ≡ b → ⊥) → k < 4 → (4 * a + k < 4 * b) ⊎ (4 * b + 4 ≤ 4 * a + k)
+  apart a k other h = ⊎-elim (λ (l : a < b). inl (omega arith)) (λ (l : b ≤ a). inr (omega arith)) (below-or-not a b)
+
+  other-word : (a i k : ℕ) → 4 * a + k ≡ i → (a ≡ b → ⊥) → k < 4 → getD (replaceKeys keys b read write) i 0 ≡ getD keys i 0
+  other-word a i k e other h = subst (λ (n : ℕ). getD (replaceKeys keys b read write) n 0 ≡ getD keys n 0) e (outside (4 * a + k) (apart a k other h))
+
+  pub kept-high : (mode : Mode) (a : ℕ) → (a ≡ b → ⊥) → keyHigh (replaceKeys keys b read write) mode a ≡ keyHigh keys mode a
+  kept-high Reading a other = other-word a (4 * a) 0 (omega arith) other (omega arith)
+  kept-high Writing a other = other-word a (4 * a + 2) 2 refl other (omega arith)
+
+  pub kept-low : (mode : Mode) (a : ℕ) → (a ≡ b → ⊥) → keyLow (replaceKeys keys b read write) mode a ≡ keyLow keys mode a
+  kept-low Reading a other = other-word a (4 * a + 1) 1 refl other (omega arith)
+  kept-low Writing a other = other-word a (4 * a + 2 + 1) 3 (omega arith) other (omega arith)
