@@ -2,3 +2,4 @@ pub mod Closed
 pub mod Steps
 pub mod Opened
 pub mod Plans
+pub mod Sessions

@@ -84,7 +84,7 @@ abbrev Unpointing : Public → ℕ → Type 0
 Unpointing p b = all (λ w. not (eqb (source w) b)) (inUse p) ≡ true
 
 -- A block that can be taken, and pointed to by the reference.
-record Free (p : Public) (reference b : ℕ) : Type 0 where
+record Pickable (p : Public) (reference b : ℕ) : Type 0 where
   below : b < p .info .blocks
   unallocated : allocated p b ≡ false
   unpointing : Unpointing p b
@@ -93,14 +93,14 @@ record Free (p : Public) (reference b : ℕ) : Type 0 where
 -- Blocks that can be taken one after the other.
 abbrev Ready : Public → ℕ → List ℕ → Type 0
 Ready p reference [] = Unit {0}
-Ready p reference (b ∷ bs) = Free p reference b × Without b bs × Ready p reference bs
+Ready p reference (b ∷ bs) = Pickable p reference b × Without b bs × Ready p reference bs
 
 -- The public part after one block is taken and pointed to.
 abbrev takenOne : Public → ℕ → ℕ → Public
 takenOne p reference b = changePublic (addPointer reference b) (changePublic (takeBlock b) p)
 
 module _ (p : Public) (reference b : ℕ) (used : p .info .used ≤ length (p .pointers)) (low : b < 65536) where
-  free-next : (x : ℕ) → (x ≡ b → ⊥) → Free p reference x → Free (takenOne p reference b) reference x
+  free-next : (x : ℕ) → (x ≡ b → ⊥) → Pickable p reference x → Pickable (takenOne p reference b) reference x
   unfolding changePublic allocated
   free-next x apart f = record {
     below = f .below;
