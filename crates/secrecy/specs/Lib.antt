@@ -3,3 +3,4 @@ pub mod Steps
 pub mod Opened
 pub mod Plans
 pub mod Sessions
+pub mod Secrecy

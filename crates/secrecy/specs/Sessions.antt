@@ -9,8 +9,8 @@ use mathlib.Core.Option.{Option, none, some}
 use lib.Dec.{eqb}
 use lib.ListN.{length}
 use borrow.Author.Tests.{eqb-false, eq-eqb}
-use Rattle.card.specs.ListsLaws.{or-left, or-right, or-false-left, or-false-right, absurd-test}
-use Rattle.card.specs.Card.{Public, Card, allocated, block, count}
+use Rattle.card.specs.ListsLaws.{and-true, or-left, or-right, or-false-left, or-false-right, absurd-test}
+use Rattle.card.specs.Card.{Public, Card, allocated, freeBlocks, block, count}
 use Rattle.card.specs.SoundnessLaws.{SoundCard}
 use Rattle.card.specs.Access.{opens, admits}
 use Rattle.card.specs.Plan.{Change, setWindow, freeBlock, dropPointer, first, Shown, nothing, blockPart, numbers, Plan, Buffers, Result, refused, done, outAfter, settle, judge, judgeSound, changes}
@@ -126,3 +126,108 @@ module _ (K : ℕ → ℕ → Bool) (L : Public → List ℕ → List ℕ → Ty
       let p = plan Host c (q .call) (q .lent) in
       rw (settled c q sc, settled d q sd, ← plan-same K L link G c d alike (q .call) (q .lent) k)
       (both-settled q k (first (p .checks)) refl)
+
+-- ---- a list of calls on two cards
+
+-- Every key that a call of the list presents is presented.
+abbrev pub AllPresent : (ℕ → ℕ → Bool) → List Request → Type 0
+AllPresent K [] = Unit {0}
+AllPresent K (q ∷ qs) = CallPresents K (q .call) × AllPresent K qs
+
+pub record BothRun (K : ℕ → ℕ → Bool) (L : Public → List ℕ → List ℕ → Type 0) (G : ℕ → Type 0) (c d : Card) (qs : List Request) : Type 1 where
+  pub sameReplies : replies c (hostSession qs) ≡ replies d (hostSession qs)
+  pub next : Next K L G c (afterAll c (hostSession qs)) (afterAll d (hostSession qs))
+
+module _ (K : ℕ → ℕ → Bool) (L : Public → List ℕ → List ℕ → Type 0) (link : KeyLink K L) (keepsSound : KeepsSound) where
+  pub both-run : (qs : List Request) (G : ℕ → Type 0) (c d : Card) → SoundCard c → SoundCard d → Closed K G c → Alike L G c d → AllPresent K qs
+      → BothRun K L G c d qs
+  unfolding replies afterAll
+  both-run [] G c d sc sd closed alike k = record {
+    sameReplies = refl;
+    next = record { G′ = G; larger = λ x g. g; closed = closed; alike = alike; new = λ x a. inr a };
+  }
+  both-run (q ∷ qs) G c d sc sd closed alike k =
+      let one = both K L link G c d sc sd closed alike q (k .0) in
+      let rest = both-run qs (one .next .G′) (perform Host c q .after) (perform Host d q .after) (keepsSound c q sc) (keepsSound d q sd) (one .next .closed) (one .next .alike) (k .1) in
+      record {
+        sameReplies = ap₂ _∷_ (one .sameReply) (rest .sameReplies);
+        next = record {
+          G′ = rest .next .G′;
+          larger = λ x g. rest .next .larger x (one .next .larger x g);
+          closed = rest .next .closed;
+          alike = rest .next .alike;
+          new = λ x a. ⊎-elim (λ g. inl g) (λ b. ⊎-elim (λ g. inl (rest .next .larger x g)) (λ h. inr h) (one .next .new x b)) (rest .next .new x a);
+        };
+      }
+
+-- ---- a hidden block on one card
+
+takes-free-none : (reference : ℕ) (bs : List ℕ) (x : ℕ) → FreesNone (takeAll reference bs) x
+unfolding takeAll
+takes-free-none reference [] x = tt
+takes-free-none reference (b ∷ bs) x = (λ f. f, (λ f. f, takes-free-none reference bs x))
+
+-- A call that does not take the block's last pointer away frees it by no change.
+frees-none : (c : Card) (call : Call) (lent : Buffers) (x : ℕ) → takesLast call (plan Host c call lent .answer) x ≡ false → FreesNone (plan Host c call lent .steps) x
+unfolding plan takesLast isOne readPlan writePlan allocPlan createPlan deletePlan keyPlan renewPlan forcePlan freePlan tickPlan auditPlan opensWindow
+frees-none c (Read o) lent x e = go (eqb (o .interval) 0)
+  where
+    go : (t : Bool) → FreesNone (cond t [] (setWindow Reading (o .block) (windowAfter (c .public) Reading (o .block) (o .interval)) ∷ [])) x
+    go true = tt
+    go false = (λ f. f, tt)
+frees-none c (Write o) lent x e = (λ f. f, go (eqb (o .interval) 0))
+  where
+    go : (t : Bool) → FreesNone (cond t [] (setWindow Writing (o .block) (windowAfter (c .public) Writing (o .block) (o .interval)) ∷ [])) x
+    go true = tt
+    go false = (λ f. f, tt)
+frees-none c (Alloc o) lent x e = takes-free-none (o .reference) (picks (wanted (o .hint)) (o .count) (freeBlocks (c .public))) x
+frees-none c (Create o) lent x e = (λ f. f, tt)
+frees-none c (Delete o) lent x e = (λ f. f, go (eqb (count (c .public) (o .destination)) 1) e)
+  where
+    go : (t : Bool) → eqb (o .destination) x && eqb (cond t 1 0) 1 ≡ false → FreesNone (cond t (freeBlock (o .destination) ∷ []) []) x
+    go true h = (λ f. absurd-test (and-true _ _ (eq-eqb (o .destination) x (sym f)) refl) h, tt)
+    go false h = tt
+frees-none c (Key o) lent x e = (λ f. f, (λ f. f, (λ f. f, tt)))
+frees-none c (Renew o) lent x e = (λ f. f, tt)
+frees-none c (Force o) lent x e = (λ f. f, (λ f. f, tt))
+frees-none c Free lent x e = tt
+frees-none c (Tick o) lent x e = (λ f. f, tt)
+frees-none c Audit lent x e = tt
+
+-- A set closed on the card that a call leaves, and an allocated block outside the set before, as the call leaves it.
+pub record OneNext (K : ℕ → ℕ → Bool) (G : ℕ → Type 0) (c c′ : Card) (x : ℕ) : Type 1 where
+  pub G′ : ℕ → Type 0
+  pub closed : Closed K G′ c′
+  pub apart : Apart G′ c c′ x
+
+module _ (K : ℕ → ℕ → Bool) (G : ℕ → Type 0) (c : Card) (s : SoundCard c) (closed : Closed K G c) (x : ℕ) (a : allocated (c .public) x ≡ true) (out : G x → ⊥) where
+  one-settled : (q : Request) → CallPresents K (q .call) → (o : Option Refusal) → first (plan Host c (q .call) (q .lent) .checks) ≡ o
+      → takesLast (q .call) (settle c (q .lent) (plan Host c (q .call) (q .lent)) o .answer) x ≡ false
+      → OneNext K G c (settle c (q .lent) (plan Host c (q .call) (q .lent)) o .after) x
+  unfolding settle
+  one-settled q k none e f =
+      let p = plan Host c (q .call) (q .lent) in
+      let ok = safe K G c s closed (q .call) (q .lent) k (first-none _ e) in
+      record {
+        G′ = GrownAll G (p .steps);
+        closed = closed-changes K G c (p .steps) (sound-regular s) (ok .allowed) closed;
+        apart = apart-changes G c (p .steps) (sound-regular s) x a out (ok .allowed) (frees-none c (q .call) (q .lent) x f);
+      }
+  one-settled q k (some r) e f = record { G′ = G; closed = closed; apart = record { stillAllocated = a; stillOutside = out; sameBlock = refl } }
+
+  one-next : (q : Request) → CallPresents K (q .call) → takesLast (q .call) (perform Host c q .answer) x ≡ false → OneNext K G c (perform Host c q .after) x
+  one-next q k f =
+      let p = plan Host c (q .call) (q .lent) in
+      rw (settled c q s) (one-settled q k (first (p .checks)) refl (rw (settled c q s) at f))
+
+-- A block outside a closed set keeps its contents unless a call takes its last pointer away.
+module _ (K : ℕ → ℕ → Bool) (keepsSound : KeepsSound) (x : ℕ) where
+  pub hidden-kept : (qs : List Request) (G : ℕ → Type 0) (c : Card) → SoundCard c → Closed K G c → AllPresent K qs → allocated (c .public) x ≡ true → (G x → ⊥)
+      → lastTaken c (hostSession qs) x ≡ false → block (afterAll c (hostSession qs)) x ≡ block c x
+  unfolding lastTaken afterAll
+  hidden-kept [] G c s closed k a out f = refl
+  hidden-kept (q ∷ qs) G c s closed k a out f =
+      let one = one-next K G c s closed x a out q (k .0) (or-false-left _ _ f) in
+      hidden-kept qs (one .G′) (perform Host c q .after) (keepsSound c q s) (one .closed) (k .1) (one .apart .stillAllocated) (one .apart .stillOutside)
+      (or-false-right (takesLast (q .call) (perform Host c q .answer) x) _ f)
+      ∙ one .apart .sameBlock

@@ -1,0 +1,120 @@
+-- Demand 3: what a host session shows, and what it leaves, depends on no hidden block and on no unallocated one.
+-- Assumes nothing.
+use Prim.Native.Nat.{ℕ, _+_, _≤_, _<_}
+use mathlib.Core.Path.{_≡_, refl, sym, ap, ap₂, _∙_, subst}
+use mathlib.Core.Logic.{_⊎_, inl, inr, ⊎-elim, Dec·not-not}
+use mathlib.Core.Bool.{Bool, true, false, _||_}
+use mathlib.Core.List.{List, [], _∷_, List-discrete}
+use native.Mathlib.Decide.{ℕ-discrete}
+use Rattle.card.specs.ListsLaws.{or-left, or-right, not-cases, absurd-test}
+use Rattle.card.specs.Card.{Public, Card, allocated, isRoot, windowOpen, pointsTo, hasKey, keyHigh, keyLow, block}
+use Rattle.card.specs.SoundnessLaws.{SoundCard, allocated-below}
+use Rattle.card.specs.Access.{keyOpens, opensKeyed, opens}
+use Rattle.card.specs.Plan.{Change, changePublic, changeKeys}
+use Rattle.card.specs.Session.{Request, Sent, perform, replies, afterAll, hostSession}
+use Rattle.card.specs.Reach.{presents, presented, keyPresented, sealed, Reach, unsealedRoot, byKey, openWindow, pointed, Hidden, lastTaken}
+use Rattle.card.specs.declared.Mode.{Mode}
+use Rattle.card.specs.declared.Mode.the-variants.{Reading, Writing}
+use Rattle.card.specs.declared.Port.the-variants.{Host}
+use Rattle.card.specs.declared.Credential.{Credential}
+use Rattle.card.specs.declared.Credential.the-variants.{Nothing, Reference, Key}
+use Rattle.secrecy.specs.Closed.{Closed}
+use Rattle.secrecy.specs.Steps.{Alike, Kept}
+use Rattle.secrecy.specs.Opened.{AllPresented}
+use Rattle.secrecy.specs.Plans.{CallPresents}
+use Rattle.secrecy.specs.Sessions.{KeyLink, KeepsSound, AllPresent, both-run, hidden-kept}
+
+-- ---- the statement
+
+-- Equal records and tables but for contents, and equal contents but for the blocks named.
+pub record EqualBut (Differ : ℕ → Type 0) (c d : Card) : Type 0 where
+  pub samePublic : c .public ≡ d .public
+  pub sameKeys : c .keys ≡ d .keys
+  pub sameContents : (b : ℕ) → b < c .public .info .blocks → (Differ b → ⊥) → block c b ≡ block d b
+
+-- The blocks whose contents may differ at the start: hidden and unallocated ones.
+abbrev pub HiddenOrFree : (ℕ → ℕ → Bool) → Card → ℕ → Type 0
+HiddenOrFree K c b = Hidden K c b ⊎ (allocated (c .public) b ≡ false)
+
+-- And at the end: those that were hidden, and those that were unallocated and still are.
+abbrev pub HiddenOrStillFree : (ℕ → ℕ → Bool) → Card → Card → ℕ → Type 0
+HiddenOrStillFree K c after b = Hidden K c b ⊎ ((allocated (c .public) b ≡ false) × (allocated (after .public) b ≡ false))
+
+pub record Secret (K : ℕ → ℕ → Bool) (calls : List Sent) (c d : Card) : Type 0 where
+  -- "the count of answers that differ is nought"
+  pub answers : replies c calls ≡ replies d calls
+  -- "the two cards are still equal but for the contents of blocks that could differ at the start"
+  pub cards : EqualBut (HiddenOrStillFree K c (afterAll c calls)) (afterAll c calls) (afterAll d calls)
+  -- "On both, each hidden block ends with the contents it started with, unless a call of the list took its last pointer away."
+  pub kept : (b : ℕ) → Hidden K c b → lastTaken c calls b ≡ false → block (afterAll c calls) b ≡ block c b
+  pub keptOnOther : (b : ℕ) → Hidden K c b → lastTaken d calls b ≡ false → block (afterAll d calls) b ≡ block d b
+
+-- ---- the proof
+
+-- The blocks within reach are closed under reach.
+reach-closed : (K : ℕ → ℕ → Bool) (c : Card) → Closed K (Reach K c) c
+reach-closed K c = record {
+  root = λ b a r s. unsealedRoot a r s;
+  key = λ mode b a k. byKey mode a k;
+  window = λ mode b a o. openWindow mode a o;
+  pointed = λ a b g h p s. pointed g h p s;
+}
+
+-- What is presented by a call of the list is presented in the list.
+presented-later : (K : ℕ → ℕ → Bool) (qs : List Request) → ((high low : ℕ) → presented qs high low ≡ true → K high low ≡ true) → AllPresent K qs
+unfolding presented
+presented-later K [] k = tt
+presented-later K (q ∷ qs) k =
+    (λ high low h. k high low (or-left (presents (q .call) high low) _ h), presented-later K qs (λ high low h. k high low (or-right (presents (q .call) high low) _ h)))
+
+-- The access test looks at the public part and the keys alone.
+opens-same : (c d : Card) → c .public ≡ d .public → c .keys ≡ d .keys → (mode : Mode) (b : ℕ) (credential : Credential)
+    → opens c mode b credential ≡ opens d mode b credential
+unfolding opens opensKeyed keyOpens
+opens-same c d e k mode b Nothing = rw e
+opens-same c d e k mode b (Reference r) = rw e
+opens-same c d e k Reading b (Key high low) = rw (e, k)
+opens-same c d e k Writing b (Key high low) = rw (e, k)
+
+-- Equal keys: no credential tells them apart, and every change keeps them equal.
+equal-keys : (K : ℕ → ℕ → Bool) → KeyLink K (λ p ks ls. ks ≡ ls)
+equal-keys K = record {
+  kept = λ p ks ls step e. ap (changeKeys step) e;
+  opensSame = λ c d e k mode b credential _. opens-same c d e k mode b credential;
+}
+
+-- On two cards with equal public parts and keys the same blocks are within reach.
+module _ (K : ℕ → ℕ → Bool) (c d : Card) (e : c .public ≡ d .public) (k : c .keys ≡ d .keys) where
+  presented-same : (mode : Mode) (b : ℕ) → keyPresented K d mode b ≡ keyPresented K c mode b
+  unfolding keyPresented
+  presented-same mode b = rw (e, k)
+
+  sealed-same : (b : ℕ) → sealed K d b ≡ sealed K c b
+  unfolding sealed
+  sealed-same b = rw (presented-same Reading b, presented-same Writing b, e)
+
+  reach-same : {b : ℕ} → Reach K d b → Reach K c b
+  reach-same (unsealedRoot {b = b} a r s) = unsealedRoot (rw e a) (rw e r) (sym (sealed-same b) ∙ s)
+  reach-same (byKey {b = b} mode a h) = byKey mode (rw e a) (sym (presented-same mode b) ∙ h)
+  reach-same (openWindow mode a o) = openWindow mode (rw e a) (rw e o)
+  reach-same (pointed {b = b} g a p s) = pointed (reach-same g) (rw e a) (rw e p) (sym (sealed-same b) ∙ s)
+
+-- A block that is neither hidden nor unallocated cannot fail to be within reach, so contents that agree there agree.
+agree : (K : ℕ → ℕ → Bool) (c : Card) (b : ℕ) (xs ys : List ℕ) → allocated (c .public) b ≡ true → (Hidden K c b → ⊥) → (Reach K c b → xs ≡ ys) → xs ≡ ys
+agree K c b xs ys a visible f =
+    Dec·not-not (List-discrete ℕ-discrete xs ys) (λ n. visible (record { isAllocated = a; outOfReach = λ g. n (f g) }))
+
+-- Demand 3, for any list of a host's calls and any two sound cards.
+module _ (keepsSound : KeepsSound) where
+  pub secrecy-from : (session : List Request) (c d : Card) → SoundCard c → SoundCard d → EqualBut (HiddenOrFree (presented session) c) c d
+      → Secret (presented session) (hostSession session) c d
+  secrecy-from session c d sc sd same =
+      let K = presented session in
+      let calls = hostSession session in
+      let shown = presented-later K session (λ high low h. h) in
+      let start = record {
+            samePublic = same .samePublic;
+            linked = same .sameKeys;
+            sameBlocks = λ b g. same .sameContents b ? ?;
+          } in
+      ?
