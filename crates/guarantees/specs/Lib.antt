@@ -1,3 +1,5 @@
 pub mod Laws
 pub mod Steps
 pub mod Picks
+pub mod Judged
+pub mod KeepsSound
