@@ -3,3 +3,5 @@ pub mod Steps
 pub mod Picks
 pub mod Judged
 pub mod KeepsSound
+pub mod Unchanged
+pub mod Untouched

@@ -56,13 +56,15 @@ shaped-with {c} {flags} {keys} {counts} {pointers} {windows} {contents} s f k n 
   usedHigh = u;
 }
 
+-- A block below N lies within the contents.
+pub block-within : (c : Card) (b : ℕ) → length (c .contents) ≡ c .public .info .blocks * c .public .info .bytes → b < c .public .info .blocks
+    → b * c .public .info .bytes + c .public .info .bytes ≤ length (c .contents)
+block-within c b e l = subst (λ (n : ℕ). b * c .public .info .bytes + c .public .info .bytes ≤ n) (sym e) (block-fits (c .public .info .bytes) l)
+
 -- A block's part filled leaves the contents as long as they were.
 filled-length : {c : Card} (b : ℕ) (ys : List ℕ) → Shaped c → b < c .public .info .blocks → length ys ≡ c .public .info .bytes
     → length (fill (c .public .info .bytes) (c .contents) b ys) ≡ length (c .contents)
-filled-length {c} b ys s l whole =
-    fill-length (c .public .info .bytes) (c .contents) b ys
-    (subst (λ (n : ℕ). b * c .public .info .bytes + c .public .info .bytes ≤ n) (sym (s .hasLengths .contents)) (block-fits (c .public .info .bytes) l))
-    whole
+filled-length {c} b ys s l whole = fill-length (c .public .info .bytes) (c .contents) b ys (block-within c b (s .hasLengths .contents) l) whole
 
 -- ---- soundness but for one block
 
