@@ -1,3 +1,7 @@
 pub mod Laws
 pub mod Steps
 pub mod Picks
+pub mod Judged
+pub mod KeepsSound
+pub mod Unchanged
+pub mod Untouched

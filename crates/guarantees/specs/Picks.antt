@@ -27,6 +27,12 @@ pub data Distinct : List ℕ → Type 0 where
   none : Distinct []
   more : {x : ℕ} {xs : List ℕ} → Without x xs → Distinct xs → Distinct (x ∷ xs)
 
+pub distinct-head : {x : ℕ} {xs : List ℕ} → Distinct (x ∷ xs) → Without x xs
+distinct-head (more w d) = w
+
+pub distinct-tail : {x : ℕ} {xs : List ℕ} → Distinct (x ∷ xs) → Distinct xs
+distinct-tail (more w d) = d
+
 remove-distinct : (w : ℕ) {xs : List ℕ} → Distinct xs → Distinct (remove w xs)
 unfolding remove
 remove-distinct w none = none

@@ -12,12 +12,12 @@ use lib.ListN.{length, take, drop, getD, set, length-set, length-replicate, leng
 use lib.Seq.{take-at, drop-at, getD-set-same, getD-set-other, drop-drop, length-take-le}
 use borrow.Author.Tests.{eq-eqb, ne-eqb, eqb-false, not-true}
 use Rattle.card.specs.Lists.{all}
-use Rattle.card.specs.ListsLaws.{and-left, and-right, and-true, absurd-test, same-or-other, all-map, all-both, all-drop, all-cons}
+use Rattle.card.specs.ListsLaws.{and-left, and-right, and-true, absurd-test, false-unless, below-or-not, same-or-other, all-map, all-both, all-drop, all-cons}
 use Rattle.card.specs.Pointers.{pointer, source, destination, ascending, contains, adds, pointersTo, insert, remove}
-use Rattle.card.specs.PointersLaws.{source-pointer, destination-pointer, insert-length, insert-ascending, all-insert, pointersTo-insert, remove-length, remove-ascending, all-remove, pointersTo-remove, uncounted}
+use Rattle.card.specs.PointersLaws.{source-pointer, destination-pointer, insert-length, insert-ascending, all-insert, pointersTo-insert, remove-length, remove-ascending, all-remove, pointersTo-remove, uncounted, contains-all, contains-counted, unpointing}
 use Rattle.card.specs.Contents.{fill, zeros}
 use Rattle.card.specs.ContentsLaws.{overwrite-length, fill-length, block-fits}
-use Rattle.card.specs.Card.{Public, Card, card, flag, allocatedFlag, keyFlag, allocated, windowAt, windowEnd, longestInterval, count, inUse, keyHigh, keyLow, pointsTo}
+use Rattle.card.specs.Card.{Public, Card, card, flag, allocatedFlag, keyFlag, allocated, windowAt, windowEnd, longestInterval, count, inUse, keyHigh, keyLow, pointsTo, hasPointers}
 use Rattle.card.specs.Soundness.{timeLimit, pointerRight}
 use Rattle.card.specs.SoundnessLaws.{InRanges, HasLengths, Shaped, KeyZero, Empty, RightPointer, Sound, SoundCard, pointerRight-true, true-pointerRight, allocated-below, allocated-flag, flag-allocated}
 use Rattle.card.specs.Plan.{Change, setWindow, setBlock, setKeys, takeBlock, freeBlock, addPointer, dropPointer, setTime, highWord, lowWord, replaceKeys, withFlags, changePublic, changeKeys, changeContents, change}
@@ -56,13 +56,15 @@ shaped-with {c} {flags} {keys} {counts} {pointers} {windows} {contents} s f k n 
   usedHigh = u;
 }
 
+-- A block below N lies within the contents.
+pub block-within : (c : Card) (b : ℕ) → length (c .contents) ≡ c .public .info .blocks * c .public .info .bytes → b < c .public .info .blocks
+    → b * c .public .info .bytes + c .public .info .bytes ≤ length (c .contents)
+block-within c b e l = subst (λ (n : ℕ). b * c .public .info .bytes + c .public .info .bytes ≤ n) (sym e) (block-fits (c .public .info .bytes) l)
+
 -- A block's part filled leaves the contents as long as they were.
 filled-length : {c : Card} (b : ℕ) (ys : List ℕ) → Shaped c → b < c .public .info .blocks → length ys ≡ c .public .info .bytes
     → length (fill (c .public .info .bytes) (c .contents) b ys) ≡ length (c .contents)
-filled-length {c} b ys s l whole =
-    fill-length (c .public .info .bytes) (c .contents) b ys
-    (subst (λ (n : ℕ). b * c .public .info .bytes + c .public .info .bytes ≤ n) (sym (s .hasLengths .contents)) (block-fits (c .public .info .bytes) l))
-    whole
+filled-length {c} b ys s l whole = fill-length (c .public .info .bytes) (c .contents) b ys (block-within c b (s .hasLengths .contents) l) whole
 
 -- ---- soundness but for one block
 
@@ -137,6 +139,9 @@ empty-from f high low n w h = record {
   countZero = n ∙ h .countZero;
   windowZero = λ m. w m ∙ h .windowZero m;
 }
+
+pub unallocated-flag : (p : Public) (b : ℕ) → b < p .info .blocks → allocated p b ≡ false → allocatedFlag (flag p b) ≡ false
+unallocated-flag p b l e = false-unless _ (λ a. absurd-test (flag-allocated p b l a) e)
 
 -- An unallocated block is not the allocated one.
 not-allocated : (p : Public) {x b : ℕ} → allocated p b ≡ true → allocatedFlag (flag p x) ≡ false → x ≡ b → ⊥
@@ -219,10 +224,15 @@ set-flag-other : (flags : List ℕ) (b v x : ℕ) → b < length flags → alloc
 set-flag-other flags b v x l odd e q = absurd-test odd (subst (λ (f : ℕ). allocatedFlag f ≡ false) (set-flag-same flags b v x l q) e)
 
 -- No allocated block ceases to be so where flags are set that say allocated.
-allocated-set : (p : Public) (b v x : ℕ) → allocatedFlag v ≡ true → allocated p x ≡ true → allocated (withFlags p (set (p .flags) b v)) x ≡ true
+pub allocated-set : (p : Public) (b v x : ℕ) → allocatedFlag v ≡ true → allocated p x ≡ true → allocated (withFlags p (set (p .flags) b v)) x ≡ true
 allocated-set p b v x odd a =
     flag-allocated (withFlags p (set (p .flags) b v)) x (allocated-below p x a)
     (getD-set-either (λ (f : ℕ). allocatedFlag f ≡ true) (p .flags) b v x odd (allocated-flag p x a))
+
+-- Where a block's flags are set, another is allocated or not as before.
+pub allocated-other : (p : Public) (b v x : ℕ) → (x ≡ b → ⊥) → allocated (withFlags p (set (p .flags) b v)) x ≡ allocated p x
+unfolding allocated
+allocated-other p b v x other = ap (λ (f : ℕ). ltb x (p .info .blocks) && allocatedFlag f) (getD-set-other (p .flags) b x v 0 other)
 
 -- A pointer stays right where its ends stay allocated.
 right-kept : (p : Public) (flags : List ℕ) (w : ℕ) → pointerRight p w ≡ true
@@ -333,7 +343,7 @@ takeBlock-sound {c} b s below free =
 
 -- The pointers in use with one more, in front of the places behind them.
 module _ (w used : ℕ) (ps : List ℕ) (room : used < length ps) where
-  abbrev inserted : List ℕ
+  abbrev pub inserted : List ℕ
   inserted = insert w (take used ps)
 
   inserted-long : length inserted ≡ used + 1
@@ -345,7 +355,7 @@ module _ (w used : ℕ) (ps : List ℕ) (room : used < length ps) where
   inserted-drop : drop (used + 1) (inserted ++ drop (used + 1) ps) ≡ drop 1 (drop used ps)
   inserted-drop = drop-at inserted (drop (used + 1) ps) (used + 1) inserted-long ∙ sym (drop-drop 1 used ps)
 
-  inserted-length : length (inserted ++ drop (used + 1) ps) ≡ length ps
+  pub inserted-length : length (inserted ++ drop (used + 1) ps) ≡ length ps
   inserted-length = omega (arith, length-append inserted (drop (used + 1) ps), length-drop (used + 1) ps, inserted-long)
 
 adds-same : (b w : ℕ) → destination w ≡ b → adds b w ≡ 1
@@ -512,23 +522,18 @@ closed-same windows b fits Reading =
 closed-same windows b fits Writing =
     getD-set-same (set windows (2 * b) 0) (2 * b + 1) 0 0 (subst (λ (n : ℕ). 2 * b + 1 < n) (sym (length-set windows (2 * b) 0)) fits)
 
--- Where a block's flags are set, another stays allocated.
-allocated-other : (p : Public) (b v x : ℕ) → (x ≡ b → ⊥) → allocated p x ≡ true → allocated (withFlags p (set (p .flags) b v)) x ≡ true
-allocated-other p b v x other a =
-    flag-allocated (withFlags p (set (p .flags) b v)) x (allocated-below p x a)
-    (subst (λ (f : ℕ). allocatedFlag f ≡ true) (sym (getD-set-other (p .flags) b x v 0 other)) (allocated-flag p x a))
-
 free-pointers : (p : Public) (b : ℕ) (ws : List ℕ)
     → all (λ w. pointerRight p w) ws ≡ true
     → all (λ w. not (eqb (source w) b)) ws ≡ true
     → all (λ w. not (eqb (destination w) b)) ws ≡ true
     → all (λ w. pointerRight (withFlags p (set (p .flags) b 0)) w) ws ≡ true
 free-pointers p b ws right from to =
+    let kept : (x : ℕ) → (x ≡ b → ⊥) → allocated p x ≡ true → allocated (withFlags p (set (p .flags) b 0)) x ≡ true = λ x other a. allocated-other p b 0 x other ∙ a in
     all-both (λ w. pointerRight p w) (λ w. not (eqb (source w) b) && not (eqb (destination w) b)) (λ w. pointerRight (withFlags p (set (p .flags) b 0)) w)
     (λ w e f.
     right-kept p (set (p .flags) b 0) w e
-    (allocated-other p b 0 (source w) (eqb-false _ _ (not-true _ (and-left _ _ f))))
-    (allocated-other p b 0 (destination w) (eqb-false _ _ (not-true _ (and-right (not (eqb (source w) b)) _ f)))))
+    (kept (source w) (eqb-false _ _ (not-true _ (and-left _ _ f))))
+    (kept (destination w) (eqb-false _ _ (not-true _ (and-right (not (eqb (source w) b)) _ f)))))
     ws
     right
     (all-both (λ w. not (eqb (source w) b)) (λ w. not (eqb (destination w) b)) (λ w. not (eqb (source w) b) && not (eqb (destination w) b))
@@ -610,3 +615,78 @@ freeBlock-sound {c} b s below noRoot uncount unpoint =
             closed-either (λ (n : ℕ). n ≤ p .info .time + longestInterval) (p .windows) b (windowAt m x) (omega arith) (s .windowsLow m x l);
       };
     }
+
+-- ---- pairs of changes
+
+-- A pointer in use is right.
+pub pointer-right : {c : Card} (a b : ℕ) → SoundCard c → pointsTo (c .public) a b ≡ true → RightPointer (c .public) (pointer a b)
+unfolding pointsTo
+pointer-right {c} a b s there =
+    pointerRight-true (c .public) (pointer a b)
+    (contains-all (λ w. pointerRight (c .public) w) (pointer a b) (inUse (c .public)) there (s .isSound .pointersRight))
+
+-- A block below N has a number in 16 bits.
+pub block-narrow : {c : Card} {b : ℕ} → SoundCard c → b < c .public .info .blocks → b < 65536
+block-narrow s l = omega (arith, s .shaped .inRanges .blocksHigh)
+
+-- No pointer goes to an unallocated block.
+pub no-pointer : {c : Card} (a b : ℕ) → SoundCard c → b < c .public .info .blocks → allocatedFlag (flag (c .public) b) ≡ false → pointsTo (c .public) a b ≡ false
+no-pointer {c} a b s below free =
+    false-unless _
+    (λ e.
+    absurd-test
+    (allocated-flag (c .public) b
+    (subst (λ (n : ℕ). allocated (c .public) n ≡ true) (destination-pointer a b (block-narrow s below)) (pointer-right a b s e .destinationAllocated)))
+    free)
+
+-- Take an unallocated block and point to it from an allocated one, where a place is left.
+pub takeAdd-sound : {c : Card} (a b : ℕ) → SoundCard c
+    → allocated (c .public) a ≡ true
+    → b < c .public .info .blocks
+    → allocatedFlag (flag (c .public) b) ≡ false
+    → c .public .info .used < length (c .public .pointers)
+    → SoundCard (change (change c (takeBlock b)) (addPointer a b))
+unfolding change changePublic pointsTo
+takeAdd-sound {c} a b s fromAllocated below free room =
+    let p : Public = c .public in
+    addPointer-sound a b (takeBlock-sound b s below free)
+    (allocated-set p b 1 a refl fromAllocated)
+    (flag-allocated (withFlags p (set (p .flags) b 1)) b below
+    (ap allocatedFlag (getD-set-same (p .flags) b 1 0 (omega (arith, s .shaped .hasLengths .flags)))))
+    (⊎-elim
+    (λ (l : b < p .info .roots). absurd-test (s .isSound .rootsAllocated b below l) free)
+    (λ (l : p .info .roots ≤ b). l)
+    (below-or-not b (p .info .roots)))
+    (λ (e : a ≡ b). not-allocated p fromAllocated free (sym e))
+    (no-pointer a b s below free)
+    room
+
+module _ {c : Card} (a b : ℕ) (s : SoundCard c) (toAllocated : allocated (c .public) b ≡ true) (there : pointsTo (c .public) a b ≡ true) where
+  count-after : count (change c (dropPointer a b) .public) b ≡ count (c .public) b - 1
+  unfolding change changePublic
+  count-after =
+      getD-set-same (c .public .counts) b (count (c .public) b - 1) 0
+      (omega (arith, allocated-below (c .public) b toAllocated, s .shaped .hasLengths .counts))
+
+  -- Drop a pointer to a block that has another.
+  pub dropOne-sound : (count (c .public) b ≡ 1 → ⊥) → SoundCard (change c (dropPointer a b))
+  unfolding pointsTo
+  dropOne-sound more =
+      let below : b < c .public .info .blocks = allocated-below (c .public) b toAllocated in
+      let some : 1 ≤ count (c .public) b =
+      subst (λ (n : ℕ). 1 ≤ n) (sym (s .isSound .counts b below))
+      (contains-counted b (pointer a b) (inUse (c .public)) there (destination-pointer a b (block-narrow s below))) in
+      but-sound (dropPointer-sound a b s toAllocated there) (omega (arith, count-after))
+
+  -- Drop the last pointer to a block that has none of its own, and free the block.
+  pub dropLast-sound : count (c .public) b ≡ 1 → hasPointers (c .public) b ≡ false → SoundCard (change (change c (dropPointer a b)) (freeBlock b))
+  unfolding change changePublic pointsTo hasPointers
+  dropLast-sound last alone =
+      let p : Public = c .public in
+      let below : b < p .info .blocks = allocated-below p b toAllocated in
+      freeBlock-sound b (dropPointer-sound a b s toAllocated there) below
+      (subst (λ (n : ℕ). p .info .roots ≤ n) (destination-pointer a b (block-narrow s below)) (pointer-right a b s there .noRoot))
+      (omega (arith, count-after))
+      (subst (λ (ws : List ℕ). all (λ w. not (eqb (source w) b)) ws ≡ true)
+      (sym (removed-take (pointer a b) (p .info .used) (p .pointers) (s .shaped .usedHigh) there))
+      (all-remove (λ w. not (eqb (source w) b)) (pointer a b) (inUse p) (unpointing b (inUse p) alone)))

@@ -1,0 +1,222 @@
+-- A call on a sound card leaves a sound card: one lemma for each paragraph of document 01, "Calls", then the theorem.
+-- Assumes nothing.
+use Prim.Native.Nat.{ℕ, zero, suc, _+_, _-_, _*_, _≤_, _<_}
+use mathlib.Core.Path.{_≡_, refl, sym, ap, _∙_, subst}
+use mathlib.Core.Logic.{_⊎_, inl, inr, ⊎-elim}
+use mathlib.Core.Bool.{Bool, true, false, _&&_, _||_, not, cond}
+use mathlib.Core.List.{List, [], _∷_, _++_}
+use native.Mathlib.Omega.{arith}
+use lib.Dec.{eqb, ltb, leb}
+use lib.ListN.{length, take, drop, getD, set}
+use lib.Seq.{getD-set-same, getD-set-other}
+use borrow.Author.Tests.{lt-ltb, eqb-true, eqb-false, ltb-true, ltb-false, leb-false, not-true, not-false, eq-eqb}
+use Rattle.card.specs.Lists.{all}
+use Rattle.card.specs.ListsLaws.{and-false-right, or-false-left, or-false-right, absurd-test, below-or-not, not-cases, false-unless, all-head, all-tail, all-both}
+use Rattle.card.specs.Pointers.{pointer, source, destination, ascending, contains, pointsFrom, pointersTo, insert, remove}
+use Rattle.card.specs.PointersLaws.{destination-pointer, contains-all, contains-counted, all-remove, unpointing}
+use Rattle.card.specs.Card.{Public, Card, flag, allocatedFlag, allocated, isRoot, freeBlocks, longestInterval, count, inUse, pointsTo, hasPointers}
+use Rattle.card.specs.Soundness.{timeLimit, pointerRight}
+use Rattle.card.specs.SoundnessLaws.{RightPointer, SoundCard, pointerRight-true, allocated-below, allocated-flag, flag-allocated}
+use Rattle.card.specs.Plan.{Change, setWindow, setBlock, setKeys, takeBlock, freeBlock, addPointer, dropPointer, setTime, withFlags, changePublic, change, changes, Plan, Buffers}
+use Rattle.card.specs.PlanLaws.{NoneHolds}
+use Rattle.card.specs.Calls.{missing, windowAfter, opensWindow, wanted, picks, takeAll, closeWindows, modeOf, readPlan, writePlan, allocPlan, createPlan, deletePlan, keyPlan, renewPlan, forcePlan, freePlan, tickPlan, auditPlan}
+use Rattle.card.specs.Session.{Request, plan, perform}
+use Rattle.card.specs.declared.Port.{Port}
+use Rattle.card.specs.declared.Port.the-variants.{Host, Service}
+use Rattle.card.specs.declared.Mode.{Mode}
+use Rattle.card.specs.declared.Mode.the-variants.{Reading, Writing}
+use Rattle.card.specs.declared.NewKey.{NewKey}
+use Rattle.card.specs.declared.ReadOperands.{ReadOperands}
+use Rattle.card.specs.declared.WriteOperands.{WriteOperands}
+use Rattle.card.specs.declared.AllocOperands.{AllocOperands}
+use Rattle.card.specs.declared.CreateOperands.{CreateOperands}
+use Rattle.card.specs.declared.DeleteOperands.{DeleteOperands}
+use Rattle.card.specs.declared.KeyOperands.{KeyOperands}
+use Rattle.card.specs.declared.RenewOperands.{RenewOperands}
+use Rattle.card.specs.declared.ForceOperands.{ForceOperands}
+use Rattle.card.specs.declared.TickOperands.{TickOperands}
+use Rattle.card.specs.declared.Call.{Call}
+use Rattle.card.specs.declared.Call.the-variants.{Read, Write, Alloc, Create, Delete, Key, Renew, Force, Free, Tick, Audit}
+use Rattle.guarantees.specs.Laws.{keyedFlag, keyedFlag-allocated}
+use Rattle.guarantees.specs.Steps.{sound-but, inserted-length, allocated-set, allocated-other, unallocated-flag, setWindow-sound, setBlock-sound, setKeys-sound, setTime-sound, addPointer-sound, takeAdd-sound, dropOne-sound, dropLast-sound}
+use Rattle.guarantees.specs.Picks.{Without, distinct-head, distinct-tail, Takeable, picks-takeable, picks-length}
+use Rattle.guarantees.specs.Judged.{judge-after}
+
+-- A block that passes the check "allocated" is allocated.
+pub not-missing : (p : Public) (b : ℕ) → missing p b ≡ false → allocated p b ≡ true
+not-missing p b e = not-false _ e
+
+-- ---- READ, WRITE, RENEW and FORCE
+
+opensWindow-sound : (port : Port) {c : Card} (mode : Mode) (b interval : ℕ) → SoundCard c → allocated (c .public) b ≡ true → interval ≤ longestInterval
+    → SoundCard (changes c (opensWindow port (c .public) mode b interval))
+unfolding opensWindow windowAfter changes
+opensWindow-sound Host {c} mode b interval s a low = go (eqb interval 0)
+  where
+    go : (t : Bool) → SoundCard (changes c (cond t [] (setWindow mode b (windowAfter (c .public) mode b interval) ∷ [])))
+    go true = s
+    go false = setWindow-sound mode b (c .public .info .time + interval) s a (omega arith)
+opensWindow-sound Service mode b interval s a low = s
+
+closeWindows-sound : {c : Card} (b : ℕ) → SoundCard c → allocated (c .public) b ≡ true → SoundCard (changes c (closeWindows b))
+unfolding changes change changePublic allocated
+closeWindows-sound b s a = setWindow-sound Writing b 0 (setWindow-sound Reading b 0 s a (omega arith)) a (omega arith)
+
+read-sound : (port : Port) (c : Card) (opened : Bool) (o : ReadOperands) (size : ℕ) → SoundCard c
+    → NoneHolds (readPlan port (c .public) opened o size .checks) → SoundCard (changes c (readPlan port (c .public) opened o size .steps))
+unfolding readPlan
+read-sound port c opened o size s h =
+    opensWindow-sound port Reading (o .block) (o .interval) s (not-missing _ _ (h .1 .0))
+    (ltb-false longestInterval (o .interval) (or-false-right (not (eqb size (c .public .info .bytes))) _ (h .0)))
+
+write-sound : (port : Port) (c : Card) (opened : Bool) (o : WriteOperands) (input : List ℕ) → SoundCard c
+    → NoneHolds (writePlan port (c .public) opened o input .checks) → SoundCard (changes c (writePlan port (c .public) opened o input .steps))
+unfolding writePlan changes change changePublic
+write-sound port c opened o input s h =
+    let a : allocated (c .public) (o .block) ≡ true = not-missing _ _ (h .1 .0) in
+    opensWindow-sound port Writing (o .block) (o .interval)
+    (setBlock-sound (o .block) input s (allocated-below (c .public) (o .block) a)
+    (eqb-true _ _ (not-false _ (or-false-left _ _ (h .0)))))
+    a
+    (ltb-false longestInterval (o .interval) (or-false-right (not (eqb (length input) (c .public .info .bytes))) _ (h .0)))
+
+renew-sound : (c : Card) (opened : Bool) (o : RenewOperands) → SoundCard c → NoneHolds (renewPlan (c .public) opened o .checks)
+    → SoundCard (changes c (renewPlan (c .public) opened o .steps))
+unfolding renewPlan windowAfter changes
+renew-sound c opened o s h =
+    let low : o .interval ≤ longestInterval = ltb-false _ _ (or-false-right (ltb 1 (o .mode) || eqb (o .interval) 0) _ (h .0)) in
+    setWindow-sound (modeOf (o .mode)) (o .block) (c .public .info .time + o .interval) s (not-missing _ _ (h .1 .0)) (omega arith)
+
+force-sound : (c : Card) (o : ForceOperands) → SoundCard c → NoneHolds (forcePlan (c .public) o .checks) → SoundCard (changes c (forcePlan (c .public) o .steps))
+unfolding forcePlan
+force-sound c o s h = closeWindows-sound (o .block) s (not-missing _ _ (h .0))
+
+-- ---- KEY
+
+key-sound : (port : Port) (c : Card) (opened : Bool) (o : KeyOperands) → SoundCard c → NoneHolds (keyPlan port (c .public) opened o .checks)
+    → SoundCard (changes c (keyPlan port (c .public) opened o .steps))
+unfolding keyPlan changes change changePublic
+key-sound port c opened o s h =
+    let a : allocated (c .public) (o .block) ≡ true = not-missing _ _ (h .0) in
+    closeWindows-sound (o .block) (setKeys-sound (o .block) (o .read) (o .write) s a)
+    (allocated-set (c .public) (o .block) (keyedFlag (o .read) (o .write)) (o .block) (keyedFlag-allocated (o .read) (o .write)) a)
+
+-- ---- TICK
+
+tick-sound : (c : Card) (o : TickOperands) → SoundCard c → NoneHolds (tickPlan (c .public) o .checks) → SoundCard (changes c (tickPlan (c .public) o .steps))
+unfolding tickPlan changes
+tick-sound c o s h = setTime-sound (c .public .info .time + o .seconds) s (omega arith) (leb-false timeLimit (c .public .info .time + o .seconds) (h .0))
+
+-- ---- CREATE and DELETE
+
+create-sound : (port : Port) (c : Card) (sourceOpened destinationOpened : Bool) (o : CreateOperands) → SoundCard c
+    → NoneHolds (createPlan port (c .public) sourceOpened destinationOpened o .checks)
+    → SoundCard (changes c (createPlan port (c .public) sourceOpened destinationOpened o .steps))
+unfolding createPlan changes
+create-sound port c sourceOpened destinationOpened o s h =
+    let p : Public = c .public in
+    let full : (p .info .used ≡ length (p .pointers) → ⊥) = eqb-false _ _ (h .1 .1 .1 .1 .1 .1 .0) in
+    addPointer-sound (o .source) (o .destination) (sound-but (o .destination) s)
+    (not-missing p (o .source) (h .0))
+    (not-missing p (o .destination) (h .1 .0))
+    (ltb-false _ _ (or-false-left (isRoot p (o .destination)) _ (h .1 .1 .0)))
+    (eqb-false _ _ (or-false-left (eqb (o .source) (o .destination)) _ (h .1 .1 .1 .1 .1 .0)))
+    (or-false-right (eqb (o .source) (o .destination)) _ (h .1 .1 .1 .1 .1 .0))
+    (omega (arith, s .shaped .usedHigh))
+
+delete-sound : (port : Port) (c : Card) (opened : Bool) (o : DeleteOperands) → SoundCard c → NoneHolds (deletePlan port (c .public) opened o .checks)
+    → SoundCard (changes c (deletePlan port (c .public) opened o .steps))
+unfolding deletePlan changes
+delete-sound port c opened o s h = go (eqb (count (c .public) (o .destination)) 1) refl (h .1 .1 .1 .1 .1 .0)
+  where
+    held : allocated (c .public) (o .destination) ≡ true
+    held = not-missing _ _ (h .1 .0)
+
+    there : pointsTo (c .public) (o .source) (o .destination) ≡ true
+    there = not-false _ (h .1 .1 .1 .1 .0)
+
+    go : (t : Bool) → eqb (count (c .public) (o .destination)) 1 ≡ t → t && hasPointers (c .public) (o .destination) ≡ false
+        → SoundCard (changes (change c (dropPointer (o .source) (o .destination))) (cond t (freeBlock (o .destination) ∷ []) []))
+    go true e f = dropLast-sound (o .source) (o .destination) s held there (eqb-true _ _ e) f
+    go false e f = dropOne-sound (o .source) (o .destination) s held there (eqb-false _ _ e)
+
+-- ---- ALLOC
+
+-- After one block is taken, the others can still be taken.
+takeable-rest : (p : Public) (a b : ℕ) (bs : List ℕ) → Takeable p (b ∷ bs) → Takeable (changePublic (addPointer a b) (changePublic (takeBlock b) p)) bs
+unfolding changePublic allocated
+takeable-rest p a b bs t =
+    let without : Without b bs = distinct-head (t .distinct) in
+    record {
+      below = all-tail (λ b. ltb b (p .info .blocks)) b bs (t .below);
+      free =
+          all-both (λ x. not (allocated p x)) (λ x. not (eqb x b)) (λ x. not (allocated (withFlags p (set (p .flags) b 1)) x))
+          (λ x e f. ap not (allocated-other p b 1 x (eqb-false _ _ (not-true _ f))) ∙ e)
+          bs
+          (all-tail (λ x. not (allocated p x)) b bs (t .free))
+          without;
+      distinct = distinct-tail (t .distinct);
+    }
+
+takeAll-sound : {c : Card} (reference : ℕ) (bs : List ℕ) → SoundCard c → allocated (c .public) reference ≡ true → Takeable (c .public) bs
+    → c .public .info .used + length bs ≤ length (c .public .pointers)
+    → SoundCard (changes c (takeAll reference bs))
+unfolding takeAll changes change changePublic allocated
+takeAll-sound reference [] s a t room = s
+takeAll-sound {c} reference (b ∷ bs) s a t room =
+    let p : Public = c .public in
+    let below : b < p .info .blocks = ltb-true _ _ (all-head (λ b. ltb b (p .info .blocks)) b bs (t .below)) in
+    let free : allocated p b ≡ false = not-true _ (all-head (λ b. not (allocated p b)) b bs (t .free)) in
+    let place : p .info .used < length (p .pointers) = omega arith in
+    takeAll-sound reference bs
+    (takeAdd-sound reference b s a below (unallocated-flag p b below free) place)
+    (allocated-set p b 1 reference refl a)
+    (takeable-rest p reference b bs t)
+    (omega (arith, inserted-length (pointer reference b) (p .info .used) (p .pointers) place))
+
+alloc-sound : (port : Port) (c : Card) (opened : Bool) (o : AllocOperands) (places : ℕ) → SoundCard c
+    → NoneHolds (allocPlan port (c .public) opened o places .checks) → SoundCard (changes c (allocPlan port (c .public) opened o places .steps))
+unfolding allocPlan
+alloc-sound port c opened o places s h =
+    let p : Public = c .public in
+    let enough : o .count ≤ length (freeBlocks p) = ltb-false _ _ (h .1 .1 .1 .1 .0) in
+    let room : p .info .used + o .count ≤ length (p .pointers) = ltb-false _ _ (h .1 .1 .1 .1 .1 .0) in
+    takeAll-sound (o .reference) (picks (wanted (o .hint)) (o .count) (freeBlocks p)) s (not-missing _ _ (h .1 .0))
+    (picks-takeable p (wanted (o .hint)) (o .count))
+    (omega (arith, picks-length (wanted (o .hint)) (o .count) (freeBlocks p) enough))
+
+-- ---- every call
+
+call-sound : (port : Port) (c : Card) (call : Call) (lent : Buffers) → SoundCard c → NoneHolds (plan port c call lent .checks)
+    → SoundCard (changes c (plan port c call lent .steps))
+unfolding plan freePlan auditPlan changes
+call-sound port c (Read o) lent = read-sound port c _ o _
+call-sound port c (Write o) lent = write-sound port c _ o _
+call-sound port c (Alloc o) lent = alloc-sound port c _ o _
+call-sound port c (Create o) lent = create-sound port c _ _ o
+call-sound port c (Delete o) lent = delete-sound port c _ o
+call-sound port c (Key o) lent = key-sound port c _ o
+call-sound port c (Renew o) lent = renew-sound c _ o
+call-sound port c (Force o) lent = force-sound c o
+call-sound port c Free lent = λ s h. s
+call-sound port c (Tick o) lent = tick-sound c o
+call-sound port c Audit lent = λ s h. s
+
+-- Document 01, "A done call .. leaves a sound card"; a refused one leaves the card itself.
+pub done-sound : (port : Port) (c : Card) (q : Request) → SoundCard c → SoundCard (perform port c q .after)
+unfolding perform
+done-sound port c q s = judge-after SoundCard c (q .lent) (plan port c (q .call) (q .lent)) s (call-sound port c (q .call) (q .lent))
+
+-- After any call on a sound card every count is the number of pointers to its block.
+pub counts-right : (port : Port) (c : Card) (q : Request) → SoundCard c
+    → (b : ℕ) → b < perform port c q .after .public .info .blocks
+    → count (perform port c q .after .public) b ≡ pointersTo b (inUse (perform port c q .after .public))
+counts-right port c q s = done-sound port c q s .isSound .counts
+
+-- The pointers in use strictly ascend, and the places behind them hold 0.
+pub record PointersAscend (p : Public) : Type 0 where
+  pub ascends : ascending (inUse p) ≡ true
+  pub restZero : all (λ w. eqb w 0) (drop (p .info .used) (p .pointers)) ≡ true
+
+pub pointers-ascending : (port : Port) (c : Card) (q : Request) → SoundCard c → PointersAscend (perform port c q .after .public)
+pointers-ascending port c q s = record { ascends = done-sound port c q s .isSound .ascends; restZero = done-sound port c q s .isSound .restZero }

@@ -1,0 +1,62 @@
+-- A refused call changes no table, record or buffer.
+-- Assumes nothing.
+use Prim.Native.Nat.{ℕ}
+use mathlib.Core.Path.{_≡_, refl, sym, ap}
+use mathlib.Core.Bool.{Bool, true, false, _&&_}
+use mathlib.Core.List.{List}
+use Rattle.card.specs.ListsLaws.{absurd-test}
+use Rattle.card.specs.Card.{Card}
+use Rattle.card.specs.Soundness.{ranges, lengths}
+use Rattle.card.specs.Plan.{Plan, Buffers, Result, settle}
+use Rattle.card.specs.Calls.{formatResult, format, readPlan, writePlan, allocPlan, createPlan, deletePlan, keyPlan, renewPlan, forcePlan, freePlan, tickPlan, auditPlan}
+use Rattle.card.specs.Session.{Request, plan, perform}
+use Rattle.card.specs.declared.Port.{Port}
+use Rattle.card.specs.declared.Refusal.{Refusal}
+use Rattle.card.specs.declared.Answer.{Answer}
+use Rattle.card.specs.declared.Answer.the-variants.{Refused, Done, Value}
+use Rattle.card.specs.declared.Call.{Call}
+use Rattle.card.specs.declared.Call.the-variants.{Read, Write, Alloc, Create, Delete, Key, Renew, Force, Free, Tick, Audit}
+use Rattle.guarantees.specs.Judged.{judge-cases}
+
+-- A result that leaves the card and the lent buffers as they were.
+pub record Unchanged (c : Card) (lent : Buffers) (result : Result) : Type 0 where
+  pub after : result .after ≡ c
+  pub out : result .out ≡ lent .out
+  pub places : result .places ≡ lent .places
+
+abbrev isDone : Answer → Bool
+isDone (Refused r) = false
+isDone Done = true
+isDone (Value v) = true
+
+-- What a plan answers is never a refusal.
+plan-done : (port : Port) (c : Card) (call : Call) (lent : Buffers) → isDone (plan port c call lent .answer) ≡ true
+unfolding plan readPlan writePlan allocPlan createPlan deletePlan keyPlan renewPlan forcePlan freePlan tickPlan auditPlan
+plan-done port c (Read o) lent = refl
+plan-done port c (Write o) lent = refl
+plan-done port c (Alloc o) lent = refl
+plan-done port c (Create o) lent = refl
+plan-done port c (Delete o) lent = refl
+plan-done port c (Key o) lent = refl
+plan-done port c (Renew o) lent = refl
+plan-done port c (Force o) lent = refl
+plan-done port c Free lent = refl
+plan-done port c (Tick o) lent = refl
+plan-done port c Audit lent = refl
+
+-- Document 01, "A refusal returns its number and changes no table, record or buffer."
+pub refusal-unchanged : (port : Port) (c : Card) (q : Request) (r : Refusal) → perform port c q .answer ≡ Refused r → Unchanged c (q .lent) (perform port c q)
+unfolding perform settle
+refusal-unchanged port c q r =
+    judge-cases (λ (result : Result). result .answer ≡ Refused r → Unchanged c (q .lent) result) c (q .lent) (plan port c (q .call) (q .lent))
+    (λ s e. record { after = refl; out = refl; places = refl })
+    (λ s h e. absurd-test (plan-done port c (q .call) (q .lent)) (ap isDone e))
+
+-- The same of FORMAT, to which no buffer is lent.
+pub format-unchanged : (blocks roots bytes : ℕ) (c : Card) (r : Refusal) → format blocks roots bytes c .answer ≡ Refused r → format blocks roots bytes c .after ≡ c
+unfolding format formatResult
+format-unchanged blocks roots bytes c r = go (ranges blocks roots bytes && lengths blocks bytes c)
+  where
+    go : (t : Bool) → formatResult t blocks roots bytes c .answer ≡ Refused r → formatResult t blocks roots bytes c .after ≡ c
+    go true e = absurd-test {t = isDone Done} refl (ap isDone e)
+    go false e = refl
