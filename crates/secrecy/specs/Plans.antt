@@ -124,9 +124,14 @@ takeAll-allowed : (G : ℕ → Type 0) (p : Public) (reference : ℕ) (bs : List
 unfolding takeAll changePublic
 takeAll-allowed G p reference [] high used r = tt
 takeAll-allowed G p reference (b ∷ bs) high used r =
-    let f = r .0 in
-    ((f .below, f .unallocated, f .unpointing), ((inr refl, f .below), takeAll-allowed _ (takenOne p reference b) reference bs high (used-added (changePublic (takeBlock b) p) reference b used)
-    (ready-next p reference b used (omega (arith, f .below)) bs (r .1) (r .2))))
+    let f = r .0 in (
+      (f .below, f .unallocated, f .unpointing),
+      (
+        (inr refl, f .below),
+        takeAll-allowed _ (takenOne p reference b) reference bs high (used-added (changePublic (takeBlock b) p) reference b used)
+            (ready-next p reference b used (omega (arith, f .below)) bs (r .1) (r .2)),
+      ),
+    )
 
 -- On a sound card no pointer starts at an unallocated block.
 sound-unpointing : {c : Card} → SoundCard c → (b : ℕ) → allocated (c .public) b ≡ false → Unpointing (c .public) b
@@ -142,13 +147,16 @@ ready : {c : Card} → SoundCard c → (reference : ℕ) → allocated (c .publi
     → all (λ b. ltb b (c .public .info .blocks)) bs ≡ true → all (λ b. not (allocated (c .public) b)) bs ≡ true → Distinct bs → Ready (c .public) reference bs
 ready s reference a [] l u none = tt
 ready {c} s reference a (b ∷ bs) l u (more w d) =
-    let free : allocated (c .public) b ≡ false = not-true _ (all-head (λ x. not (allocated (c .public) x)) b bs u) in
-    (record {
-      below = ltb-true _ _ (all-head (λ x. ltb x (c .public .info .blocks)) b bs l);
-      unallocated = free;
-      unpointing = sound-unpointing s b free;
-      other = λ e. absurd-test a (subst (λ (n : ℕ). allocated (c .public) n ≡ false) (sym e) free);
-    }, w, ready s reference a bs (all-tail (λ x. ltb x (c .public .info .blocks)) b bs l) (all-tail (λ x. not (allocated (c .public) x)) b bs u) d)
+    let free : allocated (c .public) b ≡ false = not-true _ (all-head (λ x. not (allocated (c .public) x)) b bs u) in (
+      record {
+        below = ltb-true _ _ (all-head (λ x. ltb x (c .public .info .blocks)) b bs l);
+        unallocated = free;
+        unpointing = sound-unpointing s b free;
+        other = λ e. absurd-test a (subst (λ (n : ℕ). allocated (c .public) n ≡ false) (sym e) free);
+      },
+      w,
+      ready s reference a bs (all-tail (λ x. ltb x (c .public .info .blocks)) b bs l) (all-tail (λ x. not (allocated (c .public) x)) b bs u) d,
+    )
 
 module _ (K : ℕ → ℕ → Bool) (G : ℕ → Type 0) (c : Card) (s : SoundCard c) (closed : Closed K G c) where
   -- A block that is allocated and opened to a presented credential is in the set.

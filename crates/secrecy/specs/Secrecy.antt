@@ -18,11 +18,12 @@ use Rattle.card.specs.declared.Mode.the-variants.{Reading, Writing}
 use Rattle.card.specs.declared.Port.the-variants.{Host}
 use Rattle.card.specs.declared.Credential.{Credential}
 use Rattle.card.specs.declared.Credential.the-variants.{Nothing, Reference, Key}
+use Rattle.guarantees.specs.KeepsSound.{done-sound}
 use Rattle.secrecy.specs.Closed.{Closed}
 use Rattle.secrecy.specs.Steps.{Alike, Kept}
 use Rattle.secrecy.specs.Opened.{AllPresented}
 use Rattle.secrecy.specs.Plans.{CallPresents}
-use Rattle.secrecy.specs.Sessions.{KeyLink, KeepsSound, AllPresent, both-run, hidden-kept}
+use Rattle.secrecy.specs.Sessions.{KeyLink, KeepsSound, AllPresent, BothRun, both-run, hidden-kept}
 
 -- ---- the statement
 
@@ -94,27 +95,67 @@ module _ (K : ℕ → ℕ → Bool) (c d : Card) (e : c .public ≡ d .public) (
   sealed-same b = rw (presented-same Reading b, presented-same Writing b, e)
 
   reach-same : {b : ℕ} → Reach K d b → Reach K c b
-  reach-same (unsealedRoot {b = b} a r s) = unsealedRoot (rw e a) (rw e r) (sym (sealed-same b) ∙ s)
-  reach-same (byKey {b = b} mode a h) = byKey mode (rw e a) (sym (presented-same mode b) ∙ h)
-  reach-same (openWindow mode a o) = openWindow mode (rw e a) (rw e o)
-  reach-same (pointed {b = b} g a p s) = pointed (reach-same g) (rw e a) (rw e p) (sym (sealed-same b) ∙ s)
+  reach-same (unsealedRoot {b = b} a r s) = unsealedRoot {b = b} (rw e a) (rw e r) (sym (sealed-same b) ∙ s)
+  reach-same (byKey {b = b} mode a h) = byKey {b = b} mode (rw e a) (sym (presented-same mode b) ∙ h)
+  reach-same (openWindow {b = b} mode a o) = openWindow {b = b} mode (rw e a) (rw e o)
+  reach-same (pointed {a = x} {b = b} g a p s) = pointed {a = x} {b = b} (reach-same g) (rw e a) (rw e p) (sym (sealed-same b) ∙ s)
 
 -- A block that is neither hidden nor unallocated cannot fail to be within reach, so contents that agree there agree.
 agree : (K : ℕ → ℕ → Bool) (c : Card) (b : ℕ) (xs ys : List ℕ) → allocated (c .public) b ≡ true → (Hidden K c b → ⊥) → (Reach K c b → xs ≡ ys) → xs ≡ ys
 agree K c b xs ys a visible f =
-    Dec·not-not (List-discrete ℕ-discrete xs ys) (λ n. visible (record { isAllocated = a; outOfReach = λ g. n (f g) }))
+    Dec·not-not (List-discrete ℕ-discrete xs ys) .0 (λ n. visible (record { isAllocated = a; outOfReach = λ g. n (f g) }))
 
--- Demand 3, for any list of a host's calls and any two sound cards.
-module _ (keepsSound : KeepsSound) where
-  pub secrecy-from : (session : List Request) (c d : Card) → SoundCard c → SoundCard d → EqualBut (HiddenOrFree (presented session) c) c d
-      → Secret (presented session) (hostSession session) c d
-  secrecy-from session c d sc sd same =
-      let K = presented session in
-      let calls = hostSession session in
-      let shown = presented-later K session (λ high low h. h) in
-      let start = record {
-            samePublic = same .samePublic;
-            linked = same .sameKeys;
-            sameBlocks = λ b g. same .sameContents b ? ?;
-          } in
-      ?
+reach-allocated : (K : ℕ → ℕ → Bool) (c : Card) {b : ℕ} → Reach K c b → allocated (c .public) b ≡ true
+reach-allocated K c (unsealedRoot a r s) = a
+reach-allocated K c (byKey mode a h) = a
+reach-allocated K c (openWindow mode a o) = a
+reach-allocated K c (pointed g a p s) = a
+
+-- Two such cards agree on the blocks within reach.
+start : (K : ℕ → ℕ → Bool) (c d : Card) → EqualBut (HiddenOrFree K c) c d → Alike (λ p ks ls. ks ≡ ls) (Reach K c) c d
+start K c d same = record {
+  samePublic = same .samePublic;
+  linked = same .sameKeys;
+  sameBlocks = λ b g.
+      same .sameContents b (allocated-below (c .public) b (reach-allocated K c g))
+      (λ h. ⊎-elim (λ (hidden : Hidden K c b). hidden .outOfReach g) (λ free. absurd-test (reach-allocated K c g) free) h);
+}
+
+keepsSound : KeepsSound
+keepsSound c q s = done-sound Host c q s
+
+module _ (session : List Request) (c d : Card) (sc : SoundCard c) (sd : SoundCard d) (same : EqualBut (HiddenOrFree (presented session) c) c d) where
+  abbrev K : ℕ → ℕ → Bool
+  K = presented session
+
+  abbrev calls : List Sent
+  calls = hostSession session
+
+  -- Every key that the session presents.
+  shown : AllPresent K session
+  shown = presented-later K session (λ high low h. h)
+
+  run : BothRun K (λ p ks ls. ks ≡ ls) (Reach K c) c d session
+  run = both-run K (λ p ks ls. ks ≡ ls) (equal-keys K) keepsSound session (Reach K c) c d sc sd (reach-closed K c) (start K c d same) shown
+
+  same-after : (b : ℕ) → (HiddenOrStillFree K c (afterAll c calls) b → ⊥) → (s e : Bool) → allocated (c .public) b ≡ s → allocated (afterAll c calls .public) b ≡ e
+      → block (afterAll c calls) b ≡ block (afterAll d calls) b
+  same-after b n true e p q = agree K c b _ _ p (λ h. n (inl h)) (λ g. run .next .alike .sameBlocks b (run .next .larger b g))
+  same-after b n false true p q = ⊎-elim (λ g. run .next .alike .sameBlocks b g) (λ a. absurd-test a p) (run .next .new b q)
+  same-after b n false false p q = absurd (n (inr (p, q)))
+
+  -- Demand 3: any list of a host's calls, refused ones included, and any two sound cards that are equal but for the contents of hidden and
+  -- unallocated blocks. Hidden is judged on the starting card, with the keys presented anywhere in the list.
+  pub secrecy : Secret (presented session) (hostSession session) c d
+  secrecy = record {
+    answers = run .sameReplies;
+    cards = record {
+      samePublic = run .next .alike .samePublic;
+      sameKeys = run .next .alike .linked;
+      sameContents = λ b l n. same-after b n (allocated (c .public) b) (allocated (afterAll c calls .public) b) refl refl;
+    };
+    kept = λ b h f. hidden-kept K keepsSound b session (Reach K c) c sc (reach-closed K c) shown (h .isAllocated) (h .outOfReach) f;
+    keptOnOther = λ b h f.
+        hidden-kept K keepsSound b session (Reach K d) d sd (reach-closed K d) shown (rw (← same .samePublic) (h .isAllocated))
+        (λ g. h .outOfReach (reach-same K c d (same .samePublic) (same .sameKeys) g)) f;
+  }
