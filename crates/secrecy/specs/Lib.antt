@@ -4,3 +4,4 @@ pub mod Opened
 pub mod Plans
 pub mod Sessions
 pub mod Secrecy
+pub mod Example

@@ -105,7 +105,7 @@ agree : (K : ℕ → ℕ → Bool) (c : Card) (b : ℕ) (xs ys : List ℕ) → a
 agree K c b xs ys a visible f =
     Dec·not-not (List-discrete ℕ-discrete xs ys) .0 (λ n. visible (record { isAllocated = a; outOfReach = λ g. n (f g) }))
 
-reach-allocated : (K : ℕ → ℕ → Bool) (c : Card) {b : ℕ} → Reach K c b → allocated (c .public) b ≡ true
+pub reach-allocated : (K : ℕ → ℕ → Bool) (c : Card) {b : ℕ} → Reach K c b → allocated (c .public) b ≡ true
 reach-allocated K c (unsealedRoot a r s) = a
 reach-allocated K c (byKey mode a h) = a
 reach-allocated K c (openWindow mode a o) = a

@@ -1,0 +1,226 @@
+-- The theorem on secrecy is not empty: two sound cards that differ in hidden blocks, and a session with done calls that frees one of them.
+-- Assumes nothing.
+use Prim.Native.Nat.{ℕ, zero, suc, _+_, _*_, _≤_, _<_}
+use mathlib.Core.Path.{_≡_, refl, sym, ap, ap₂, _∙_, subst}
+use mathlib.Core.Logic.{_⊎_, inl, inr, ⊎-elim}
+use mathlib.Core.Bool.{Bool, true, false, _&&_, _||_, not, true≢false}
+use mathlib.Core.List.{List, [], _∷_, map}
+use native.Mathlib.Omega.{arith}
+use lib.Dec.{eqb, ltb, leb}
+use lib.ListN.{getD, replicate}
+use borrow.Author.Tests.{not-true, not-false, eqb-true}
+use Rattle.card.specs.Lists.{every, allBelow}
+use Rattle.card.specs.ListsLaws.{and-left, and-right, and-true, or-else, or-false, false-unless, absurd-test, not-cases, every-true, allBelow-true}
+use Rattle.card.specs.Contents.{fill}
+use Rattle.card.specs.Card.{Card, allocated, hasKey, isRoot, windowOpen, pointsTo, block}
+use Rattle.card.specs.Soundness.{shape, sound}
+use Rattle.card.specs.SoundnessLaws.{SoundCard, shape-true, sound-true, allocated-below}
+use Rattle.card.specs.Session.{Request, Sent, performed, afterAll, reports, hostSession}
+use Rattle.card.specs.Reach.{shows, presents, presented, keyPresented, sealed, Reach, unsealedRoot, byKey, openWindow, pointed, Hidden, takesLast, isOne, lastTaken}
+use Rattle.card.specs.Trials.{rules, playerCard, send, read, writeAll, alloc, delete, key, free, lending}
+use Rattle.card.specs.declared.Mode.{Mode}
+use Rattle.card.specs.declared.Mode.the-variants.{Reading, Writing}
+use Rattle.card.specs.declared.Port.the-variants.{Host, Service}
+use Rattle.card.specs.declared.Credential.the-variants.{Nothing, Reference, Key as KeyCredential}
+use Rattle.card.specs.declared.NewKey.the-variants.{Absent, Present}
+use Rattle.card.specs.declared.Call.{Call}
+use Rattle.card.specs.declared.Call.the-variants.{Read, Write, Delete, Free}
+use Rattle.secrecy.specs.Secrecy.{EqualBut, HiddenOrFree, reach-allocated}
+
+-- ---- a test that bounds what is within reach
+
+-- The blocks that the test names satisfy the four rules of reach, so no other block is within reach.
+unfoldable pub bounds : (ℕ → ℕ → Bool) → Card → (ℕ → Bool) → Bool
+bounds K c test =
+    allBelow
+    (λ b.
+    not (allocated (c .public) b)
+    || test b
+    || every
+    (not (isRoot (c .public) b && not (sealed K c b))
+    ∷ not (keyPresented K c Reading b)
+    ∷ not (keyPresented K c Writing b)
+    ∷ not (windowOpen (c .public) Reading b)
+    ∷ not (windowOpen (c .public) Writing b)
+    ∷ allBelow (λ a. not (test a && (pointsTo (c .public) a b && not (sealed K c b)))) (c .public .info .blocks)
+    ∷ []))
+    (c .public .info .blocks)
+
+module _ (K : ℕ → ℕ → Bool) (c : Card) (test : ℕ → Bool) (h : bounds K c test ≡ true) where
+  abbrev rest : ℕ → List Bool
+  rest b =
+      not (isRoot (c .public) b && not (sealed K c b))
+      ∷ not (keyPresented K c Reading b)
+      ∷ not (keyPresented K c Writing b)
+      ∷ not (windowOpen (c .public) Reading b)
+      ∷ not (windowOpen (c .public) Writing b)
+      ∷ allBelow (λ a. not (test a && (pointsTo (c .public) a b && not (sealed K c b)))) (c .public .info .blocks)
+      ∷ []
+
+  -- An allocated block that the test does not name passes the rest.
+  passes : (b : ℕ) → allocated (c .public) b ≡ true → test b ≡ false → every (rest b) ≡ true
+  unfolding bounds
+  passes b a f =
+      or-else (not (allocated (c .public) b) || test b) (every (rest b))
+      (allBelow-true (λ b. not (allocated (c .public) b) || test b || every (rest b)) (c .public .info .blocks) h b (allocated-below (c .public) b a))
+      (or-false _ _ (ap not a) f)
+
+  named : (b : ℕ) → allocated (c .public) b ≡ true → (test b ≡ false → ⊥) → test b ≡ true
+  named b a n = ⊎-elim (λ e. e) (λ f. absurd (n f)) (not-cases (test b))
+
+  by-keys : (mode : Mode) (b : ℕ) → allocated (c .public) b ≡ true → test b ≡ false → keyPresented K c mode b ≡ false
+  by-keys Reading b a f = not-true _ (every-true (rest b) (passes b a f) .1 .0)
+  by-keys Writing b a f = not-true _ (every-true (rest b) (passes b a f) .1 .1 .0)
+
+  by-windows : (mode : Mode) (b : ℕ) → allocated (c .public) b ≡ true → test b ≡ false → windowOpen (c .public) mode b ≡ false
+  by-windows Reading b a f = not-true _ (every-true (rest b) (passes b a f) .1 .1 .1 .0)
+  by-windows Writing b a f = not-true _ (every-true (rest b) (passes b a f) .1 .1 .1 .1 .0)
+
+  reach-inside : {b : ℕ} → Reach K c b → test b ≡ true
+  reach-inside (unsealedRoot {b = b} a r s) =
+      named b a (λ f. absurd-test (and-true _ _ r (ap not s)) (not-true _ (every-true (rest b) (passes b a f) .0)))
+  reach-inside (byKey {b = b} mode a k) = named b a (λ f. absurd-test k (by-keys mode b a f))
+  reach-inside (openWindow {b = b} mode a o) = named b a (λ f. absurd-test o (by-windows mode b a f))
+  reach-inside (pointed {a = x} {b = b} g a p s) =
+      named b a
+      (λ f.
+      absurd-test (and-true _ _ (reach-inside g) (and-true _ _ p (ap not s)))
+      (not-true _
+      (allBelow-true (λ a. not (test a && (pointsTo (c .public) a b && not (sealed K c b)))) (c .public .info .blocks)
+      (every-true (rest b) (passes b a f) .1 .1 .1 .1 .1 .0) x (allocated-below (c .public) x (reach-allocated K c g)))))
+
+-- ---- two cards
+
+-- Block 1 has keys that the session presents. It points to blocks 2 and 3, which have other keys: they are sealed.
+abbrev sealedBlocks : List Sent
+sealedBlocks =
+    alloc Service 0 65535 1
+    ∷ alloc Service 1 65535 2
+    ∷ key Service 1 (Present 1 2) (Present 3 4)
+    ∷ key Service 2 (Present 5 6) (Present 7 8)
+    ∷ key Service 3 (Present 5 6) (Present 7 8)
+    ∷ []
+
+unfoldable pub prepared : Card
+prepared = afterAll playerCard sealedBlocks
+
+-- That card with one byte all over blocks 2 and 3.
+abbrev pub cardWith : ℕ → Card
+cardWith byte = record {
+  public = prepared .public;
+  keys = prepared .keys;
+  contents = fill 512 (fill 512 (prepared .contents) 2 (replicate 512 byte)) 3 (replicate 512 byte);
+}
+
+-- ---- a session
+
+abbrev request : Call → Request
+request call = record { call = call; lent = lending [] }
+
+-- Block 1 is read and written by its keys, block 3 is asked for in vain, and a DELETE frees block 2.
+unfoldable pub session : List Request
+session =
+    request (Read (record { block = 1; credential = KeyCredential 1 2; interval = 10 }))
+    ∷ record { call = Write (record { block = 1; credential = KeyCredential 3 4; interval = 10 }); lent = lending (replicate 512 9) }
+    ∷ request (Read (record { block = 3; credential = Reference 1; interval = 0 }))
+    ∷ request (Delete (record { source = 1; credential = KeyCredential 3 4; destination = 2 }))
+    ∷ request (Read (record { block = 1; credential = KeyCredential 1 2; interval = 0 }))
+    ∷ request Free
+    ∷ []
+
+-- ---- what is computed of them
+
+-- The blocks that are within reach at most: the root and block 1.
+abbrev isOpen : ℕ → Bool
+isOpen b = leb b 1
+
+sameList : List ℕ → List ℕ → Bool
+sameList [] [] = true
+sameList [] (y ∷ ys) = false
+sameList (x ∷ xs) [] = false
+sameList (x ∷ xs) (y ∷ ys) = eqb x y && sameList xs ys
+
+sameList-true : (xs ys : List ℕ) → sameList xs ys ≡ true → xs ≡ ys
+unfolding sameList
+sameList-true [] [] e = refl
+sameList-true [] (y ∷ ys) e = absurd-test {t = false} e refl
+sameList-true (x ∷ xs) [] e = absurd-test {t = false} e refl
+sameList-true (x ∷ xs) (y ∷ ys) e = ap₂ _∷_ (eqb-true x y (and-left _ _ e)) (sameList-true xs ys (and-right (eqb x y) _ e))
+
+module _ (byte : ℕ) where
+  abbrev computed : List Bool
+  computed =
+      shape (cardWith byte)
+      ∷ sound (cardWith byte)
+      ∷ bounds (presented session) (cardWith byte) isOpen
+      ∷ allocated (cardWith byte .public) 2
+      ∷ allocated (cardWith byte .public) 3
+      ∷ lastTaken (cardWith byte) (hostSession session) 2
+      ∷ not (lastTaken (cardWith byte) (hostSession session) 3)
+      ∷ []
+
+-- Each block but 2 and 3 has the same contents on both, or is unallocated.
+agreeing : Bool
+agreeing =
+    allBelow (λ b. eqb b 2 || eqb b 3 || sameList (block (cardWith 5) b) (block (cardWith 6) b)) 16
+
+computed-5 : every (computed 5) ≡ true
+unfolding rules playerCard prepared session afterAll presented presents shows keyPresented sealed bounds takesLast isOne lastTaken
+computed-5 = refl
+
+computed-6 : every (computed 6) ≡ true
+unfolding rules playerCard prepared session afterAll presented presents shows keyPresented sealed bounds takesLast isOne lastTaken
+computed-6 = refl
+
+agreeing-true : agreeing ≡ true
+unfolding rules playerCard prepared session afterAll agreeing sameList
+agreeing-true = refl
+
+-- ---- the example
+
+-- What the session reports, on the one card; by the theorem on the other too.
+pub reported : reports (cardWith 5) (hostSession session)
+    ≡ (0 ∷ replicate 8 0) ∷ (0 ∷ []) ∷ (5 ∷ []) ∷ (0 ∷ 1 ∷ []) ∷ (0 ∷ replicate 8 9) ∷ (0 ∷ 13 ∷ []) ∷ []
+unfolding rules playerCard prepared session afterAll
+reported = refl
+
+-- The contents of block 3 differ.
+pub contents-differ : block (cardWith 5) 3 ≡ block (cardWith 6) 3 → ⊥
+unfolding rules playerCard prepared afterAll
+contents-differ e = let z : _≡_ {A = ℕ} 5 6 = ap (λ (xs : List ℕ). getD xs 0 0) e in absurd (omega arith)
+
+module _ (byte : ℕ) (h : every (computed byte) ≡ true) where
+  is-sound : SoundCard (cardWith byte)
+  is-sound = record { shaped = shape-true _ (every-true (computed byte) h .0); isSound = sound-true _ (every-true (computed byte) h .1 .0) }
+
+  out-of-reach : (b : ℕ) → isOpen b ≡ false → Reach (presented session) (cardWith byte) b → ⊥
+  out-of-reach b e g = absurd-test (reach-inside (presented session) (cardWith byte) isOpen (every-true (computed byte) h .1 .1 .0) g) e
+
+  hidden-2 : Hidden (presented session) (cardWith byte) 2
+  hidden-2 = record { isAllocated = every-true (computed byte) h .1 .1 .1 .0; outOfReach = out-of-reach 2 refl }
+
+  hidden-3 : Hidden (presented session) (cardWith byte) 3
+  hidden-3 = record { isAllocated = every-true (computed byte) h .1 .1 .1 .1 .0; outOfReach = out-of-reach 3 refl }
+
+-- Two sound cards with the hidden blocks 2 and 3, equal but for these.
+pub sound-cards : SoundCard (cardWith 5) × SoundCard (cardWith 6)
+sound-cards = (is-sound 5 computed-5, is-sound 6 computed-6)
+
+pub hidden-blocks : Hidden (presented session) (cardWith 5) 2 × Hidden (presented session) (cardWith 5) 3
+hidden-blocks = (hidden-2 5 computed-5, hidden-3 5 computed-5)
+
+pub equal-but : EqualBut (HiddenOrFree (presented session) (cardWith 5)) (cardWith 5) (cardWith 6)
+unfolding rules playerCard prepared afterAll agreeing
+equal-but = record {
+  samePublic = refl;
+  sameKeys = refl;
+  sameContents = λ b l n.
+      let test = allBelow-true (λ b. eqb b 2 || eqb b 3 || sameList (block (cardWith 5) b) (block (cardWith 6) b)) 16 agreeing-true b l in
+      let not-2 : eqb b 2 ≡ false = false-unless _ (λ e. n (inl (subst (Hidden (presented session) (cardWith 5)) (sym (eqb-true b 2 e)) (hidden-2 5 computed-5)))) in
+      let not-3 : eqb b 3 ≡ false = false-unless _ (λ e. n (inl (subst (Hidden (presented session) (cardWith 5)) (sym (eqb-true b 3 e)) (hidden-3 5 computed-5)))) in
+      sameList-true (block (cardWith 5) b) (block (cardWith 6) b) (or-else (eqb b 2 || eqb b 3) _ test (or-false _ _ not-2 not-3));
+}
+
+-- The session takes block 2's last pointer away and leaves block 3's.
+pub last-taken : (lastTaken (cardWith 5) (hostSession session) 2 ≡ true) × (lastTaken (cardWith 5) (hostSession session) 3 ≡ false)
+last-taken = (every-true (computed 5) computed-5 .1 .1 .1 .1 .1 .0, not-true _ (every-true (computed 5) computed-5 .1 .1 .1 .1 .1 .1 .0))
