@@ -11,6 +11,7 @@ pub mod Access
 pub mod Plan
 pub mod PlanLaws
 pub mod Calls
+pub mod Promises
 pub mod Session
 pub mod Reach
 pub mod Trials

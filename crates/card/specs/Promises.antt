@@ -1,0 +1,35 @@
+-- What the contracts of the calls cite: an answer, a card and two buffers are what a rule says.
+use Prim.Native.Nat.{ℕ}
+use mathlib.Core.Path.{_≡_, refl, sym, ap, _∙_, subst}
+use mathlib.Core.List.{List}
+use Rattle.card.specs.Card.{Card}
+use Rattle.card.specs.Plan.{Plan, Buffers, Result, refused, done, outAfter, placesAfter, changes, judge, judgeSound}
+use Rattle.card.specs.PlanLaws.{FirstHolds, NoneHolds, refused-by, done-by}
+use Rattle.card.specs.declared.Refusal.{Refusal}
+use Rattle.card.specs.declared.Answer.{Answer}
+use Rattle.card.specs.declared.Answer.the-variants.{Refused}
+
+-- The answer, the card that is left and the buffers that may be written are those of the result.
+pub record Is (want : Result) (answer : Answer) (after : Card) (out places : List ℕ) : Type 0 where
+  pub answers : answer ≡ want .answer
+  pub leaves : after ≡ want .after
+  pub fillsOut : out ≡ want .out
+  pub fillsPlaces : places ≡ want .places
+
+-- What is a result is an equal one.
+pub is-same : {want other : Result} {answer : Answer} {after : Card} {out places : List ℕ} → other ≡ want → Is want answer after out places → Is other answer after out places
+is-same e i = record {
+  answers = i .answers ∙ ap (λ (r : Result). r .answer) (sym e);
+  leaves = i .leaves ∙ ap (λ (r : Result). r .after) (sym e);
+  fillsOut = i .fillsOut ∙ ap (λ (r : Result). r .out) (sym e);
+  fillsPlaces = i .fillsPlaces ∙ ap (λ (r : Result). r .places) (sym e);
+}
+
+module _ (c : Card) (lent : Buffers) (plan : Plan) where
+  -- A refusal leaves the card and the buffers as they were.
+  pub is-refused : {r : Refusal} → FirstHolds (plan .checks) r → Is (judgeSound c lent plan) (Refused r) c (lent .out) (lent .places)
+  is-refused h = is-same (refused-by c lent plan h) (record { answers = refl; leaves = refl; fillsOut = refl; fillsPlaces = refl })
+
+  pub is-done : {after : Card} {out places : List ℕ} → NoneHolds (plan .checks) → after ≡ changes c (plan .steps) → out ≡ outAfter c (plan .shown) (lent .out)
+      → places ≡ placesAfter (plan .shown) (lent .places) → Is (judgeSound c lent plan) (plan .answer) after out places
+  is-done h a o p = is-same (done-by c lent plan h) (record { answers = refl; leaves = a; fillsOut = o; fillsPlaces = p })
