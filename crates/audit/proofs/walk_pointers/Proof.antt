@@ -1,78 +1,65 @@
+-- `audit::walk_pointers` tests the pointers in use and tallies them. The invariant is that of the walk with its tally. Assumes nothing.
+use borrow.Author.Needs.{needs}
+use native.Mathlib.Omega.{arith}
+use Prim.Native.Nat.{_-_}
+use mathlib.Core.Logic.{⊎-elim}
+use Rattle.audit.proofs.Tallying.{WalkingAt, walk-none, placed, room, walk-more, walk-fault, walk-whole}
 use Rattle.audit.proofs.walk_pointers.Statement.{statement}
 use Rattle.audit.proofs.walk_pointers.Tie as tie
-use Rattle.audit.proofs.walk_pointers.Reads as reads
-use Rattle.audit.proofs.walk_pointers.Lts as lts
-use Rattle.audit.proofs.pointer_right.Reads as pointer-right-reads
 
 abbrev Inv-walk : tie.InvT-walk
-Inv-walk info flags pointers tally₀ used least₀ i₀ tally least i = ?
+Inv-walk info flags pointers tally₀ used least₀ i₀ tally least i = WalkingAt info flags pointers tally least i
 
 abbrev μ-walk : tie.MeasureT-walk
-μ-walk info flags pointers tally₀ used least₀ i₀ tally least i = ?
+μ-walk info flags pointers tally₀ used least₀ i₀ tally least i = info .used - i
 
--- src/lib.rt:109:5
 walk-holds : tie.Need-walk-holds Inv-walk μ-walk
-walk-holds c = ?
+walk-holds c = walk-none (c .before .before .pre .0) _ (c .before .before .pre .1)
 
--- src/lib.rt:110:17
 mul-w : tie.Need-mul-w Inv-walk μ-walk
-mul-w c = ?
+mul-w c = search needs
 
--- src/lib.rt:110:17
 shared-slice-read-w : tie.Need-shared-slice-read-w Inv-walk μ-walk
-shared-slice-read-w c = ?
+shared-slice-read-w c = search needs
 
--- src/lib.rt:111:12
 pointer-right-requires : tie.Need-pointer-right-requires Inv-walk μ-walk
-pointer-right-requires c κs = ?
+pointer-right-requires c κs = search needs
 
--- src/lib.rt:111:54
 cast-if1 : tie.Need-cast-if1 Inv-walk μ-walk
-cast-if1 c = ?
+cast-if1 c = omega (arith, c .before .shared-slice-known3 .given (c .before .before .before .walk .i))
 
--- src/lib.rt:112:31
 cast-destination : tie.Need-cast-destination Inv-walk μ-walk
-cast-destination c = ?
+cast-destination c = search needs
 
--- src/lib.rt:113:13
 mul-tally : tie.Need-mul-tally Inv-walk μ-walk
-mul-tally c = ?
+mul-tally c = omega arith
 
--- src/lib.rt:113:13
 element-copy-out-tally : tie.Need-element-copy-out-tally Inv-walk μ-walk
-element-copy-out-tally c = ?
+element-copy-out-tally c = placed (c .before .before .before .before .before .before .before .pre .0) _ _ _ (c .before .pointer-right .ensures) (c .if1 .taken)
 
--- src/lib.rt:113:13
 add-tally : tie.Need-add-tally Inv-walk μ-walk
-add-tally c = ?
+add-tally c = omega (arith, room (c .before .before .before .before .before .before .before .before .pre .0) (c .before .before .before .before .before .walk .inv) _ (placed (c .before .before .before .before .before .before .before .before .pre .0) _ _ _ (c .before .before .pointer-right .ensures) (c .before .if1 .taken)) (c .before .before .before .before .walk-test .taken))
 
--- src/lib.rt:113:13
 element-write-tally : tie.Need-element-write-tally Inv-walk μ-walk
-element-write-tally c = ?
+element-write-tally c = placed (c .before .before .before .before .before .before .before .before .pre .0) _ _ _ (c .before .before .pointer-right .ensures) (c .before .if1 .taken)
 
--- src/lib.rt:114:21
 cast-least : tie.Need-cast-least Inv-walk μ-walk
-cast-least c = ?
+cast-least c = omega (arith, c .before .before .before .shared-slice-known3 .given (c .before .before .before .before .before .walk .i))
 
--- src/lib.rt:114:21
 add-least : tie.Need-add-least Inv-walk μ-walk
-add-least c = ?
+add-least c = omega (arith, c .before .before .before .shared-slice-known3 .given (c .before .before .before .before .before .walk .i))
 
--- src/lib.rt:115:13
 add-i : tie.Need-add-i Inv-walk μ-walk
-add-i c = ?
+add-i c = search needs
 
--- src/lib.rt:109:5
 walk-less : tie.Need-walk-less Inv-walk μ-walk
-walk-less c = ?
+walk-less c = search needs
 
--- src/lib.rt:109:5
 walk-again : tie.Need-walk-again Inv-walk μ-walk
-walk-again c = ?
+walk-again c = walk-more (c .before .before .before .before .before .before .before .before .pre .0) (c .before .before .before .before .before .walk .inv) _ (c .before .before .pointer-right .ensures) (c .before .before .before .before .walk-test .taken) (c .before .if1 .taken)
 
--- src/lib.rt:102:1
 returns : tie.Need-returns Inv-walk μ-walk
-returns c = ?
+returns c = let fit = c .before .before .before .before .pre .0 in let h = c .before .walk .inv in ⊎-elim (λ w. walk-whole fit h (w .left)) (λ w. walk-fault fit h _ (w .2 .ensures) (w .0 .taken) (w .3 .left)) (c .walk-test .came)
 
 pub walk-pointers-spec : {M : Type 1} → statement M
 walk-pointers-spec =
