@@ -47,7 +47,7 @@ left-more {p} {ws} {from} {i} h l e =
     record { most = omega arith; rest = rw add-one ((rw (drop-cons ws i 0 l, e) at (h .rest))) }
 
 pub left-fault : {p : ℕ → Bool} {ws : List ℕ} {from i : ℕ} → Left p ws from i → i < length ws → p (getD ws i 0) ≡ false
-  → eqb i (length ws) ≡ all p (drop from ws)
+    → eqb i (length ws) ≡ all p (drop from ws)
 unfolding all
 left-fault {p} {ws} {from} {i} h l e = ne-eqb i (length ws) (λ z. omega arith) ∙ (rw (drop-cons ws i 0 l, e) at (h .rest))
 

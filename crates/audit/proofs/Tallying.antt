@@ -50,8 +50,8 @@ bumped tally d b l =
     (not-cases (eqb d b))
 
 pub walking-more : {right : ℕ → Bool} {ws tally : List ℕ} {least i : ℕ} (w : ℕ) → Walking right ws tally least i → i < length ws → w ≡ getD ws i 0
-  → right w && leb least w ≡ true → destination w < 4096
-  → Walking right ws (set tally (destination w) (getD tally (destination w) 0 + 1)) (w + 1) (i + 1)
+    → right w && leb least w ≡ true → destination w < 4096
+    → Walking right ws (set tally (destination w) (getD tally (destination w) 0 + 1)) (w + 1) (i + 1)
 unfolding passes pointersTo
 walking-more {right} {ws} {tally} {least} {i} w h l q e d =
     let here : drop i ws ≡ w ∷ drop (suc i) ws = rw q (drop-cons ws i 0 l) in
@@ -65,7 +65,7 @@ walking-more {right} {ws} {tally} {least} {i} w h l q e d =
     }
 
 pub walking-fault : {right : ℕ → Bool} {ws tally : List ℕ} {least i : ℕ} (w : ℕ) → Walking right ws tally least i → i < length ws → w ≡ getD ws i 0
-  → right w && leb least w ≡ false → passes right 0 ws ≡ false
+    → right w && leb least w ≡ false → passes right 0 ws ≡ false
 unfolding passes
 walking-fault {right} {ws} {tally} {least} {i} w h l q e = sym (rw (drop-cons ws i 0 l, ← q, e) at (h .rest))
 
@@ -74,7 +74,7 @@ unfolding passes
 walking-whole {right} {ws} {tally} {least} {i} h l = sym (rw (drop-of-length-le ws l) at (h .rest))
 
 pub walking-tallied : {right : ℕ → Bool} {ws tally : List ℕ} {least i : ℕ} → Walking right ws tally least i → length ws ≤ i
-  → (b : ℕ) → b < 4096 → getD tally b 0 ≡ pointersTo b ws
+    → (b : ℕ) → b < 4096 → getD tally b 0 ≡ pointersTo b ws
 unfolding pointersTo
 walking-tallied {right} {ws} {tally} {least} {i} h l b m = omega (arith, rw (drop-of-length-le ws l) at (h .tallied b m))
 
@@ -106,14 +106,14 @@ module _ {info : Info} {flags ps : List ℕ} (fit : PointersFit info flags ps) w
 
     module _ (r : Bool) (q : r ≡ pointerRight (pointing info flags []) (getD ps i 0)) (l : i < info .used) where
       pub walk-more : r && leb least (getD ps i 0) ≡ true
-        → WalkingAt info flags ps (set tally (destination (getD ps i 0)) (getD tally (destination (getD ps i 0)) 0 + 1)) (getD ps i 0 + 1) (i + 1)
+          → WalkingAt info flags ps (set tally (destination (getD ps i 0)) (getD tally (destination (getD ps i 0)) 0 + 1)) (getD ps i 0 + 1) (i + 1)
       walk-more e =
           walking-more (getD ps i 0) h (in-use l) (sym (getD-take (info .used) ps i 0 l)) (rw (← same-right info flags ps (getD ps i 0), ← q) e) (placed (getD ps i 0) r _ q e)
 
       pub walk-fault : r && leb least (getD ps i 0) ≡ false → PointersWalked (pointing info flags ps) (eqb i (info .used)) tally
       walk-fault e =
           let f : passes (λ w. pointerRight (pointing info flags ps) w) 0 (take (info .used) ps) ≡ false =
-            walking-fault (getD ps i 0) h (in-use l) (sym (getD-take (info .used) ps i 0 l)) (rw (← same-right info flags ps (getD ps i 0), ← q) e) in
+          walking-fault (getD ps i 0) h (in-use l) (sym (getD-take (info .used) ps i 0 l)) (rw (← same-right info flags ps (getD ps i 0), ← q) e) in
           rw (ne-eqb i (info .used) (λ z. omega arith)) (record { passed = sym f; tallied = λ t. absurd-test t refl })
 
     pub walk-whole : info .used ≤ i → PointersWalked (pointing info flags ps) (eqb i (info .used)) tally

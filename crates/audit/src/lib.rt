@@ -1,6 +1,5 @@
 // The audit: shape and soundness of any record and tables, linear in blocks and places.
 ghost use mathlib.Core.Path.{_≡_};
-ghost use mathlib.Core.Bool.{true, cond};
 ghost use mathlib.Core.List.{[]};
 ghost use Prim.Native.Nat.{_<_, _≤_};
 ghost use lib.ListN.{length, drop, getD, replicate};
@@ -8,9 +7,8 @@ ghost use lib.Dec.{eqb};
 ghost use Rattle.card.specs.Lists.{all, allBelow};
 ghost use Rattle.card.specs.Card.{card, allocated};
 ghost use Rattle.card.specs.Soundness.{ranges, shape, pointerRight, sound, verdict};
-ghost use Rattle.card.specs.SoundnessLaws.{InRanges, Shaped};
+ghost use Rattle.card.specs.SoundnessLaws.{InRanges};
 ghost use Rattle.audit.specs.Walks.{pointing, rowed, blockSound, PointersFit, RowsFit, PointersWalked, judged};
-
 use card::Info;
 use card::Verdict;
 
@@ -26,8 +24,7 @@ fn in_ranges(blocks: usize, roots: usize, bytes: usize) -> bool
     (16 <= blocks)
         & ((blocks <= 4096)
             & ((1 <= roots)
-                & ((roots <= 8)
-                    & ((512 <= bytes) & ((bytes <= 65536) & (65536 % bytes == 0))))))
+                & ((roots <= 8) & ((512 <= bytes) & ((bytes <= 65536) & (65536 % bytes == 0))))))
 }
 
 fn has_lengths(
@@ -208,10 +205,9 @@ fn walk(
     counts: &[u16],
     pointers: &[u32],
     windows: &[u64],
-    contents: &[u8],
 ) -> Verdict
-    requires { ⌜ Shaped (card info (now flags) (now keys) (now counts) (now pointers) (now windows) (now contents)) ⌝ }
-    ensures { λ r. ⌜ r ≡ judged (sound (card info (now (flags .entry)) (now (keys .entry)) (now (counts .entry)) (now (pointers .entry)) (now (windows .entry)) (now (contents .entry)))) ⌝ }
+    requires { ⌜ PointersFit info (now flags) (now pointers) ⌝ ∗ ⌜ RowsFit info (now flags) (now keys) (now counts) (now windows) ⌝ }
+    ensures { λ r. ⌜ r ≡ judged (sound (card info (now (flags .entry)) (now (keys .entry)) (now (counts .entry)) (now (pointers .entry)) (now (windows .entry)) [])) ⌝ }
 {
     let mut tally = [0u16; 4096];
     if walk_pointers(info, flags, pointers, &mut tally) {
@@ -237,7 +233,7 @@ pub fn audit(
     ensures { λ r. ⌜ r ≡ verdict (card info (now (flags .entry)) (now (keys .entry)) (now (counts .entry)) (now (pointers .entry)) (now (windows .entry)) (now (contents .entry))) ⌝ }
 {
     if shaped(info, flags, keys, counts, pointers, windows, contents) {
-        walk(info, flags, keys, counts, pointers, windows, contents)
+        walk(info, flags, keys, counts, pointers, windows)
     } else {
         Verdict::Misshapen
     }

@@ -1,26 +1,21 @@
+-- `audit::audit` is the verdict of the definition. Assumes nothing.
 use borrow.Author.Needs.{needs}
+use Rattle.card.specs.Card.{card}
+use Rattle.audit.proofs.Whole.{shaped-fit, shaped-verdict, misshapen-verdict}
 use Rattle.audit.proofs.audit.Statement.{statement}
 use Rattle.audit.proofs.audit.Tie as tie
-use Rattle.audit.proofs.audit.Reads as reads
-use Rattle.audit.proofs.audit.Lts as lts
-use Rattle.audit.proofs.shaped.Reads as shaped-reads
-use Rattle.audit.proofs.walk.Reads as walk-reads
 
--- src/lib.rt:239:8
 shaped-requires : tie.Need-shaped-requires
 shaped-requires c κs = search needs
 
--- src/lib.rt:240:9
 walk-requires : tie.Need-walk-requires
-walk-requires c κs = ?
+walk-requires c κs = let a = c .before .before .before .before .before .before .before .before .args in let k = card (a .info) (a .flags .now) (a .keys .now) (a .counts .now) (a .pointers .now) (a .windows .now) (a .contents .now) in shaped-fit k _ (c .before .shaped .ensures) (c .if1 .taken)
 
--- src/lib.rt:228:1
 returns : tie.Need-returns
-returns c = ?
+returns c = let a = c .before .before .before .before .before .before .before .before .before .args in let k = card (a .info) (a .flags .now) (a .keys .now) (a .counts .now) (a .pointers .now) (a .windows .now) (a .contents .now) in shaped-verdict k _ (c .before .before .shaped .ensures) _ (c .before .if1 .taken) (c .walk .ensures)
 
--- src/lib.rt:228:1
 returns-2 : tie.Need-returns-2
-returns-2 c = ?
+returns-2 c = let a = c .before .before .before .before .before .before .before .before .args in let k = card (a .info) (a .flags .now) (a .keys .now) (a .counts .now) (a .pointers .now) (a .windows .now) (a .contents .now) in misshapen-verdict k _ (c .before .shaped .ensures) (c .if1 .left)
 
 pub audit-spec : {M : Type 1} → statement M
 audit-spec = tie.close (tie.spec shaped-requires walk-requires returns returns-2)
