@@ -12,7 +12,7 @@ use Rattle.card.specs.ListsLaws.{and-left, and-right, and-true, same-test, fals
 use Rattle.card.specs.Pointers.{ascending, pointersTo}
 use Rattle.card.specs.Card.{Public, Card, allocated, inUse}
 use Rattle.card.specs.Soundness.{soundClauses, flagsBelow8, rootAllocated, keyZero, unallocatedEmpty, absentKeyZero, countRight, pointedTo, windowInTime, pointerRight, shape, sound, verdict}
-use Rattle.card.specs.SoundnessLaws.{Shaped, shape-true}
+use Rattle.card.specs.SoundnessLaws.{Shaped, shape-true, misshapen-verdict}
 use Rattle.card.specs.declared.Mode.the-variants.{Reading, Writing}
 use Rattle.card.specs.declared.Verdict.{Verdict}
 use Rattle.card.specs.declared.Verdict.the-variants.{Misshapen, Unsound, Sound}
@@ -210,6 +210,5 @@ module _ (c : Card) (t : Bool) (e : t ≡ shape c) where
   unfolding verdict sound flagsBelow8 rootAllocated keyZero unallocatedEmpty absentKeyZero countRight pointedTo windowInTime
   shaped-verdict v f h = rw (← e, f) h
 
-  pub misshapen-verdict : t ≡ false → Misshapen ≡ verdict c
-  unfolding verdict
-  misshapen-verdict f = rw (← e, f) refl
+  pub fault-shape : t ≡ false → Misshapen ≡ verdict c
+  fault-shape f = sym (misshapen-verdict c (sym e ∙ f))

@@ -1,7 +1,7 @@
 -- `audit::audit` is the verdict of the definition. Assumes nothing.
 use borrow.Author.Needs.{needs}
 use Rattle.card.specs.Card.{card}
-use Rattle.audit.proofs.Whole.{shaped-fit, shaped-verdict, misshapen-verdict}
+use Rattle.audit.proofs.Whole.{shaped-fit, shaped-verdict, fault-shape}
 use Rattle.audit.proofs.audit.Statement.{statement}
 use Rattle.audit.proofs.audit.Tie as tie
 
@@ -15,7 +15,7 @@ returns : tie.Need-returns
 returns c = let a = c .before .before .before .before .before .before .before .before .before .args in let k = card (a .info) (a .flags .now) (a .keys .now) (a .counts .now) (a .pointers .now) (a .windows .now) (a .contents .now) in shaped-verdict k _ (c .before .before .shaped .ensures) _ (c .before .if1 .taken) (c .walk .ensures)
 
 returns-2 : tie.Need-returns-2
-returns-2 c = let a = c .before .before .before .before .before .before .before .before .args in let k = card (a .info) (a .flags .now) (a .keys .now) (a .counts .now) (a .pointers .now) (a .windows .now) (a .contents .now) in misshapen-verdict k _ (c .before .shaped .ensures) (c .if1 .left)
+returns-2 c = let a = c .before .before .before .before .before .before .before .before .args in let k = card (a .info) (a .flags .now) (a .keys .now) (a .counts .now) (a .pointers .now) (a .windows .now) (a .contents .now) in fault-shape k _ (c .before .shaped .ensures) (c .if1 .left)
 
 pub audit-spec : {M : Type 1} → statement M
 audit-spec = tie.close (tie.spec shaped-requires walk-requires returns returns-2)
