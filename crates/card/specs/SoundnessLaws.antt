@@ -2,7 +2,7 @@
 -- Assumes nothing.
 use Prim.Native.Nat.{ℕ, zero, suc, _+_, _*_, _%_, _≤_, _<_}
 use mathlib.Core.Path.{_≡_, refl, sym, ap, _∙_, subst}
-use mathlib.Core.Bool.{Bool, true, false, _&&_, _||_, not}
+use mathlib.Core.Bool.{Bool, true, false, _&&_, _||_, not, cond}
 use mathlib.Core.List.{List, [], _∷_}
 use native.Mathlib.Omega.{arith}
 use lib.Dec.{eqb, ltb, leb}
@@ -12,9 +12,11 @@ use Rattle.card.specs.Lists.{every, all, allBelow}
 use Rattle.card.specs.ListsLaws.{and-left, and-right, and-true, or-else, or-false, or-false-left, or-false-right, Holds, every-true, true-every, allBelow-true, true-allBelow}
 use Rattle.card.specs.Pointers.{ascending, source, destination, pointersTo}
 use Rattle.card.specs.Card.{Public, Card, flag, allocatedFlag, keyFlag, allocated, isRoot, windowEnd, longestInterval, count, inUse, keyHigh, keyLow}
-use Rattle.card.specs.Soundness.{timeLimit, rangeClauses, ranges, lengthClauses, lengths, shapeClauses, shape, soundClauses, flagsBelow8, rootAllocated, keyZero, unallocatedEmpty, absentKeyZero, countRight, pointedTo, windowInTime, pointerRight, sound}
+use Rattle.card.specs.Soundness.{timeLimit, rangeClauses, ranges, lengthClauses, lengths, shapeClauses, shape, soundClauses, flagsBelow8, rootAllocated, keyZero, unallocatedEmpty, absentKeyZero, countRight, pointedTo, windowInTime, pointerRight, sound, verdict}
 use Rattle.card.specs.declared.Mode.{Mode}
 use Rattle.card.specs.declared.Mode.the-variants.{Reading, Writing}
+use Rattle.card.specs.declared.Verdict.{Verdict}
+use Rattle.card.specs.declared.Verdict.the-variants.{Misshapen, Unsound, Sound as FoundSound}
 
 -- A decided choice: where a test fails, one thing holds; so the two joined hold.
 or-from : (a b : Bool) → (a ≡ false → b ≡ true) → a || b ≡ true
@@ -379,3 +381,50 @@ allocated-flag p b e = and-right (ltb b (p .info .blocks)) _ e
 pub flag-allocated : (p : Public) (b : ℕ) → b < p .info .blocks → allocatedFlag (flag p b) ≡ true → allocated p b ≡ true
 unfolding allocated
 flag-allocated p b l e = and-true _ _ (lt-ltb _ _ l) e
+
+-- ---- what each verdict says, and when it is given
+
+-- The verdict on two tests.
+abbrev verdictOn : Bool → Bool → Verdict
+verdictOn s t = cond s (cond t FoundSound Unsound) Misshapen
+
+on-sound : (s t : Bool) → verdictOn s t ≡ FoundSound → (s ≡ true) × (t ≡ true)
+on-sound true true e = (refl, refl)
+on-sound true false e = let z : _≡_ {A = ℕ} 0 1 = cc in absurd (omega arith)
+on-sound false t e = let z : _≡_ {A = ℕ} 0 1 = cc in absurd (omega arith)
+
+on-unsound : (s t : Bool) → verdictOn s t ≡ Unsound → (s ≡ true) × (t ≡ false)
+on-unsound true true e = let z : _≡_ {A = ℕ} 0 1 = cc in absurd (omega arith)
+on-unsound true false e = (refl, refl)
+on-unsound false t e = let z : _≡_ {A = ℕ} 0 1 = cc in absurd (omega arith)
+
+on-misshapen : (s t : Bool) → verdictOn s t ≡ Misshapen → s ≡ false
+on-misshapen true true e = let z : _≡_ {A = ℕ} 0 1 = cc in absurd (omega arith)
+on-misshapen true false e = let z : _≡_ {A = ℕ} 0 1 = cc in absurd (omega arith)
+on-misshapen false t e = refl
+
+pub verdict-sound : (c : Card) → verdict c ≡ FoundSound → SoundCard c
+unfolding verdict
+verdict-sound c e =
+    let h = on-sound (shape c) (sound c) e in
+    record { shaped = shape-true c (h .0); isSound = sound-true c (h .1) }
+
+pub verdict-unsound : (c : Card) → verdict c ≡ Unsound → (shape c ≡ true) × (sound c ≡ false)
+unfolding verdict
+verdict-unsound c e = on-unsound (shape c) (sound c) e
+
+pub verdict-misshapen : (c : Card) → verdict c ≡ Misshapen → shape c ≡ false
+unfolding verdict
+verdict-misshapen c e = on-misshapen (shape c) (sound c) e
+
+pub sound-verdict : {c : Card} → SoundCard c → verdict c ≡ FoundSound
+unfolding verdict
+sound-verdict h = rw (true-shape (h .shaped), true-sound (h .isSound)) refl
+
+pub unsound-verdict : (c : Card) → shape c ≡ true → sound c ≡ false → verdict c ≡ Unsound
+unfolding verdict
+unsound-verdict c e f = rw (e, f) refl
+
+pub misshapen-verdict : (c : Card) → shape c ≡ false → verdict c ≡ Misshapen
+unfolding verdict
+misshapen-verdict c e = rw e refl

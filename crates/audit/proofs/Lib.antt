@@ -1,0 +1,4 @@
+pub mod Forms
+pub mod Passing
+pub mod Tallying
+pub mod Whole

@@ -1,0 +1,21 @@
+-- `audit::audit` is the verdict of the definition. Assumes nothing.
+use borrow.Author.Needs.{needs}
+use Rattle.card.specs.Card.{card}
+use Rattle.audit.proofs.Whole.{shaped-fit, shaped-verdict, fault-shape}
+use Rattle.audit.proofs.audit.Statement.{statement}
+use Rattle.audit.proofs.audit.Tie as tie
+
+shaped-requires : tie.Need-shaped-requires
+shaped-requires c κs = search needs
+
+walk-requires : tie.Need-walk-requires
+walk-requires c κs = let a = c .before .before .before .before .before .before .before .before .args in let k = card (a .info) (a .flags .now) (a .keys .now) (a .counts .now) (a .pointers .now) (a .windows .now) (a .contents .now) in shaped-fit k _ (c .before .shaped .ensures) (c .if1 .taken)
+
+returns : tie.Need-returns
+returns c = let a = c .before .before .before .before .before .before .before .before .before .args in let k = card (a .info) (a .flags .now) (a .keys .now) (a .counts .now) (a .pointers .now) (a .windows .now) (a .contents .now) in shaped-verdict k _ (c .before .before .shaped .ensures) _ (c .before .if1 .taken) (c .walk .ensures)
+
+returns-2 : tie.Need-returns-2
+returns-2 c = let a = c .before .before .before .before .before .before .before .before .args in let k = card (a .info) (a .flags .now) (a .keys .now) (a .counts .now) (a .pointers .now) (a .windows .now) (a .contents .now) in fault-shape k _ (c .before .shaped .ensures) (c .if1 .left)
+
+pub audit-spec : {M : Type 1} → statement M
+audit-spec = tie.close (tie.spec shaped-requires walk-requires returns returns-2)

@@ -1,0 +1,85 @@
+-- `audit::walk_pointers` tests the pointers in use and tallies them. The invariant is that of the walk with its tally. Assumes nothing.
+use borrow.Author.Needs.{needs}
+use native.Mathlib.Omega.{arith}
+use Prim.Native.Nat.{_-_}
+use mathlib.Core.Logic.{⊎-elim}
+use Rattle.audit.proofs.Tallying.{WalkingAt, walk-none, placed, room, walk-more, walk-fault, walk-whole}
+use Rattle.audit.proofs.walk_pointers.Statement.{statement}
+use Rattle.audit.proofs.walk_pointers.Tie as tie
+
+abbrev Inv-walk : tie.InvT-walk
+Inv-walk info flags pointers tally₀ used least₀ i₀ tally least i = WalkingAt info flags pointers tally least i
+
+abbrev μ-walk : tie.MeasureT-walk
+μ-walk info flags pointers tally₀ used least₀ i₀ tally least i = info .used - i
+
+walk-holds : tie.Need-walk-holds Inv-walk μ-walk
+walk-holds c = walk-none (c .before .before .pre .0) _ (c .before .before .pre .1)
+
+mul-w : tie.Need-mul-w Inv-walk μ-walk
+mul-w c = search needs
+
+shared-slice-read-w : tie.Need-shared-slice-read-w Inv-walk μ-walk
+shared-slice-read-w c = search needs
+
+pointer-right-requires : tie.Need-pointer-right-requires Inv-walk μ-walk
+pointer-right-requires c κs = search needs
+
+cast-if1 : tie.Need-cast-if1 Inv-walk μ-walk
+cast-if1 c = omega (arith, c .before .shared-slice-known3 .given (c .before .before .before .walk .i))
+
+cast-destination : tie.Need-cast-destination Inv-walk μ-walk
+cast-destination c = search needs
+
+mul-tally : tie.Need-mul-tally Inv-walk μ-walk
+mul-tally c = omega arith
+
+element-copy-out-tally : tie.Need-element-copy-out-tally Inv-walk μ-walk
+element-copy-out-tally c = placed (c .before .before .before .before .before .before .before .pre .0) _ _ _ (c .before .pointer-right .ensures) (c .if1 .taken)
+
+add-tally : tie.Need-add-tally Inv-walk μ-walk
+add-tally c = omega (arith, room (c .before .before .before .before .before .before .before .before .pre .0) (c .before .before .before .before .before .walk .inv) _ (placed (c .before .before .before .before .before .before .before .before .pre .0) _ _ _ (c .before .before .pointer-right .ensures) (c .before .if1 .taken)) (c .before .before .before .before .walk-test .taken))
+
+element-write-tally : tie.Need-element-write-tally Inv-walk μ-walk
+element-write-tally c = placed (c .before .before .before .before .before .before .before .before .pre .0) _ _ _ (c .before .before .pointer-right .ensures) (c .before .if1 .taken)
+
+cast-least : tie.Need-cast-least Inv-walk μ-walk
+cast-least c = omega (arith, c .before .before .before .shared-slice-known3 .given (c .before .before .before .before .before .walk .i))
+
+add-least : tie.Need-add-least Inv-walk μ-walk
+add-least c = omega (arith, c .before .before .before .shared-slice-known3 .given (c .before .before .before .before .before .walk .i))
+
+add-i : tie.Need-add-i Inv-walk μ-walk
+add-i c = search needs
+
+walk-less : tie.Need-walk-less Inv-walk μ-walk
+walk-less c = search needs
+
+walk-again : tie.Need-walk-again Inv-walk μ-walk
+walk-again c = walk-more (c .before .before .before .before .before .before .before .before .pre .0) (c .before .before .before .before .before .walk .inv) _ (c .before .before .pointer-right .ensures) (c .before .before .before .before .walk-test .taken) (c .before .if1 .taken)
+
+returns : tie.Need-returns Inv-walk μ-walk
+returns c = let fit = c .before .before .before .before .pre .0 in let h = c .before .walk .inv in ⊎-elim (λ w. walk-whole fit h (w .left)) (λ w. walk-fault fit h _ (w .2 .ensures) (w .0 .taken) (w .3 .left)) (c .walk-test .came)
+
+pub walk-pointers-spec : {M : Type 1} → statement M
+walk-pointers-spec =
+    tie.close
+    (tie.spec
+    Inv-walk
+    μ-walk
+    walk-holds
+    mul-w
+    shared-slice-read-w
+    pointer-right-requires
+    cast-if1
+    cast-destination
+    mul-tally
+    element-copy-out-tally
+    add-tally
+    element-write-tally
+    cast-least
+    add-least
+    add-i
+    walk-less
+    walk-again
+    returns)

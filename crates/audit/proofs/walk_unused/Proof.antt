@@ -1,0 +1,52 @@
+-- `audit::walk_unused` tests the unused places. The invariant: the places from `i` on pass exactly when all of them do. Assumes nothing.
+use borrow.Author.Needs.{needs}
+use Prim.Native.Nat.{_-_}
+use mathlib.Core.Path.{refl}
+use mathlib.Core.Logic.{⊎-elim}
+use lib.Dec.{eqb}
+use lib.ListN.{length}
+use borrow.Author.Tests.{eq-eqb, ne-eqb}
+use Rattle.audit.proofs.Passing.{Left, left-more, left-fault, left-whole}
+use Rattle.audit.proofs.walk_unused.Statement.{statement}
+use Rattle.audit.proofs.walk_unused.Tie as tie
+
+abbrev Inv-walk : tie.InvT-walk
+Inv-walk pointers used places i₀ i = Left (λ w. eqb w 0) pointers used i
+
+abbrev μ-walk : tie.MeasureT-walk
+μ-walk pointers used places i₀ i = length pointers - i
+
+walk-holds : tie.Need-walk-holds Inv-walk μ-walk
+walk-holds c = record { most = c .pre; rest = refl }
+
+mul-if1 : tie.Need-mul-if1 Inv-walk μ-walk
+mul-if1 c = search needs
+
+shared-slice-read-if1 : tie.Need-shared-slice-read-if1 Inv-walk μ-walk
+shared-slice-read-if1 c = search needs
+
+add-i : tie.Need-add-i Inv-walk μ-walk
+add-i c = search needs
+
+walk-less : tie.Need-walk-less Inv-walk μ-walk
+walk-less c = search needs
+
+walk-again : tie.Need-walk-again Inv-walk μ-walk
+walk-again c = left-more (c .before .before .before .walk .inv) (c .before .before .walk-test .taken) (eq-eqb _ _ (c .if1 .taken))
+
+returns : tie.Need-returns Inv-walk μ-walk
+returns c = let h = c .before .walk .inv in ⊎-elim (λ w. left-whole h (w .left)) (λ w. left-fault h (w .0 .taken) (ne-eqb _ _ (w .2 .left))) (c .walk-test .came)
+
+pub walk-unused-spec : {M : Type 1} → statement M
+walk-unused-spec =
+    tie.close
+    (tie.spec
+    Inv-walk
+    μ-walk
+    walk-holds
+    mul-if1
+    shared-slice-read-if1
+    add-i
+    walk-less
+    walk-again
+    returns)

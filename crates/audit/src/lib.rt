@@ -1,0 +1,240 @@
+// The audit: shape and soundness of any record and tables, linear in blocks and places.
+ghost use mathlib.Core.Path.{_≡_};
+ghost use mathlib.Core.List.{[]};
+ghost use Prim.Native.Nat.{_<_, _≤_};
+ghost use lib.ListN.{length, drop, getD, replicate};
+ghost use lib.Dec.{eqb};
+ghost use Rattle.card.specs.Lists.{all, allBelow};
+ghost use Rattle.card.specs.Card.{card, allocated};
+ghost use Rattle.card.specs.Soundness.{ranges, shape, pointerRight, sound, verdict};
+ghost use Rattle.card.specs.SoundnessLaws.{InRanges};
+ghost use Rattle.audit.specs.Walks.{pointing, rowed, blockSound, PointersFit, RowsFit, PointersWalked, judged};
+use card::Info;
+use card::Verdict;
+
+// ---- shape
+
+fn in_ranges(blocks: usize, roots: usize, bytes: usize) -> bool
+    ensures { λ r. ⌜ r ≡ ranges blocks roots bytes ⌝ }
+{
+    // A divisor below.
+    if bytes < 512 {
+        return false;
+    }
+    (16 <= blocks)
+        & ((blocks <= 4096)
+            & ((1 <= roots)
+                & ((roots <= 8) & ((512 <= bytes) & ((bytes <= 65536) & (65536 % bytes == 0))))))
+}
+
+fn has_lengths(
+    info: Info,
+    flags: &[u8],
+    keys: &[u64],
+    counts: &[u16],
+    pointers: &[u32],
+    windows: &[u64],
+    contents: &[u8],
+) -> bool
+    requires { ⌜ InRanges (info .blocks) (info .roots) (info .bytes) ⌝ }
+    ensures { λ r. ⌜ r ≡ shape (card info (now (flags .entry)) (now (keys .entry)) (now (counts .entry)) (now (pointers .entry)) (now (windows .entry)) (now (contents .entry))) ⌝ }
+{
+    let blocks = info.blocks;
+    let places = pointers.len();
+    (info.time < 1099511627776)
+        & (((flags.len() == blocks)
+            & ((keys.len() == 4 * blocks)
+                & ((counts.len() == blocks)
+                    & ((1 <= places)
+                        & ((places <= 16384)
+                            & ((windows.len() == 2 * blocks)
+                                & (contents.len() == blocks * info.bytes)))))))
+            & (info.used <= places))
+}
+
+fn shaped(
+    info: Info,
+    flags: &[u8],
+    keys: &[u64],
+    counts: &[u16],
+    pointers: &[u32],
+    windows: &[u64],
+    contents: &[u8],
+) -> bool
+    ensures { λ r. ⌜ r ≡ shape (card info (now (flags .entry)) (now (keys .entry)) (now (counts .entry)) (now (pointers .entry)) (now (windows .entry)) (now (contents .entry))) ⌝ }
+{
+    if in_ranges(info.blocks, info.roots, info.bytes) {
+        has_lengths(info, flags, keys, counts, pointers, windows, contents)
+    } else {
+        false
+    }
+}
+
+// ---- pointers
+
+fn is_allocated(info: Info, flags: &[u8], b: usize) -> bool
+    requires { ⌜ length (now flags) ≡ info .blocks ⌝ }
+    ensures { λ r. ⌜ r ≡ allocated (pointing info (now (flags .entry)) []) b ⌝ }
+{
+    if b < info.blocks {
+        flags[b] % 2 == 1
+    } else {
+        false
+    }
+}
+
+fn pointer_right(info: Info, flags: &[u8], w: u32) -> bool
+    requires { ⌜ length (now flags) ≡ info .blocks ⌝ }
+    ensures { λ r. ⌜ r ≡ pointerRight (pointing info (now (flags .entry)) []) w ⌝ }
+{
+    let source = (w / 65536) as usize;
+    let destination = (w % 65536) as usize;
+    is_allocated(info, flags, source)
+        & (is_allocated(info, flags, destination)
+            & (!(destination < info.roots) & !(source == destination)))
+}
+
+// Whether the pointers in use ascend and are right. If so, each block's place of the tally has
+// the number of pointers to it. `least` is the least word that the next pointer may be.
+fn walk_pointers(info: Info, flags: &[u8], pointers: &[u32], tally: &mut [u16; 4096]) -> bool
+    requires { ⌜ PointersFit info (now flags) (now pointers) ⌝ ∗ ⌜ now tally ≡ replicate 4096 0 ⌝ }
+    ensures { λ r. ⌜ PointersWalked (pointing info (now (flags .entry)) (now (pointers .entry))) r (now (tally .exit)) ⌝ }
+{
+    let used = info.used;
+    let mut least: u64 = 0;
+    let mut i: usize = 0;
+    'walk: while i < used {
+        let w = pointers[i];
+        if pointer_right(info, flags, w) & (least <= w as u64) {
+            let destination = (w % 65536) as usize;
+            tally[destination] += 1;
+            least = w as u64 + 1;
+            i += 1;
+        } else {
+            break 'walk;
+        }
+    }
+    i == used
+}
+
+// Whether each place from `used` on is 0.
+fn walk_unused(pointers: &[u32], used: usize) -> bool
+    requires { ⌜ used ≤ length (now pointers) ⌝ }
+    ensures { λ r. ⌜ r ≡ all (λ w. eqb w 0) (drop used (now (pointers .entry))) ⌝ }
+{
+    let places = pointers.len();
+    let mut i = used;
+    'walk: while i < places {
+        if pointers[i] == 0 {
+            i += 1;
+        } else {
+            break 'walk;
+        }
+    }
+    i == places
+}
+
+// ---- blocks
+
+fn block_sound(
+    info: Info,
+    flags: &[u8],
+    keys: &[u64],
+    counts: &[u16],
+    windows: &[u64],
+    tallied: u16,
+    b: usize,
+) -> bool
+    requires { ⌜ RowsFit info (now flags) (now keys) (now counts) (now windows) ⌝ ∗ ⌜ b < info .blocks ⌝ }
+    ensures { λ r. ⌜ r ≡ blockSound (rowed info (now (flags .entry)) (now (keys .entry)) (now (counts .entry)) (now (windows .entry))) tallied b ⌝ }
+{
+    let flag = flags[b];
+    let count = counts[b];
+    let reading = windows[2 * b];
+    let writing = windows[2 * b + 1];
+    let root = b < info.roots;
+    let held = flag % 2 == 1;
+    let no_read_key = (keys[4 * b] == 0) & (keys[4 * b + 1] == 0);
+    let no_write_key = (keys[4 * b + 2] == 0) & (keys[4 * b + 2 + 1] == 0);
+    let latest = info.time + 86400;
+    (flag < 8)
+        & ((!root | held)
+            & ((held
+                | ((flag == 0)
+                    & (no_read_key
+                        & (no_write_key & ((count == 0) & ((reading == 0) & (writing == 0)))))))
+                & (((flag / 2 % 2 == 1) | no_read_key)
+                    & (((flag / 4 % 2 == 1) | no_write_key)
+                        & ((count == tallied)
+                            & ((root | !held | (1 <= count))
+                                & ((reading <= latest) & (writing <= latest))))))))
+}
+
+fn walk_blocks(
+    info: Info,
+    flags: &[u8],
+    keys: &[u64],
+    counts: &[u16],
+    windows: &[u64],
+    tally: &[u16; 4096],
+) -> Verdict
+    requires { ⌜ RowsFit info (now flags) (now keys) (now counts) (now windows) ⌝ }
+    ensures { λ r. ⌜ r ≡ judged (allBelow (λ b. blockSound (rowed info (now (flags .entry)) (now (keys .entry)) (now (counts .entry)) (now (windows .entry))) (getD (now (tally .entry)) b 0) b) (info .blocks)) ⌝ }
+{
+    let blocks = info.blocks;
+    let mut b: usize = 0;
+    loop {
+        if b == blocks {
+            break Verdict::Sound;
+        }
+        if block_sound(info, flags, keys, counts, windows, tally[b], b) {
+            b += 1;
+        } else {
+            break Verdict::Unsound;
+        }
+    }
+}
+
+// ---- the whole
+
+// The walks of a card of the right shape, each only after those before it found no fault.
+fn walk(
+    info: Info,
+    flags: &[u8],
+    keys: &[u64],
+    counts: &[u16],
+    pointers: &[u32],
+    windows: &[u64],
+) -> Verdict
+    requires { ⌜ PointersFit info (now flags) (now pointers) ⌝ ∗ ⌜ RowsFit info (now flags) (now keys) (now counts) (now windows) ⌝ }
+    ensures { λ r. ⌜ r ≡ judged (sound (card info (now (flags .entry)) (now (keys .entry)) (now (counts .entry)) (now (pointers .entry)) (now (windows .entry)) [])) ⌝ }
+{
+    let mut tally = [0u16; 4096];
+    if walk_pointers(info, flags, pointers, &mut tally) {
+        if walk_unused(pointers, info.used) {
+            walk_blocks(info, flags, keys, counts, windows, &tally)
+        } else {
+            Verdict::Unsound
+        }
+    } else {
+        Verdict::Unsound
+    }
+}
+
+pub fn audit(
+    info: Info,
+    flags: &[u8],
+    keys: &[u64],
+    counts: &[u16],
+    pointers: &[u32],
+    windows: &[u64],
+    contents: &[u8],
+) -> Verdict
+    ensures { λ r. ⌜ r ≡ verdict (card info (now (flags .entry)) (now (keys .entry)) (now (counts .entry)) (now (pointers .entry)) (now (windows .entry)) (now (contents .entry))) ⌝ }
+{
+    if shaped(info, flags, keys, counts, pointers, windows, contents) {
+        walk(info, flags, keys, counts, pointers, windows)
+    } else {
+        Verdict::Misshapen
+    }
+}
