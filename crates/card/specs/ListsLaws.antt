@@ -158,3 +158,9 @@ pub true-allBelow : (p : ℕ → Bool) (n : ℕ) → ((i : ℕ) → i < n → p 
 unfolding allBelow
 true-allBelow p zero f = refl
 true-allBelow p (suc n) f = and-true (p n) _ (f n (omega arith)) (true-allBelow p n (λ i h. f i (omega arith)))
+
+-- Tests that agree below n have the same numbers there.
+pub numbersBelow-same : (p q : ℕ → Bool) (n : ℕ) → ((i : ℕ) → i < n → p i ≡ q i) → numbersBelow p n ≡ numbersBelow q n
+unfolding numbersBelow
+numbersBelow-same p q zero f = refl
+numbersBelow-same p q (suc n) f = rw (f n (omega arith), numbersBelow-same p q n (λ i h. f i (omega arith)))
