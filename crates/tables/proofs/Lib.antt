@@ -1,0 +1,4 @@
+pub mod Overlay
+pub mod Counted
+pub mod Search
+pub mod Shift

@@ -1,0 +1,56 @@
+-- `tables::count_free` meets its contract: the count is that of the blocks passed. The measure is what is left.
+-- Assumes nothing.
+use Prim.Native.Nat.{_-_}
+use mathlib.Core.Logic.{⊎-elim}
+use native.Mathlib.Omega.{arith}
+use lib.ListN.{length}
+use Rattle.tables.proofs.Counted.{Counted, counted-start, counted-free, counted-passed, counted-whole}
+use Rattle.tables.proofs.count_free.Statement.{statement}
+use Rattle.tables.proofs.count_free.Tie as tie
+
+abbrev Inv-loop : tie.InvT-loop
+Inv-loop flags free₀ block₀ free block = Counted flags free block
+
+abbrev μ-loop : tie.MeasureT-loop
+μ-loop flags free₀ block₀ free block = length flags - block
+
+loop-holds : tie.Need-loop-holds Inv-loop μ-loop
+loop-holds c = counted-start _
+
+shared-slice-read-if1 : tie.Need-shared-slice-read-if1 Inv-loop μ-loop
+shared-slice-read-if1 c = omega arith
+
+add-free : tie.Need-add-free Inv-loop μ-loop
+add-free c = omega arith
+
+add-block : tie.Need-add-block Inv-loop μ-loop
+add-block c = omega arith
+
+loop-less : tie.Need-loop-less Inv-loop μ-loop
+loop-less c = omega arith
+
+loop-again : tie.Need-loop-again Inv-loop μ-loop
+loop-again c =
+    let inv = c .before .before .before .loop .inv in
+    let inside = c .before .before .loop-test .taken in
+    ⊎-elim
+    (λ w. counted-free inv inside (w .0 .taken) (w .1))
+    (λ w. counted-passed inv inside (w .0 .left) (w .1))
+    (c .if1 .came)
+
+returns : tie.Need-returns Inv-loop μ-loop
+returns c = counted-whole (c .before .loop .inv) (c .loop-test .left)
+
+pub count-free-spec : {M : Type 1} → statement M
+count-free-spec =
+    tie.close
+    (tie.spec
+    Inv-loop
+    μ-loop
+    loop-holds
+    shared-slice-read-if1
+    add-free
+    add-block
+    loop-less
+    loop-again
+    returns)

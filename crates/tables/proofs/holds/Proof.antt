@@ -1,0 +1,27 @@
+-- `tables::holds` meets its contract: the pointer at the rank decides.
+-- Assumes nothing.
+use lib.Dec.{eqb}
+use Rattle.tables.specs.RankLaws.{contains-rank}
+use Rattle.tables.proofs.Search.{look-found, look-missed}
+use borrow.Author.Needs.{needs}
+use Rattle.tables.proofs.holds.Statement.{statement}
+use Rattle.tables.proofs.holds.Tie as tie
+
+place-requires : tie.Need-place-requires
+place-requires c κs = search needs
+
+mul-result : tie.Need-mul-result
+mul-result c = search needs
+
+shared-slice-read-result : tie.Need-shared-slice-read-result
+shared-slice-read-result c = search needs
+
+returns : tie.Need-returns
+returns c = let start = c .before .before .before .before in look-found (start .pre) (λ x. eqb x (start .args .wanted)) (contains-rank (start .args .wanted) _ (start .pre .ascends)) (c .before .before .place .ensures) (c .before .if1 .taken)
+
+returns-2 : tie.Need-returns-2
+returns-2 c = let start = c .before .before .before in look-missed (start .pre) (λ x. eqb x (start .args .wanted)) (contains-rank (start .args .wanted) _ (start .pre .ascends)) (c .before .place .ensures) (c .if1 .left)
+
+pub holds-spec : {M : Type 1} → statement M
+holds-spec =
+    tie.close (tie.spec place-requires mul-result shared-slice-read-result returns returns-2)

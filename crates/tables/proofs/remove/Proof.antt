@@ -1,0 +1,81 @@
+-- `tables::remove` meets its contract: the pointers behind the removed one, up to `i`, stand one place lower. The measure is what is left.
+-- Assumes nothing.
+use Prim.Native.Nat.{_-_}
+use native.Mathlib.Omega.{arith}
+use lib.ListN.{length-set}
+use Rattle.tables.proofs.Shift.{Lowered, lowered-start, lowered-more, removed}
+use Rattle.tables.proofs.remove.Statement.{statement}
+use Rattle.tables.proofs.remove.Tie as tie
+
+abbrev Inv-loop : tie.InvT-loop
+Inv-loop pointers₀ used wanted i₀ pointers i = Lowered pointers₀ pointers used i₀ i
+
+abbrev μ-loop : tie.MeasureT-loop
+μ-loop pointers₀ used wanted i₀ pointers i = used - i
+
+place-requires : tie.Need-place-requires Inv-loop μ-loop
+place-requires c κs = c .before .before .pre .sorted
+
+loop-holds : tie.Need-loop-holds Inv-loop μ-loop
+loop-holds c = lowered-start (c .before .before .before .pre) (c .place .ensures)
+
+add-loop : tie.Need-add-loop Inv-loop μ-loop
+add-loop c = omega arith
+
+add-pointers : tie.Need-add-pointers Inv-loop μ-loop
+add-pointers c = omega arith
+
+mul-pointers : tie.Need-mul-pointers Inv-loop μ-loop
+mul-pointers c = omega arith
+
+slice-read-pointers : tie.Need-slice-read-pointers Inv-loop μ-loop
+slice-read-pointers c = omega arith
+
+mul-pointers-2 : tie.Need-mul-pointers-2 Inv-loop μ-loop
+mul-pointers-2 c = omega arith
+
+slice-write-pointers : tie.Need-slice-write-pointers Inv-loop μ-loop
+slice-write-pointers c = omega arith
+
+add-i : tie.Need-add-i Inv-loop μ-loop
+add-i c = omega arith
+
+loop-less : tie.Need-loop-less Inv-loop μ-loop
+loop-less c = omega arith
+
+loop-again : tie.Need-loop-again Inv-loop μ-loop
+loop-again c = lowered-more (c .before .before .loop .inv) (c .before .loop-test .taken)
+
+mul-pointers-3 : tie.Need-mul-pointers-3 Inv-loop μ-loop
+mul-pointers-3 c = omega arith
+
+slice-write-pointers-2 : tie.Need-slice-write-pointers-2 Inv-loop μ-loop
+slice-write-pointers-2 c = omega arith
+
+same-length : tie.Need-same-length Inv-loop μ-loop
+same-length c = simp length-set (c .before .loop .inv .same)
+
+returns : tie.Need-returns Inv-loop μ-loop
+returns c = removed (c .before .before .before .before .before .pre) (c .before .before .place .ensures) (c .before .loop .inv) (c .loop-test .left)
+
+pub remove-spec : {M : Type 1} → statement M
+remove-spec =
+    tie.close
+    (tie.spec
+    Inv-loop
+    μ-loop
+    place-requires
+    loop-holds
+    add-loop
+    add-pointers
+    mul-pointers
+    slice-read-pointers
+    mul-pointers-2
+    slice-write-pointers
+    add-i
+    loop-less
+    loop-again
+    mul-pointers-3
+    slice-write-pointers-2
+    same-length
+    returns)

@@ -1,0 +1,5 @@
+pub mod Rank
+pub mod RankLaws
+pub mod InUse
+pub mod Free
+pub mod FreeLaws
