@@ -5,3 +5,4 @@ pub mod Judged
 pub mod KeepsSound
 pub mod Unchanged
 pub mod Untouched
+pub mod Format

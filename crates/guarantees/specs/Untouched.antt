@@ -33,14 +33,14 @@ use Rattle.guarantees.specs.Picks.{Takeable, picks-takeable}
 use Rattle.guarantees.specs.KeepsSound.{not-missing}
 use Rattle.guarantees.specs.Judged.{judge-after}
 
--- The block is allocated and holds zeros.
-pub record Fresh (c : Card) (b : ℕ) : Type 0 where
+-- The block is allocated and holds so many zeros.
+pub record Fresh (bytes : ℕ) (c : Card) (b : ℕ) : Type 0 where
   pub isAllocated : allocated (c .public) b ≡ true
-  pub holdsZeros : block c b ≡ zeros (c .public .info .bytes)
+  pub holdsZeros : block c b ≡ zeros bytes
 
 -- From card c to card d the block's contents are as they were, or the block is now allocated and holds zeros.
 abbrev pub Untouched : Card → Card → ℕ → Type 0
-Untouched c d b = (block d b ≡ block c b) ⊎ Fresh d b
+Untouched c d b = (block d b ≡ block c b) ⊎ Fresh (c .public .info .bytes) d b
 
 -- ---- windows and WRITE
 
@@ -100,7 +100,7 @@ module _ (c : Card) (reference x : ℕ) (fits : Fitted c) (below : x < c .public
         ∙ fits .contents;
   }
 
-  taken-fresh : Fresh taken x
+  taken-fresh : Fresh (c .public .info .bytes) taken x
   unfolding change changePublic changeContents allocated
   taken-fresh = record {
     isAllocated =
@@ -114,11 +114,11 @@ module _ (c : Card) (reference x : ℕ) (fits : Fitted c) (below : x < c .public
   taken-other b other =
       part-fill-other (c .public .info .bytes) (c .contents) x (zeros (c .public .info .bytes)) (block-within c x (fits .contents) below) whole b other
 
-  fresh-kept : (b : ℕ) → Fresh c b → Fresh taken b
+  fresh-kept : (b : ℕ) → Fresh (c .public .info .bytes) c b → Fresh (c .public .info .bytes) taken b
   unfolding change changePublic changeContents allocated
   fresh-kept b f =
       ⊎-elim
-      (λ (e : b ≡ x). subst (λ (n : ℕ). Fresh taken n) (sym e) taken-fresh)
+      (λ (e : b ≡ x). subst (λ (n : ℕ). Fresh (c .public .info .bytes) taken n) (sym e) taken-fresh)
       (λ (other : b ≡ x → ⊥). record {
         isAllocated = allocated-other (c .public) x 1 b other ∙ f .isAllocated;
         holdsZeros = taken-other b other ∙ f .holdsZeros;
@@ -126,8 +126,8 @@ module _ (c : Card) (reference x : ℕ) (fits : Fitted c) (below : x < c .public
       (same-or-other b x)
 
 module _ (reference b : ℕ) where
-  takeAll-fresh : (bs : List ℕ) (c : Card) → Fitted c → all (λ x. ltb x (c .public .info .blocks)) bs ≡ true → Fresh c b
-      → Fresh (changes c (takeAll reference bs)) b
+  takeAll-fresh : (bs : List ℕ) (c : Card) → Fitted c → all (λ x. ltb x (c .public .info .blocks)) bs ≡ true → Fresh (c .public .info .bytes) c b
+      → Fresh (c .public .info .bytes) (changes c (takeAll reference bs)) b
   unfolding takeAll changes change changePublic
   takeAll-fresh [] c fits h f = f
   takeAll-fresh (x ∷ bs) c fits h f =
@@ -145,7 +145,7 @@ module _ (reference b : ℕ) where
       let nextFits : Fitted next = taken-fits c reference x fits below in
       let rest : all (λ x. ltb x (c .public .info .blocks)) bs ≡ true = all-tail (λ x. ltb x (c .public .info .blocks)) x bs h in
       ⊎-elim
-      (λ (e : b ≡ x). inr (takeAll-fresh bs next nextFits rest (subst (λ (n : ℕ). Fresh next n) (sym e) (taken-fresh c reference x fits below))))
+      (λ (e : b ≡ x). inr (takeAll-fresh bs next nextFits rest (subst (λ (n : ℕ). Fresh (c .public .info .bytes) next n) (sym e) (taken-fresh c reference x fits below))))
       (λ (other : b ≡ x → ⊥).
       ⊎-elim (λ same. inl (same ∙ taken-other c reference x fits below b other)) (λ f. inr f) (takeAll-untouched bs next nextFits rest))
       (same-or-other b x)
