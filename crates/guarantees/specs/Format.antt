@@ -2,16 +2,16 @@
 -- Assumes nothing.
 use Prim.Native.Nat.{ℕ, zero, suc, _+_, _-_, _*_, _≤_, _<_}
 use mathlib.Core.Path.{_≡_, refl, sym, ap, _∙_, subst}
-use mathlib.Core.Logic.{_⊎_, inl, inr, ⊎-elim}
-use mathlib.Core.Bool.{Bool, true, false, _&&_}
-use mathlib.Core.List.{List, [], _∷_, _++_}
+use mathlib.Core.Logic.{⊎-elim}
+use mathlib.Core.Bool.{Bool, true, _&&_}
+use mathlib.Core.List.{List, _++_}
 use native.Mathlib.Nat.{mul-le-mul-right}
 use native.Mathlib.Omega.{arith}
-use lib.Dec.{eqb, ltb}
-use lib.ListN.{length, take, drop, getD, replicate, length-append, length-replicate, getD-replicate, List·getD-append}
+use lib.Dec.{eqb}
+use lib.ListN.{length, drop, getD, replicate, length-append, length-replicate, getD-replicate, List·getD-append}
 use lib.Seq.{getD-append-add, getD-take, getD-drop, ext-getD}
 use Rattle.card.specs.Lists.{all}
-use Rattle.card.specs.ListsLaws.{and-left, and-right, absurd-test, below-or-not, all-cons}
+use Rattle.card.specs.ListsLaws.{and-left, and-right, absurd-test, below-or-not}
 use Rattle.card.specs.Pointers.{ascending, pointersTo}
 use Rattle.card.specs.Contents.{overwrite, part, zeros}
 use Rattle.card.specs.ContentsLaws.{block-fits, overwrite-length, overwrite-within, overwrite-behind, part-length, part-same}
@@ -157,25 +157,24 @@ module _ (blocks roots bytes : ℕ) (c : Card) (inRanges : InRanges blocks roots
 
 -- ---- FORMAT
 
-module _ (blocks roots bytes : ℕ) (c : Card) (right : ranges blocks roots bytes && lengths blocks bytes c ≡ true) where
-  inRanges : InRanges blocks roots bytes
-  inRanges = ranges-true blocks roots bytes (and-left _ _ right)
+-- What FORMAT leaves on tables of the right lengths is the fresh card.
+format-done : (P : Card → Type 0) (blocks roots bytes : ℕ) (c : Card) → ranges blocks roots bytes && lengths blocks bytes c ≡ true
+    → (InRanges blocks roots bytes → HasLengths blocks bytes c → P (freshCard blocks roots bytes c))
+    → P (format blocks roots bytes c .after)
+unfolding format formatResult
+format-done P blocks roots bytes c right f =
+    subst P (ap (λ (t : Bool). formatResult t blocks roots bytes c .after) (sym right))
+    (f (ranges-true blocks roots bytes (and-left _ _ right)) (lengths-true blocks bytes c (and-right (ranges blocks roots bytes) _ right)))
 
-  hasLengths : HasLengths blocks bytes c
-  hasLengths = lengths-true blocks bytes c (and-right (ranges blocks roots bytes) _ right)
+-- A done FORMAT leaves a sound card, whatever the tables held.
+pub format-sound : (blocks roots bytes : ℕ) (c : Card) → ranges blocks roots bytes && lengths blocks bytes c ≡ true → SoundCard (format blocks roots bytes c .after)
+format-sound blocks roots bytes c right =
+    format-done SoundCard blocks roots bytes c right
+    (λ r l. record { shaped = fresh-shaped blocks roots bytes c r l; isSound = fresh-sound blocks roots bytes c r l })
 
-  format-done : format blocks roots bytes c .after ≡ freshCard blocks roots bytes c
-  unfolding format formatResult
-  format-done = ap (λ (t : Bool). formatResult t blocks roots bytes c .after) right
-
-  -- A done FORMAT leaves a sound card, whatever the tables held.
-  pub format-sound : SoundCard (format blocks roots bytes c .after)
-  format-sound =
-      subst SoundCard (sym format-done)
-      (record { shaped = fresh-shaped blocks roots bytes c inRanges hasLengths; isSound = fresh-sound blocks roots bytes c inRanges hasLengths })
-
-  -- A done FORMAT leaves zeros in a root's part of the contents, and another block's part as it was.
-  pub format-untouched : (b : ℕ) → Formatted roots bytes c (format blocks roots bytes c .after) b
-  format-untouched b =
-      subst (λ (d : Card). Formatted roots bytes c d b) (sym format-done)
-      (record { root = root-zeros blocks roots bytes c inRanges hasLengths b; other = other-kept blocks roots bytes c inRanges hasLengths b })
+-- A done FORMAT leaves zeros in a root's part of the contents, and another block's part as it was.
+pub format-untouched : (blocks roots bytes : ℕ) (c : Card) → ranges blocks roots bytes && lengths blocks bytes c ≡ true
+    → (b : ℕ) → Formatted roots bytes c (format blocks roots bytes c .after) b
+format-untouched blocks roots bytes c right b =
+    format-done (λ (d : Card). Formatted roots bytes c d b) blocks roots bytes c right
+    (λ r l. record { root = root-zeros blocks roots bytes c r l b; other = other-kept blocks roots bytes c r l b })

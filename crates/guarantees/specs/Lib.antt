@@ -1,5 +1,6 @@
 pub mod Laws
 pub mod Steps
+pub mod PointerSteps
 pub mod Picks
 pub mod Judged
 pub mod KeepsSound
