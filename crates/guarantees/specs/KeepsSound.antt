@@ -1,23 +1,20 @@
 -- A call on a sound card leaves a sound card: one lemma for each paragraph of document 01, "Calls", then the theorem.
 -- Assumes nothing.
-use Prim.Native.Nat.{ℕ, zero, suc, _+_, _-_, _*_, _≤_, _<_}
-use mathlib.Core.Path.{_≡_, refl, sym, ap, _∙_, subst}
-use mathlib.Core.Logic.{_⊎_, inl, inr, ⊎-elim}
+use Prim.Native.Nat.{ℕ, _+_, _≤_, _<_}
+use mathlib.Core.Path.{_≡_, refl, ap, _∙_}
 use mathlib.Core.Bool.{Bool, true, false, _&&_, _||_, not, cond}
-use mathlib.Core.List.{List, [], _∷_, _++_}
+use mathlib.Core.List.{List, [], _∷_}
 use native.Mathlib.Omega.{arith}
-use lib.Dec.{eqb, ltb, leb}
-use lib.ListN.{length, take, drop, getD, set}
-use lib.Seq.{getD-set-same, getD-set-other}
-use borrow.Author.Tests.{lt-ltb, eqb-true, eqb-false, ltb-true, ltb-false, leb-false, not-true, not-false, eq-eqb}
+use lib.Dec.{eqb, ltb}
+use lib.ListN.{length, drop, set}
+use borrow.Author.Tests.{eqb-true, eqb-false, ltb-true, ltb-false, leb-false, not-true, not-false}
 use Rattle.card.specs.Lists.{all}
-use Rattle.card.specs.ListsLaws.{and-false-right, or-false-left, or-false-right, absurd-test, below-or-not, not-cases, false-unless, all-head, all-tail, all-both}
-use Rattle.card.specs.Pointers.{pointer, source, destination, ascending, contains, pointsFrom, pointersTo, insert, remove}
-use Rattle.card.specs.PointersLaws.{destination-pointer, contains-all, contains-counted, all-remove, unpointing}
-use Rattle.card.specs.Card.{Public, Card, flag, allocatedFlag, allocated, isRoot, freeBlocks, longestInterval, count, inUse, pointsTo, hasPointers}
-use Rattle.card.specs.Soundness.{timeLimit, pointerRight}
-use Rattle.card.specs.SoundnessLaws.{RightPointer, SoundCard, pointerRight-true, allocated-below, allocated-flag, flag-allocated}
-use Rattle.card.specs.Plan.{Change, setWindow, setBlock, setKeys, takeBlock, freeBlock, addPointer, dropPointer, setTime, withFlags, changePublic, change, changes, Plan, Buffers}
+use Rattle.card.specs.ListsLaws.{or-false-left, or-false-right, all-head, all-tail, all-both}
+use Rattle.card.specs.Pointers.{pointer, source, destination, ascending, pointersTo}
+use Rattle.card.specs.Card.{Public, Card, allocated, isRoot, freeBlocks, longestInterval, count, inUse, pointsTo, hasPointers}
+use Rattle.card.specs.Soundness.{timeLimit}
+use Rattle.card.specs.SoundnessLaws.{SoundCard, allocated-below}
+use Rattle.card.specs.Plan.{setWindow, takeBlock, freeBlock, addPointer, dropPointer, withFlags, changePublic, change, changes, Buffers, Result, settle}
 use Rattle.card.specs.PlanLaws.{NoneHolds}
 use Rattle.card.specs.Calls.{missing, windowAfter, opensWindow, wanted, picks, takeAll, closeWindows, modeOf, readPlan, writePlan, allocPlan, createPlan, deletePlan, keyPlan, renewPlan, forcePlan, freePlan, tickPlan, auditPlan}
 use Rattle.card.specs.Session.{Request, plan, perform}
@@ -25,7 +22,6 @@ use Rattle.card.specs.declared.Port.{Port}
 use Rattle.card.specs.declared.Port.the-variants.{Host, Service}
 use Rattle.card.specs.declared.Mode.{Mode}
 use Rattle.card.specs.declared.Mode.the-variants.{Reading, Writing}
-use Rattle.card.specs.declared.NewKey.{NewKey}
 use Rattle.card.specs.declared.ReadOperands.{ReadOperands}
 use Rattle.card.specs.declared.WriteOperands.{WriteOperands}
 use Rattle.card.specs.declared.AllocOperands.{AllocOperands}
@@ -35,12 +31,15 @@ use Rattle.card.specs.declared.KeyOperands.{KeyOperands}
 use Rattle.card.specs.declared.RenewOperands.{RenewOperands}
 use Rattle.card.specs.declared.ForceOperands.{ForceOperands}
 use Rattle.card.specs.declared.TickOperands.{TickOperands}
+use Rattle.card.specs.declared.Refusal.{Refusal}
+use Rattle.card.specs.declared.Answer.the-variants.{Refused}
 use Rattle.card.specs.declared.Call.{Call}
 use Rattle.card.specs.declared.Call.the-variants.{Read, Write, Alloc, Create, Delete, Key, Renew, Force, Free, Tick, Audit}
 use Rattle.guarantees.specs.Laws.{keyedFlag, keyedFlag-allocated}
-use Rattle.guarantees.specs.Steps.{sound-but, inserted-length, allocated-set, allocated-other, unallocated-flag, setWindow-sound, setBlock-sound, setKeys-sound, setTime-sound, addPointer-sound, takeAdd-sound, dropOne-sound, dropLast-sound}
+use Rattle.guarantees.specs.Steps.{allocated-set, allocated-other, unallocated-flag, setWindow-sound, setBlock-sound, setKeys-sound, setTime-sound}
+use Rattle.guarantees.specs.PointerSteps.{sound-but, inserted-length, addPointer-sound, takeAdd-sound, dropOne-sound, dropLast-sound}
 use Rattle.guarantees.specs.Picks.{Without, distinct-head, distinct-tail, Takeable, picks-takeable, picks-length}
-use Rattle.guarantees.specs.Judged.{judge-after}
+use Rattle.guarantees.specs.Judged.{judge-cases, judge-after}
 
 -- A block that passes the check "allocated" is allocated.
 pub not-missing : (p : Public) (b : ℕ) → missing p b ≡ false → allocated p b ≡ true
@@ -206,6 +205,14 @@ call-sound port c Audit lent = λ s h. s
 pub done-sound : (port : Port) (c : Card) (q : Request) → SoundCard c → SoundCard (perform port c q .after)
 unfolding perform
 done-sound port c q s = judge-after SoundCard c (q .lent) (plan port c (q .call) (q .lent)) s (call-sound port c (q .call) (q .lent))
+
+-- The same on any card: a call that is not refused leaves a sound card.
+pub done-leaves-sound : (port : Port) (c : Card) (q : Request) → ((r : Refusal) → perform port c q .answer ≡ Refused r → ⊥) → SoundCard (perform port c q .after)
+unfolding perform settle
+done-leaves-sound port c q =
+    judge-cases (λ (result : Result). ((r : Refusal) → result .answer ≡ Refused r → ⊥) → SoundCard (result .after)) c (q .lent) (plan port c (q .call) (q .lent))
+    (λ r never. absurd (never r refl))
+    (λ s h never. call-sound port c (q .call) (q .lent) s h)
 
 -- After any call on a sound card every count is the number of pointers to its block.
 pub counts-right : (port : Port) (c : Card) (q : Request) → SoundCard c

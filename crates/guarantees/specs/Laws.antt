@@ -1,18 +1,16 @@
 -- Laws of a list with one element set, and of where a block's windows and keys stand in their tables.
 -- Assumes nothing.
 use Prim.Native.Nat.{ℕ, zero, suc, _+_, _*_, _≤_, _<_}
-use mathlib.Core.Path.{_≡_, refl, sym, ap, _∙_, subst}
+use mathlib.Core.Path.{_≡_, refl, sym, subst}
 use mathlib.Core.Logic.{_⊎_, inl, inr, ⊎-elim}
-use mathlib.Core.Bool.{Bool, true, false, true≢false}
+use mathlib.Core.Bool.{true, false, true≢false}
 use mathlib.Core.List.{List, [], _∷_}
 use native.Mathlib.Omega.{arith}
 use lib.ListN.{length, getD, set}
-use lib.Seq.{getD-set-same, getD-set-other, set-out}
-use Rattle.card.specs.Lists.{all}
+use lib.Seq.{getD-set-same, getD-set-other}
 use Rattle.card.specs.ListsLaws.{below-or-not, same-or-other}
-use Rattle.card.specs.Contents.{overwrite}
 use Rattle.card.specs.ContentsLaws.{overwrite-before, overwrite-within, overwrite-behind}
-use Rattle.card.specs.Card.{allocatedFlag, windowAt, keyAt, keyHigh, keyLow, keyFlag}
+use Rattle.card.specs.Card.{allocatedFlag, windowAt, keyHigh, keyLow, keyFlag}
 use Rattle.card.specs.Plan.{keyBit, highWord, lowWord, replaceKeys}
 use Rattle.card.specs.declared.Mode.{Mode}
 use Rattle.card.specs.declared.Mode.the-variants.{Reading, Writing}
@@ -28,6 +26,14 @@ getD-set-either P (x ∷ xs) zero v zero new old = new
 getD-set-either P (x ∷ xs) zero v (suc j) new old = old
 getD-set-either P (x ∷ xs) (suc i) v zero new old = old
 getD-set-either P (x ∷ xs) (suc i) v (suc j) new old = getD-set-either P xs i v j new old
+
+-- What holds of the new element at its place holds at each place where it held before or that is not the new element's.
+pub getD-set-cases : (P : ℕ → ℕ → Type 0) (xs : List ℕ) (i v j : ℕ) → i < length xs → P i v → ((j ≡ i → ⊥) → P j (getD xs j 0)) → P j (getD (set xs i v) j 0)
+getD-set-cases P xs i v j l new old =
+    ⊎-elim
+    (λ (q : j ≡ i). subst (λ (n : ℕ). P n (getD (set xs i v) n 0)) (sym q) (subst (P i) (sym (getD-set-same xs i v 0 l)) new))
+    (λ (other : j ≡ i → ⊥). subst (P j) (sym (getD-set-other xs i j v 0 other)) (old other))
+    (same-or-other j i)
 
 -- ---- windows
 

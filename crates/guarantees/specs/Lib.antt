@@ -1,7 +1,9 @@
 pub mod Laws
 pub mod Steps
+pub mod PointerSteps
 pub mod Picks
 pub mod Judged
 pub mod KeepsSound
 pub mod Unchanged
 pub mod Untouched
+pub mod Format

@@ -1,32 +1,25 @@
--- Each primitive change keeps soundness, under the conditions that a call's checks give it.
--- A pair of changes passes through a card that is sound but for one block without a pointer to it.
+-- Changes of windows, contents, time and keys keep soundness, under the conditions that a call's checks give them.
 -- Assumes nothing.
-use Prim.Native.Nat.{ℕ, zero, suc, _+_, _-_, _*_, _≤_, _<_}
+use Prim.Native.Nat.{ℕ, _+_, _*_, _≤_, _<_}
 use mathlib.Core.Path.{_≡_, refl, sym, ap, _∙_, subst}
-use mathlib.Core.Logic.{_⊎_, inl, inr, ⊎-elim}
-use mathlib.Core.Bool.{Bool, true, false, _&&_, not, cond, true≢false, false≢true}
-use mathlib.Core.List.{List, [], _∷_, _++_}
+use mathlib.Core.Bool.{true, false, _&&_}
+use mathlib.Core.List.{List}
 use native.Mathlib.Omega.{arith}
-use lib.Dec.{eqb, ltb}
-use lib.ListN.{length, take, drop, getD, set, length-set, length-replicate, length-append, length-take, length-drop}
-use lib.Seq.{take-at, drop-at, getD-set-same, getD-set-other, drop-drop, length-take-le}
-use borrow.Author.Tests.{eq-eqb, ne-eqb, eqb-false, not-true}
+use lib.Dec.{ltb}
+use lib.ListN.{length, set, length-set}
+use lib.Seq.{getD-set-other}
 use Rattle.card.specs.Lists.{all}
-use Rattle.card.specs.ListsLaws.{and-left, and-right, and-true, absurd-test, false-unless, below-or-not, same-or-other, all-map, all-both, all-drop, all-cons}
-use Rattle.card.specs.Pointers.{pointer, source, destination, ascending, contains, adds, pointersTo, insert, remove}
-use Rattle.card.specs.PointersLaws.{source-pointer, destination-pointer, insert-length, insert-ascending, all-insert, pointersTo-insert, remove-length, remove-ascending, all-remove, pointersTo-remove, uncounted, contains-all, contains-counted, unpointing}
-use Rattle.card.specs.Contents.{fill, zeros}
+use Rattle.card.specs.ListsLaws.{absurd-test, false-unless, all-map}
+use Rattle.card.specs.Pointers.{source, destination}
+use Rattle.card.specs.Contents.{fill}
 use Rattle.card.specs.ContentsLaws.{overwrite-length, fill-length, block-fits}
-use Rattle.card.specs.Card.{Public, Card, card, flag, allocatedFlag, keyFlag, allocated, windowAt, windowEnd, longestInterval, count, inUse, keyHigh, keyLow, pointsTo, hasPointers}
+use Rattle.card.specs.Card.{Public, Card, card, flag, allocatedFlag, keyFlag, allocated, windowAt, windowEnd, longestInterval, count, inUse, keyHigh, keyLow}
 use Rattle.card.specs.Soundness.{timeLimit, pointerRight}
-use Rattle.card.specs.SoundnessLaws.{InRanges, HasLengths, Shaped, KeyZero, Empty, RightPointer, Sound, SoundCard, pointerRight-true, true-pointerRight, allocated-below, allocated-flag, flag-allocated}
-use Rattle.card.specs.Plan.{Change, setWindow, setBlock, setKeys, takeBlock, freeBlock, addPointer, dropPointer, setTime, highWord, lowWord, replaceKeys, withFlags, changePublic, changeKeys, changeContents, change}
-use Rattle.card.specs.declared.Info.{Info}
+use Rattle.card.specs.SoundnessLaws.{Shaped, KeyZero, Empty, RightPointer, SoundCard, pointerRight-true, true-pointerRight, allocated-below, allocated-flag, flag-allocated}
+use Rattle.card.specs.Plan.{setWindow, setBlock, setKeys, setTime, highWord, lowWord, withFlags, changePublic, changeKeys, changeContents, change}
 use Rattle.card.specs.declared.Mode.{Mode}
-use Rattle.card.specs.declared.Mode.the-variants.{Reading, Writing}
 use Rattle.card.specs.declared.NewKey.{NewKey}
-use Rattle.card.specs.declared.NewKey.the-variants.{Absent, Present}
-use Rattle.guarantees.specs.Laws.{getD-set-either, windowAt-apart, chosen, keyedFlag, keyedFlag-low, keyedFlag-allocated, keyedFlag-absent, replaced-high, replaced-low, kept-high, kept-low}
+use Rattle.guarantees.specs.Laws.{getD-set-either, getD-set-cases, windowAt-apart, keyedFlag, keyedFlag-low, keyedFlag-allocated, keyedFlag-absent, replaced-high, replaced-low, kept-high, kept-low}
 
 -- ---- shape
 
@@ -62,71 +55,17 @@ pub block-within : (c : Card) (b : ℕ) → length (c .contents) ≡ c .public .
 block-within c b e l = subst (λ (n : ℕ). b * c .public .info .bytes + c .public .info .bytes ≤ n) (sym e) (block-fits (c .public .info .bytes) l)
 
 -- A block's part filled leaves the contents as long as they were.
-filled-length : {c : Card} (b : ℕ) (ys : List ℕ) → Shaped c → b < c .public .info .blocks → length ys ≡ c .public .info .bytes
+pub filled-length : {c : Card} (b : ℕ) (ys : List ℕ) → Shaped c → b < c .public .info .blocks → length ys ≡ c .public .info .bytes
     → length (fill (c .public .info .bytes) (c .contents) b ys) ≡ length (c .contents)
 filled-length {c} b ys s l whole = fill-length (c .public .info .bytes) (c .contents) b ys (block-within c b (s .hasLengths .contents) l) whole
 
--- ---- soundness but for one block
-
--- Sound, but that block x may be allocated without a pointer to it.
-pub record SoundBut (x : ℕ) (c : Card) : Type 0 where
-  pub shaped : Shaped c
-  pub flagsLow : (b : ℕ) → b < c .public .info .blocks → flag (c .public) b < 8
-  pub rootsAllocated : (b : ℕ) → b < c .public .info .blocks → b < c .public .info .roots → allocatedFlag (flag (c .public) b) ≡ true
-  pub unallocated : (b : ℕ) → b < c .public .info .blocks → allocatedFlag (flag (c .public) b) ≡ false → Empty c b
-  pub absentKey : (mode : Mode) (b : ℕ) → b < c .public .info .blocks → keyFlag mode (flag (c .public) b) ≡ false → KeyZero c mode b
-  pub ascends : ascending (inUse (c .public)) ≡ true
-  pub restZero : all (λ w. eqb w 0) (drop (c .public .info .used) (c .public .pointers)) ≡ true
-  pub pointersRight : all (λ w. pointerRight (c .public) w) (inUse (c .public)) ≡ true
-  pub counts : (b : ℕ) → b < c .public .info .blocks → count (c .public) b ≡ pointersTo b (inUse (c .public))
-  pub pointed : (b : ℕ) → (b ≡ x → ⊥) → b < c .public .info .blocks → c .public .info .roots ≤ b → allocatedFlag (flag (c .public) b) ≡ true → 1 ≤ count (c .public) b
-  pub windowsLow : (mode : Mode) (b : ℕ) → b < c .public .info .blocks → windowEnd (c .public) mode b ≤ c .public .info .time + longestInterval
-
--- A sound card is sound but for any block.
-pub sound-but : {c : Card} (x : ℕ) → SoundCard c → SoundBut x c
-sound-but x s = record {
-  shaped = s .shaped;
-  flagsLow = s .isSound .flagsLow;
-  rootsAllocated = s .isSound .rootsAllocated;
-  unallocated = s .isSound .unallocated;
-  absentKey = s .isSound .absentKey;
-  ascends = s .isSound .ascends;
-  restZero = s .isSound .restZero;
-  pointersRight = s .isSound .pointersRight;
-  counts = s .isSound .counts;
-  pointed = λ b other. s .isSound .pointed b;
-  windowsLow = s .isSound .windowsLow;
-}
-
--- With a pointer to that block the card is sound.
-pub but-sound : {c : Card} {x : ℕ} → SoundBut x c → 1 ≤ count (c .public) x → SoundCard c
-but-sound {c} {x} s one = record {
-  shaped = s .shaped;
-  isSound = record {
-    flagsLow = s .flagsLow;
-    rootsAllocated = s .rootsAllocated;
-    unallocated = s .unallocated;
-    absentKey = s .absentKey;
-    ascends = s .ascends;
-    restZero = s .restZero;
-    pointersRight = s .pointersRight;
-    counts = s .counts;
-    pointed = λ b l r a.
-        ⊎-elim
-        (λ (e : b ≡ x). subst (λ (n : ℕ). 1 ≤ count (c .public) n) (sym e) one)
-        (λ (other : b ≡ x → ⊥). s .pointed b other l r a)
-        (same-or-other b x);
-    windowsLow = s .windowsLow;
-  };
-}
-
 -- ---- what a change leaves of a block
 
-keyZero-from : {c d : Card} {mode : Mode} {x : ℕ} → keyHigh (d .keys) mode x ≡ keyHigh (c .keys) mode x → keyLow (d .keys) mode x ≡ keyLow (c .keys) mode x
+pub keyZero-from : {c d : Card} {mode : Mode} {x : ℕ} → keyHigh (d .keys) mode x ≡ keyHigh (c .keys) mode x → keyLow (d .keys) mode x ≡ keyLow (c .keys) mode x
     → KeyZero c mode x → KeyZero d mode x
 keyZero-from e f h = record { high = e ∙ h .high; low = f ∙ h .low }
 
-empty-from : {c d : Card} {x : ℕ}
+pub empty-from : {c d : Card} {x : ℕ}
     → flag (d .public) x ≡ flag (c .public) x
     → ((mode : Mode) → keyHigh (d .keys) mode x ≡ keyHigh (c .keys) mode x)
     → ((mode : Mode) → keyLow (d .keys) mode x ≡ keyLow (c .keys) mode x)
@@ -144,7 +83,7 @@ pub unallocated-flag : (p : Public) (b : ℕ) → b < p .info .blocks → alloca
 unallocated-flag p b l e = false-unless _ (λ a. absurd-test (flag-allocated p b l a) e)
 
 -- An unallocated block is not the allocated one.
-not-allocated : (p : Public) {x b : ℕ} → allocated p b ≡ true → allocatedFlag (flag p x) ≡ false → x ≡ b → ⊥
+pub not-allocated : (p : Public) {x b : ℕ} → allocated p b ≡ true → allocatedFlag (flag p x) ≡ false → x ≡ b → ⊥
 not-allocated p {x} {b} a e q = absurd-test (allocated-flag p b a) (subst (λ (n : ℕ). allocatedFlag (flag p n) ≡ false) q e)
 
 -- ---- windows, contents and time
@@ -216,13 +155,6 @@ setTime-sound {c} time s later low = record {
 
 -- ---- flags and keys
 
-set-flag-same : (flags : List ℕ) (b v x : ℕ) → b < length flags → x ≡ b → getD (set flags b v) x 0 ≡ v
-set-flag-same flags b v x l q = ap (λ (n : ℕ). getD (set flags b v) n 0) q ∙ getD-set-same flags b v 0 l
-
--- Where a block's flags are set and say allocated, an unallocated block is another.
-set-flag-other : (flags : List ℕ) (b v x : ℕ) → b < length flags → allocatedFlag v ≡ true → allocatedFlag (getD (set flags b v) x 0) ≡ false → x ≡ b → ⊥
-set-flag-other flags b v x l odd e q = absurd-test odd (subst (λ (f : ℕ). allocatedFlag f ≡ false) (set-flag-same flags b v x l q) e)
-
 -- No allocated block ceases to be so where flags are set that say allocated.
 pub allocated-set : (p : Public) (b v x : ℕ) → allocatedFlag v ≡ true → allocated p x ≡ true → allocated (withFlags p (set (p .flags) b v)) x ≡ true
 allocated-set p b v x odd a =
@@ -235,7 +167,7 @@ unfolding allocated
 allocated-other p b v x other = ap (λ (f : ℕ). ltb x (p .info .blocks) && allocatedFlag f) (getD-set-other (p .flags) b x v 0 other)
 
 -- A pointer stays right where its ends stay allocated.
-right-kept : (p : Public) (flags : List ℕ) (w : ℕ) → pointerRight p w ≡ true
+pub right-kept : (p : Public) (flags : List ℕ) (w : ℕ) → pointerRight p w ≡ true
     → (allocated p (source w) ≡ true → allocated (withFlags p flags) (source w) ≡ true)
     → (allocated p (destination w) ≡ true → allocated (withFlags p flags) (destination w) ≡ true)
     → pointerRight (withFlags p flags) w ≡ true
@@ -248,7 +180,7 @@ right-kept p flags w e from to =
       different = r .different;
     })
 
-set-flag-pointers : (p : Public) (b v : ℕ) → allocatedFlag v ≡ true → (ws : List ℕ) → all (λ w. pointerRight p w) ws ≡ true
+pub set-flag-pointers : (p : Public) (b v : ℕ) → allocatedFlag v ≡ true → (ws : List ℕ) → all (λ w. pointerRight p w) ws ≡ true
     → all (λ w. pointerRight (withFlags p (set (p .flags) b v)) w) ws ≡ true
 set-flag-pointers p b v odd ws h =
     all-map (λ w. pointerRight p w) (λ w. pointerRight (withFlags p (set (p .flags) b v)) w)
@@ -261,432 +193,44 @@ pub setKeys-sound : {c : Card} (b : ℕ) (read write : NewKey) → SoundCard c �
 unfolding change changePublic changeKeys changeContents pointerRight allocated
 setKeys-sound {c} b read write s a =
     let p : Public = c .public in
+    let d : Card = change c (setKeys b read write) in
     let v : ℕ = keyedFlag read write in
+    let odd : allocatedFlag v ≡ true = keyedFlag-allocated read write in
     let below : b < p .info .blocks = allocated-below p b a in
     let inFlags : b < length (p .flags) = omega (arith, s .shaped .hasLengths .flags) in
     let fits : 4 * b + 4 ≤ length (c .keys) = omega (arith, s .shaped .hasLengths .keys) in
-    let kept : (x : ℕ) → (x ≡ b → ⊥) → getD (set (p .flags) b v) x 0 ≡ flag p x = λ x other. getD-set-other (p .flags) b x v 0 other in
     record {
       shaped = shaped-with (s .shaped) (length-set (p .flags) b v) (overwrite-length (c .keys) (4 * b) _ fits) refl refl refl refl (s .shaped .usedHigh) (s .shaped .timeHigh);
       isSound = record {
         flagsLow = λ x l. getD-set-either (λ (f : ℕ). f < 8) (p .flags) b v x (keyedFlag-low read write) (s .isSound .flagsLow x l);
-        rootsAllocated = λ x l r.
-            getD-set-either (λ (f : ℕ). allocatedFlag f ≡ true) (p .flags) b v x (keyedFlag-allocated read write) (s .isSound .rootsAllocated x l r);
-        unallocated = λ x l e.
-            let other : (x ≡ b → ⊥) = set-flag-other (p .flags) b v x inFlags (keyedFlag-allocated read write) e in
-            empty-from (kept x other)
+        rootsAllocated = λ x l r. getD-set-either (λ (f : ℕ). allocatedFlag f ≡ true) (p .flags) b v x odd (s .isSound .rootsAllocated x l r);
+        unallocated = λ x l.
+            getD-set-cases (λ (x f : ℕ). allocatedFlag f ≡ false → Empty d x) (p .flags) b v x inFlags
+            (λ e. absurd-test odd e)
+            (λ other e.
+            empty-from (getD-set-other (p .flags) b x v 0 other)
             (λ m. kept-high (c .keys) b read write fits m x other)
             (λ m. kept-low (c .keys) b read write fits m x other)
             refl
             (λ m. refl)
-            (s .isSound .unallocated x l (subst (λ (f : ℕ). allocatedFlag f ≡ false) (kept x other) e));
-        absentKey = λ m x l e.
-            ⊎-elim
-            (λ (q : x ≡ b).
-            let absent : chosen m read write ≡ Absent = keyedFlag-absent m read write (subst (λ (f : ℕ). keyFlag m f ≡ false) (set-flag-same (p .flags) b v x inFlags q) e) in
-            subst (λ (n : ℕ). KeyZero (change c (setKeys b read write)) m n) (sym q)
-            (record {
-              high = replaced-high (c .keys) b read write fits m ∙ ap highWord absent;
-              low = replaced-low (c .keys) b read write fits m ∙ ap lowWord absent;
-            }))
-            (λ (other : x ≡ b → ⊥).
+            (s .isSound .unallocated x l e));
+        absentKey = λ m x l.
+            getD-set-cases (λ (x f : ℕ). keyFlag m f ≡ false → KeyZero d m x) (p .flags) b v x inFlags
+            (λ e. record {
+              high = replaced-high (c .keys) b read write fits m ∙ ap highWord (keyedFlag-absent m read write e);
+              low = replaced-low (c .keys) b read write fits m ∙ ap lowWord (keyedFlag-absent m read write e);
+            })
+            (λ other e.
             keyZero-from (kept-high (c .keys) b read write fits m x other) (kept-low (c .keys) b read write fits m x other)
-            (s .isSound .absentKey m x l (subst (λ (f : ℕ). keyFlag m f ≡ false) (kept x other) e)))
-            (same-or-other x b);
+            (s .isSound .absentKey m x l e));
         ascends = s .isSound .ascends;
         restZero = s .isSound .restZero;
-        pointersRight = set-flag-pointers p b v (keyedFlag-allocated read write) (inUse p) (s .isSound .pointersRight);
+        pointersRight = set-flag-pointers p b v odd (inUse p) (s .isSound .pointersRight);
         counts = s .isSound .counts;
-        pointed = λ x l r e.
-            s .isSound .pointed x l r
-            (⊎-elim
-            (λ (q : x ≡ b). subst (λ (n : ℕ). allocatedFlag (flag p n) ≡ true) (sym q) (allocated-flag p b a))
-            (λ (other : x ≡ b → ⊥). subst (λ (f : ℕ). allocatedFlag f ≡ true) (kept x other) e)
-            (same-or-other x b));
+        pointed = λ x l.
+            getD-set-cases (λ (x f : ℕ). p .info .roots ≤ x → allocatedFlag f ≡ true → 1 ≤ count p x) (p .flags) b v x inFlags
+            (λ r e. s .isSound .pointed b below r (allocated-flag p b a))
+            (λ other. s .isSound .pointed x l);
         windowsLow = s .isSound .windowsLow;
       };
     }
-
--- ---- a block taken, and a pointer added to it
-
--- Take an unallocated block: sound but for a pointer to it.
-pub takeBlock-sound : {c : Card} (b : ℕ) → SoundCard c → b < c .public .info .blocks → allocatedFlag (flag (c .public) b) ≡ false
-    → SoundBut b (change c (takeBlock b))
-unfolding change changePublic changeKeys changeContents pointerRight allocated
-takeBlock-sound {c} b s below free =
-    let p : Public = c .public in
-    let inFlags : b < length (p .flags) = omega (arith, s .shaped .hasLengths .flags) in
-    let kept : (x : ℕ) → (x ≡ b → ⊥) → getD (set (p .flags) b 1) x 0 ≡ flag p x = λ x other. getD-set-other (p .flags) b x 1 0 other in
-    record {
-      shaped = shaped-with (s .shaped) (length-set (p .flags) b 1) refl refl refl refl
-          (filled-length b (zeros (p .info .bytes)) (s .shaped) below (length-replicate (p .info .bytes) 0))
-          (s .shaped .usedHigh)
-          (s .shaped .timeHigh);
-      flagsLow = λ x l. getD-set-either (λ (f : ℕ). f < 8) (p .flags) b 1 x (omega arith) (s .isSound .flagsLow x l);
-      rootsAllocated = λ x l r. getD-set-either (λ (f : ℕ). allocatedFlag f ≡ true) (p .flags) b 1 x refl (s .isSound .rootsAllocated x l r);
-      unallocated = λ x l e.
-          let other : (x ≡ b → ⊥) = set-flag-other (p .flags) b 1 x inFlags refl e in
-          empty-from (kept x other) (λ m. refl) (λ m. refl) refl (λ m. refl)
-          (s .isSound .unallocated x l (subst (λ (f : ℕ). allocatedFlag f ≡ false) (kept x other) e));
-      absentKey = λ m x l e.
-          ⊎-elim
-          (λ (q : x ≡ b). keyZero-from refl refl (s .isSound .unallocated x l (subst (λ (n : ℕ). allocatedFlag (flag p n) ≡ false) (sym q) free) .keysZero m))
-          (λ (other : x ≡ b → ⊥). keyZero-from refl refl (s .isSound .absentKey m x l (subst (λ (f : ℕ). keyFlag m f ≡ false) (kept x other) e)))
-          (same-or-other x b);
-      ascends = s .isSound .ascends;
-      restZero = s .isSound .restZero;
-      pointersRight = set-flag-pointers p b 1 refl (inUse p) (s .isSound .pointersRight);
-      counts = s .isSound .counts;
-      pointed = λ x other l r e. s .isSound .pointed x l r (subst (λ (f : ℕ). allocatedFlag f ≡ true) (kept x other) e);
-      windowsLow = s .isSound .windowsLow;
-    }
-
--- The pointers in use with one more, in front of the places behind them.
-module _ (w used : ℕ) (ps : List ℕ) (room : used < length ps) where
-  abbrev pub inserted : List ℕ
-  inserted = insert w (take used ps)
-
-  inserted-long : length inserted ≡ used + 1
-  inserted-long = omega (arith, insert-length w (take used ps), length-take-le used ps (omega arith))
-
-  inserted-take : take (used + 1) (inserted ++ drop (used + 1) ps) ≡ inserted
-  inserted-take = take-at inserted (drop (used + 1) ps) (used + 1) inserted-long
-
-  inserted-drop : drop (used + 1) (inserted ++ drop (used + 1) ps) ≡ drop 1 (drop used ps)
-  inserted-drop = drop-at inserted (drop (used + 1) ps) (used + 1) inserted-long ∙ sym (drop-drop 1 used ps)
-
-  pub inserted-length : length (inserted ++ drop (used + 1) ps) ≡ length ps
-  inserted-length = omega (arith, length-append inserted (drop (used + 1) ps), length-drop (used + 1) ps, inserted-long)
-
-adds-same : (b w : ℕ) → destination w ≡ b → adds b w ≡ 1
-adds-same b w e = rw (eq-eqb (destination w) b e)
-
-adds-other : (b w : ℕ) → (destination w ≡ b → ⊥) → adds b w ≡ 0
-adds-other b w e = rw (ne-eqb (destination w) b e)
-
--- Counts stay right with a pointer more to b, and with one less.
-module _ (counts ws : List ℕ) (a b x : ℕ) (narrow : b < 65536) (inCounts : b < length counts) (right : getD counts x 0 ≡ pointersTo x ws) where
-  count-insert : getD (set counts b (getD counts b 0 + 1)) x 0 ≡ pointersTo x (insert (pointer a b) ws)
-  count-insert =
-      ⊎-elim
-      (λ (q : x ≡ b).
-      let one : adds x (pointer a b) ≡ 1 = adds-same x (pointer a b) (destination-pointer a b narrow ∙ sym q) in
-      let new : getD (set counts b (getD counts b 0 + 1)) x 0 ≡ getD counts b 0 + 1 = set-flag-same counts b (getD counts b 0 + 1) x inCounts q in
-      let old : getD counts b 0 ≡ getD counts x 0 = ap (λ (n : ℕ). getD counts n 0) (sym q) in
-      omega (arith, pointersTo-insert x (pointer a b) ws))
-      (λ (other : x ≡ b → ⊥).
-      let none : adds x (pointer a b) ≡ 0 = adds-other x (pointer a b) (λ e. other (sym e ∙ destination-pointer a b narrow)) in
-      let new : getD (set counts b (getD counts b 0 + 1)) x 0 ≡ getD counts x 0 = getD-set-other counts b x (getD counts b 0 + 1) 0 other in
-      omega (arith, pointersTo-insert x (pointer a b) ws))
-      (same-or-other x b)
-
-  count-remove : contains (pointer a b) ws ≡ true → getD (set counts b (getD counts b 0 - 1)) x 0 ≡ pointersTo x (remove (pointer a b) ws)
-  count-remove there =
-      ⊎-elim
-      (λ (q : x ≡ b).
-      let one : adds x (pointer a b) ≡ 1 = adds-same x (pointer a b) (destination-pointer a b narrow ∙ sym q) in
-      let new : getD (set counts b (getD counts b 0 - 1)) x 0 ≡ getD counts b 0 - 1 = set-flag-same counts b (getD counts b 0 - 1) x inCounts q in
-      let old : getD counts b 0 ≡ getD counts x 0 = ap (λ (n : ℕ). getD counts n 0) (sym q) in
-      omega (arith, pointersTo-remove x (pointer a b) ws there))
-      (λ (other : x ≡ b → ⊥).
-      let none : adds x (pointer a b) ≡ 0 = adds-other x (pointer a b) (λ e. other (sym e ∙ destination-pointer a b narrow)) in
-      let new : getD (set counts b (getD counts b 0 - 1)) x 0 ≡ getD counts x 0 = getD-set-other counts b x (getD counts b 0 - 1) 0 other in
-      omega (arith, pointersTo-remove x (pointer a b) ws there))
-      (same-or-other x b)
-
--- Add a pointer that is not there, between two allocated blocks, to no root, where a place is left.
-pub addPointer-sound : {c : Card} (a b : ℕ) → SoundBut b c
-    → allocated (c .public) a ≡ true
-    → allocated (c .public) b ≡ true
-    → c .public .info .roots ≤ b
-    → (a ≡ b → ⊥)
-    → pointsTo (c .public) a b ≡ false
-    → c .public .info .used < length (c .public .pointers)
-    → SoundCard (change c (addPointer a b))
-unfolding change changePublic changeKeys changeContents pointsTo pointerRight allocated
-addPointer-sound {c} a b s fromAllocated toAllocated noRoot different absent room =
-    let p : Public = c .public in
-    let below : b < p .info .blocks = allocated-below p b toAllocated in
-    let narrow : b < 65536 = omega (arith, s .shaped .inRanges .blocksHigh) in
-    let inCounts : b < length (p .counts) = omega (arith, s .shaped .hasLengths .counts) in
-    let used : ℕ = p .info .used in
-    let ps : List ℕ = p .pointers in
-    let w : ℕ = pointer a b in
-    let listed : take (used + 1) (insert w (inUse p) ++ drop (used + 1) ps) ≡ insert w (inUse p) = inserted-take w used ps room in
-    let right : pointerRight p w ≡ true = true-pointerRight {p = p} (record {
-      sourceAllocated = subst (λ (n : ℕ). allocated p n ≡ true) (sym (source-pointer a b narrow)) fromAllocated;
-      destinationAllocated = subst (λ (n : ℕ). allocated p n ≡ true) (sym (destination-pointer a b narrow)) toAllocated;
-      noRoot = subst (λ (n : ℕ). p .info .roots ≤ n) (sym (destination-pointer a b narrow)) noRoot;
-      different = λ e. different (sym (source-pointer a b narrow) ∙ e ∙ destination-pointer a b narrow);
-    }) in
-    but-sound {x = b} (record {
-      shaped = shaped-with (s .shaped) refl refl (length-set (p .counts) b (count p b + 1)) (inserted-length w used ps room) refl refl
-          (omega (arith, inserted-length w used ps room))
-          (s .shaped .timeHigh);
-      flagsLow = s .flagsLow;
-      rootsAllocated = s .rootsAllocated;
-      unallocated = λ x l e.
-          empty-from refl (λ m. refl) (λ m. refl)
-          (getD-set-other (p .counts) b x (count p b + 1) 0 (not-allocated p toAllocated e))
-          (λ m. refl)
-          (s .unallocated x l e);
-      absentKey = λ m x l e. keyZero-from refl refl (s .absentKey m x l e);
-      ascends = subst (λ (ws : List ℕ). ascending ws ≡ true) (sym listed) (insert-ascending w (inUse p) (s .ascends) absent);
-      restZero =
-          subst (λ (ws : List ℕ). all (λ w. eqb w 0) ws ≡ true) (sym (inserted-drop w used ps room))
-          (all-drop (λ w. eqb w 0) 1 (drop used ps) (s .restZero));
-      pointersRight =
-          subst (λ (ws : List ℕ). all (λ w. pointerRight p w) ws ≡ true) (sym listed)
-          (all-insert (λ w. pointerRight p w) w (inUse p) right (s .pointersRight));
-      counts = λ x l.
-          subst (λ (ws : List ℕ). getD (set (p .counts) b (count p b + 1)) x 0 ≡ pointersTo x ws) (sym listed)
-          (count-insert (p .counts) (inUse p) a b x narrow inCounts (s .counts x l));
-      pointed = λ x other l r e.
-          subst (λ (n : ℕ). 1 ≤ n) (sym (getD-set-other (p .counts) b x (count p b + 1) 0 other)) (s .pointed x other l r e);
-      windowsLow = s .windowsLow;
-    })
-    (subst (λ (n : ℕ). 1 ≤ n) (sym (getD-set-same (p .counts) b (count p b + 1) 0 inCounts)) (omega arith))
-
--- ---- a pointer dropped, and its block freed
-
--- The pointers in use with one less, in front of a zero and the places behind them.
-module _ (w used : ℕ) (ps : List ℕ) (fit : used ≤ length ps) (there : contains w (take used ps) ≡ true) where
-  abbrev removed : List ℕ
-  removed = remove w (take used ps)
-
-  removed-long : suc (length removed) ≡ used
-  removed-long = remove-length w (take used ps) there ∙ length-take-le used ps fit
-
-  removed-take : take (used - 1) (removed ++ (0 ∷ drop used ps)) ≡ removed
-  removed-take = take-at removed (0 ∷ drop used ps) (used - 1) (omega (arith, removed-long))
-
-  removed-drop : drop (used - 1) (removed ++ (0 ∷ drop used ps)) ≡ 0 ∷ drop used ps
-  removed-drop = drop-at removed (0 ∷ drop used ps) (used - 1) (omega (arith, removed-long))
-
-  removed-length : length (removed ++ (0 ∷ drop used ps)) ≡ length ps
-  removed-length = omega (arith, length-append removed (0 ∷ drop used ps), length-drop used ps, removed-long)
-
--- Drop a pointer that is there: sound but for a pointer to its block.
-pub dropPointer-sound : {c : Card} (a b : ℕ) → SoundCard c → allocated (c .public) b ≡ true → pointsTo (c .public) a b ≡ true
-    → SoundBut b (change c (dropPointer a b))
-unfolding change changePublic changeKeys changeContents pointsTo pointerRight allocated
-dropPointer-sound {c} a b s toAllocated there =
-    let p : Public = c .public in
-    let below : b < p .info .blocks = allocated-below p b toAllocated in
-    let narrow : b < 65536 = omega (arith, s .shaped .inRanges .blocksHigh) in
-    let inCounts : b < length (p .counts) = omega (arith, s .shaped .hasLengths .counts) in
-    let used : ℕ = p .info .used in
-    let ps : List ℕ = p .pointers in
-    let fit : used ≤ length ps = s .shaped .usedHigh in
-    let w : ℕ = pointer a b in
-    let listed : take (used - 1) (remove w (inUse p) ++ (0 ∷ drop used ps)) ≡ remove w (inUse p) = removed-take w used ps fit there in
-    record {
-      shaped = shaped-with (s .shaped) refl refl (length-set (p .counts) b (count p b - 1)) (removed-length w used ps fit there) refl refl
-          (omega (arith, removed-length w used ps fit there))
-          (s .shaped .timeHigh);
-      flagsLow = s .isSound .flagsLow;
-      rootsAllocated = s .isSound .rootsAllocated;
-      unallocated = λ x l e.
-          empty-from refl (λ m. refl) (λ m. refl)
-          (getD-set-other (p .counts) b x (count p b - 1) 0 (not-allocated p toAllocated e))
-          (λ m. refl)
-          (s .isSound .unallocated x l e);
-      absentKey = λ m x l e. keyZero-from refl refl (s .isSound .absentKey m x l e);
-      ascends = subst (λ (ws : List ℕ). ascending ws ≡ true) (sym listed) (remove-ascending w (inUse p) (s .isSound .ascends));
-      restZero =
-          subst (λ (ws : List ℕ). all (λ w. eqb w 0) ws ≡ true) (sym (removed-drop w used ps fit there))
-          (all-cons (λ w. eqb w 0) 0 (drop used ps) refl (s .isSound .restZero));
-      pointersRight =
-          subst (λ (ws : List ℕ). all (λ w. pointerRight p w) ws ≡ true) (sym listed)
-          (all-remove (λ w. pointerRight p w) w (inUse p) (s .isSound .pointersRight));
-      counts = λ x l.
-          subst (λ (ws : List ℕ). getD (set (p .counts) b (count p b - 1)) x 0 ≡ pointersTo x ws) (sym listed)
-          (count-remove (p .counts) (inUse p) a b x narrow inCounts (s .isSound .counts x l) there);
-      pointed = λ x other l r e.
-          subst (λ (n : ℕ). 1 ≤ n) (sym (getD-set-other (p .counts) b x (count p b - 1) 0 other)) (s .isSound .pointed x l r e);
-      windowsLow = s .isSound .windowsLow;
-    }
-
--- Both windows of a block set to 0.
-abbrev closed : List ℕ → ℕ → List ℕ
-closed windows b = set (set windows (windowAt Reading b) 0) (windowAt Writing b) 0
-
-closed-either : (P : ℕ → Type 0) (windows : List ℕ) (b j : ℕ) → P 0 → P (getD windows j 0) → P (getD (closed windows b) j 0)
-closed-either P windows b j new old =
-    getD-set-either P (set windows (windowAt Reading b) 0) (windowAt Writing b) 0 j new
-    (getD-set-either P windows (windowAt Reading b) 0 j new old)
-
-closed-same : (windows : List ℕ) (b : ℕ) → 2 * b + 1 < length windows → (mode : Mode) → getD (closed windows b) (windowAt mode b) 0 ≡ 0
-closed-same windows b fits Reading =
-    getD-set-other (set windows (2 * b) 0) (2 * b + 1) (2 * b) 0 0 (λ e. omega arith) ∙ getD-set-same windows (2 * b) 0 0 (omega arith)
-closed-same windows b fits Writing =
-    getD-set-same (set windows (2 * b) 0) (2 * b + 1) 0 0 (subst (λ (n : ℕ). 2 * b + 1 < n) (sym (length-set windows (2 * b) 0)) fits)
-
-free-pointers : (p : Public) (b : ℕ) (ws : List ℕ)
-    → all (λ w. pointerRight p w) ws ≡ true
-    → all (λ w. not (eqb (source w) b)) ws ≡ true
-    → all (λ w. not (eqb (destination w) b)) ws ≡ true
-    → all (λ w. pointerRight (withFlags p (set (p .flags) b 0)) w) ws ≡ true
-free-pointers p b ws right from to =
-    let kept : (x : ℕ) → (x ≡ b → ⊥) → allocated p x ≡ true → allocated (withFlags p (set (p .flags) b 0)) x ≡ true = λ x other a. allocated-other p b 0 x other ∙ a in
-    all-both (λ w. pointerRight p w) (λ w. not (eqb (source w) b) && not (eqb (destination w) b)) (λ w. pointerRight (withFlags p (set (p .flags) b 0)) w)
-    (λ w e f.
-    right-kept p (set (p .flags) b 0) w e
-    (kept (source w) (eqb-false _ _ (not-true _ (and-left _ _ f))))
-    (kept (destination w) (eqb-false _ _ (not-true _ (and-right (not (eqb (source w) b)) _ f)))))
-    ws
-    right
-    (all-both (λ w. not (eqb (source w) b)) (λ w. not (eqb (destination w) b)) (λ w. not (eqb (source w) b) && not (eqb (destination w) b))
-    (λ w. and-true (not (eqb (source w) b)) (not (eqb (destination w) b)))
-    ws
-    from
-    to)
-
-chosen-high : (mode : Mode) → highWord (chosen mode Absent Absent) ≡ 0
-chosen-high Reading = refl
-chosen-high Writing = refl
-
-chosen-low : (mode : Mode) → lowWord (chosen mode Absent Absent) ≡ 0
-chosen-low Reading = refl
-chosen-low Writing = refl
-
--- Free a block that is no root, with no pointer to it and none of its own.
-pub freeBlock-sound : {c : Card} (b : ℕ) → SoundBut b c
-    → b < c .public .info .blocks
-    → c .public .info .roots ≤ b
-    → count (c .public) b ≡ 0
-    → all (λ w. not (eqb (source w) b)) (inUse (c .public)) ≡ true
-    → SoundCard (change c (freeBlock b))
-unfolding change changePublic changeKeys changeContents pointerRight allocated
-freeBlock-sound {c} b s below noRoot uncount unpoint =
-    let p : Public = c .public in
-    let inFlags : b < length (p .flags) = omega (arith, s .shaped .hasLengths .flags) in
-    let fits : 4 * b + 4 ≤ length (c .keys) = omega (arith, s .shaped .hasLengths .keys) in
-    let inWindows : 2 * b + 1 < length (p .windows) = omega (arith, s .shaped .hasLengths .windows) in
-    let kept : (x : ℕ) → (x ≡ b → ⊥) → getD (set (p .flags) b 0) x 0 ≡ flag p x = λ x other. getD-set-other (p .flags) b x 0 0 other in
-    let noKeys : (m : Mode) → KeyZero (change c (freeBlock b)) m b = λ m. record {
-      high = replaced-high (c .keys) b Absent Absent fits m ∙ chosen-high m;
-      low = replaced-low (c .keys) b Absent Absent fits m ∙ chosen-low m;
-    } in
-    let keysKept : (m : Mode) (x : ℕ) → (x ≡ b → ⊥) → KeyZero c m x → KeyZero (change c (freeBlock b)) m x = λ m x other z.
-    keyZero-from (kept-high (c .keys) b Absent Absent fits m x other) (kept-low (c .keys) b Absent Absent fits m x other) z in
-    record {
-      shaped = shaped-with (s .shaped) (length-set (p .flags) b 0) (overwrite-length (c .keys) (4 * b) _ fits) refl refl
-          (length-set (set (p .windows) (windowAt Reading b) 0) (windowAt Writing b) 0 ∙ length-set (p .windows) (windowAt Reading b) 0)
-          refl
-          (s .shaped .usedHigh)
-          (s .shaped .timeHigh);
-      isSound = record {
-        flagsLow = λ x l. getD-set-either (λ (f : ℕ). f < 8) (p .flags) b 0 x (omega arith) (s .flagsLow x l);
-        rootsAllocated = λ x l r.
-            subst (λ (f : ℕ). allocatedFlag f ≡ true) (sym (kept x (λ (q : x ≡ b). omega arith))) (s .rootsAllocated x l r);
-        unallocated = λ x l e.
-            ⊎-elim
-            (λ (q : x ≡ b).
-            subst (λ (n : ℕ). Empty (change c (freeBlock b)) n) (sym q)
-            (record {
-              flagZero = getD-set-same (p .flags) b 0 0 inFlags;
-              keysZero = noKeys;
-              countZero = uncount;
-              windowZero = closed-same (p .windows) b inWindows;
-            }))
-            (λ (other : x ≡ b → ⊥).
-            let h : Empty c x = s .unallocated x l (subst (λ (f : ℕ). allocatedFlag f ≡ false) (kept x other) e) in
-            record {
-              flagZero = kept x other ∙ h .flagZero;
-              keysZero = λ m. keysKept m x other (h .keysZero m);
-              countZero = h .countZero;
-              windowZero = λ m. closed-either (λ (n : ℕ). n ≡ 0) (p .windows) b (windowAt m x) refl (h .windowZero m);
-            })
-            (same-or-other x b);
-        absentKey = λ m x l e.
-            ⊎-elim
-            (λ (q : x ≡ b). subst (λ (n : ℕ). KeyZero (change c (freeBlock b)) m n) (sym q) (noKeys m))
-            (λ (other : x ≡ b → ⊥). keysKept m x other (s .absentKey m x l (subst (λ (f : ℕ). keyFlag m f ≡ false) (kept x other) e)))
-            (same-or-other x b);
-        ascends = s .ascends;
-        restZero = s .restZero;
-        pointersRight = free-pointers p b (inUse p) (s .pointersRight) unpoint (uncounted b (inUse p) (sym (s .counts b below) ∙ uncount));
-        counts = s .counts;
-        pointed = λ x l r e.
-            let other : (x ≡ b → ⊥) = λ q. absurd-test e (ap allocatedFlag (set-flag-same (p .flags) b 0 x inFlags q)) in
-            s .pointed x other l r (subst (λ (f : ℕ). allocatedFlag f ≡ true) (kept x other) e);
-        windowsLow = λ m x l.
-            closed-either (λ (n : ℕ). n ≤ p .info .time + longestInterval) (p .windows) b (windowAt m x) (omega arith) (s .windowsLow m x l);
-      };
-    }
-
--- ---- pairs of changes
-
--- A pointer in use is right.
-pub pointer-right : {c : Card} (a b : ℕ) → SoundCard c → pointsTo (c .public) a b ≡ true → RightPointer (c .public) (pointer a b)
-unfolding pointsTo
-pointer-right {c} a b s there =
-    pointerRight-true (c .public) (pointer a b)
-    (contains-all (λ w. pointerRight (c .public) w) (pointer a b) (inUse (c .public)) there (s .isSound .pointersRight))
-
--- A block below N has a number in 16 bits.
-pub block-narrow : {c : Card} {b : ℕ} → SoundCard c → b < c .public .info .blocks → b < 65536
-block-narrow s l = omega (arith, s .shaped .inRanges .blocksHigh)
-
--- No pointer goes to an unallocated block.
-pub no-pointer : {c : Card} (a b : ℕ) → SoundCard c → b < c .public .info .blocks → allocatedFlag (flag (c .public) b) ≡ false → pointsTo (c .public) a b ≡ false
-no-pointer {c} a b s below free =
-    false-unless _
-    (λ e.
-    absurd-test
-    (allocated-flag (c .public) b
-    (subst (λ (n : ℕ). allocated (c .public) n ≡ true) (destination-pointer a b (block-narrow s below)) (pointer-right a b s e .destinationAllocated)))
-    free)
-
--- Take an unallocated block and point to it from an allocated one, where a place is left.
-pub takeAdd-sound : {c : Card} (a b : ℕ) → SoundCard c
-    → allocated (c .public) a ≡ true
-    → b < c .public .info .blocks
-    → allocatedFlag (flag (c .public) b) ≡ false
-    → c .public .info .used < length (c .public .pointers)
-    → SoundCard (change (change c (takeBlock b)) (addPointer a b))
-unfolding change changePublic pointsTo
-takeAdd-sound {c} a b s fromAllocated below free room =
-    let p : Public = c .public in
-    addPointer-sound a b (takeBlock-sound b s below free)
-    (allocated-set p b 1 a refl fromAllocated)
-    (flag-allocated (withFlags p (set (p .flags) b 1)) b below
-    (ap allocatedFlag (getD-set-same (p .flags) b 1 0 (omega (arith, s .shaped .hasLengths .flags)))))
-    (⊎-elim
-    (λ (l : b < p .info .roots). absurd-test (s .isSound .rootsAllocated b below l) free)
-    (λ (l : p .info .roots ≤ b). l)
-    (below-or-not b (p .info .roots)))
-    (λ (e : a ≡ b). not-allocated p fromAllocated free (sym e))
-    (no-pointer a b s below free)
-    room
-
-module _ {c : Card} (a b : ℕ) (s : SoundCard c) (toAllocated : allocated (c .public) b ≡ true) (there : pointsTo (c .public) a b ≡ true) where
-  count-after : count (change c (dropPointer a b) .public) b ≡ count (c .public) b - 1
-  unfolding change changePublic
-  count-after =
-      getD-set-same (c .public .counts) b (count (c .public) b - 1) 0
-      (omega (arith, allocated-below (c .public) b toAllocated, s .shaped .hasLengths .counts))
-
-  -- Drop a pointer to a block that has another.
-  pub dropOne-sound : (count (c .public) b ≡ 1 → ⊥) → SoundCard (change c (dropPointer a b))
-  unfolding pointsTo
-  dropOne-sound more =
-      let below : b < c .public .info .blocks = allocated-below (c .public) b toAllocated in
-      let some : 1 ≤ count (c .public) b =
-      subst (λ (n : ℕ). 1 ≤ n) (sym (s .isSound .counts b below))
-      (contains-counted b (pointer a b) (inUse (c .public)) there (destination-pointer a b (block-narrow s below))) in
-      but-sound (dropPointer-sound a b s toAllocated there) (omega (arith, count-after))
-
-  -- Drop the last pointer to a block that has none of its own, and free the block.
-  pub dropLast-sound : count (c .public) b ≡ 1 → hasPointers (c .public) b ≡ false → SoundCard (change (change c (dropPointer a b)) (freeBlock b))
-  unfolding change changePublic pointsTo hasPointers
-  dropLast-sound last alone =
-      let p : Public = c .public in
-      let below : b < p .info .blocks = allocated-below p b toAllocated in
-      freeBlock-sound b (dropPointer-sound a b s toAllocated there) below
-      (subst (λ (n : ℕ). p .info .roots ≤ n) (destination-pointer a b (block-narrow s below)) (pointer-right a b s there .noRoot))
-      (omega (arith, count-after))
-      (subst (λ (ws : List ℕ). all (λ w. not (eqb (source w) b)) ws ≡ true)
-      (sym (removed-take (pointer a b) (p .info .used) (p .pointers) (s .shaped .usedHigh) there))
-      (all-remove (λ w. not (eqb (source w) b)) (pointer a b) (inUse p) (unpointing b (inUse p) alone)))

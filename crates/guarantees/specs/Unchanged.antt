@@ -1,13 +1,12 @@
 -- A refused call changes no table, record or buffer.
 -- Assumes nothing.
 use Prim.Native.Nat.{ℕ}
-use mathlib.Core.Path.{_≡_, refl, sym, ap}
+use mathlib.Core.Path.{_≡_, refl, ap}
 use mathlib.Core.Bool.{Bool, true, false, _&&_}
-use mathlib.Core.List.{List}
 use Rattle.card.specs.ListsLaws.{absurd-test}
 use Rattle.card.specs.Card.{Card}
 use Rattle.card.specs.Soundness.{ranges, lengths}
-use Rattle.card.specs.Plan.{Plan, Buffers, Result, settle}
+use Rattle.card.specs.Plan.{Buffers, Result, settle}
 use Rattle.card.specs.Calls.{formatResult, format, readPlan, writePlan, allocPlan, createPlan, deletePlan, keyPlan, renewPlan, forcePlan, freePlan, tickPlan, auditPlan}
 use Rattle.card.specs.Session.{Request, plan, perform}
 use Rattle.card.specs.declared.Port.{Port}

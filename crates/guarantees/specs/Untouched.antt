@@ -1,9 +1,9 @@
 -- A call touches no unallocated block's contents but those that it takes, which it leaves allocated and filled with zeros.
 -- Assumes nothing.
-use Prim.Native.Nat.{ℕ, zero, suc, _+_, _*_, _≤_, _<_}
+use Prim.Native.Nat.{ℕ, _*_, _<_}
 use mathlib.Core.Path.{_≡_, refl, sym, ap, _∙_, subst}
 use mathlib.Core.Logic.{_⊎_, inl, inr, ⊎-elim}
-use mathlib.Core.Bool.{Bool, true, false, not, cond, _||_}
+use mathlib.Core.Bool.{Bool, true, false, cond}
 use mathlib.Core.List.{List, [], _∷_}
 use lib.Dec.{eqb, ltb}
 use lib.ListN.{length, set, length-set, length-replicate}
@@ -11,11 +11,11 @@ use lib.Seq.{getD-set-same}
 use borrow.Author.Tests.{eqb-true, ltb-true, not-false}
 use Rattle.card.specs.Lists.{all}
 use Rattle.card.specs.ListsLaws.{absurd-test, or-false-left, same-or-other, all-head, all-tail}
-use Rattle.card.specs.Contents.{part, fill, zeros}
+use Rattle.card.specs.Contents.{zeros}
 use Rattle.card.specs.ContentsLaws.{fill-length, part-fill-same, part-fill-other}
 use Rattle.card.specs.Card.{Public, Card, allocatedFlag, allocated, freeBlocks, count, block}
 use Rattle.card.specs.SoundnessLaws.{SoundCard, allocated-below, flag-allocated}
-use Rattle.card.specs.Plan.{Change, setWindow, setBlock, takeBlock, freeBlock, addPointer, dropPointer, withFlags, changePublic, changeContents, change, changes, Plan, Buffers}
+use Rattle.card.specs.Plan.{setWindow, setBlock, takeBlock, freeBlock, addPointer, dropPointer, withFlags, changePublic, changeContents, change, changes, Buffers}
 use Rattle.card.specs.PlanLaws.{NoneHolds}
 use Rattle.card.specs.Calls.{windowAfter, opensWindow, wanted, picks, takeAll, readPlan, writePlan, allocPlan, createPlan, deletePlan, keyPlan, renewPlan, forcePlan, freePlan, tickPlan, auditPlan}
 use Rattle.card.specs.Session.{Request, plan, perform}
@@ -29,18 +29,18 @@ use Rattle.card.specs.declared.AllocOperands.{AllocOperands}
 use Rattle.card.specs.declared.Call.{Call}
 use Rattle.card.specs.declared.Call.the-variants.{Read, Write, Alloc, Create, Delete, Key, Renew, Force, Free, Tick, Audit}
 use Rattle.guarantees.specs.Steps.{block-within, allocated-other}
-use Rattle.guarantees.specs.Picks.{Takeable, picks-takeable}
+use Rattle.guarantees.specs.Picks.{picks-takeable}
 use Rattle.guarantees.specs.KeepsSound.{not-missing}
 use Rattle.guarantees.specs.Judged.{judge-after}
 
--- The block is allocated and holds zeros.
-pub record Fresh (c : Card) (b : ℕ) : Type 0 where
+-- The block is allocated and holds so many zeros.
+pub record Fresh (bytes : ℕ) (c : Card) (b : ℕ) : Type 0 where
   pub isAllocated : allocated (c .public) b ≡ true
-  pub holdsZeros : block c b ≡ zeros (c .public .info .bytes)
+  pub holdsZeros : block c b ≡ zeros bytes
 
 -- From card c to card d the block's contents are as they were, or the block is now allocated and holds zeros.
 abbrev pub Untouched : Card → Card → ℕ → Type 0
-Untouched c d b = (block d b ≡ block c b) ⊎ Fresh d b
+Untouched c d b = (block d b ≡ block c b) ⊎ Fresh (c .public .info .bytes) d b
 
 -- ---- windows and WRITE
 
@@ -100,7 +100,7 @@ module _ (c : Card) (reference x : ℕ) (fits : Fitted c) (below : x < c .public
         ∙ fits .contents;
   }
 
-  taken-fresh : Fresh taken x
+  taken-fresh : Fresh (c .public .info .bytes) taken x
   unfolding change changePublic changeContents allocated
   taken-fresh = record {
     isAllocated =
@@ -114,11 +114,11 @@ module _ (c : Card) (reference x : ℕ) (fits : Fitted c) (below : x < c .public
   taken-other b other =
       part-fill-other (c .public .info .bytes) (c .contents) x (zeros (c .public .info .bytes)) (block-within c x (fits .contents) below) whole b other
 
-  fresh-kept : (b : ℕ) → Fresh c b → Fresh taken b
+  fresh-kept : (b : ℕ) → Fresh (c .public .info .bytes) c b → Fresh (c .public .info .bytes) taken b
   unfolding change changePublic changeContents allocated
   fresh-kept b f =
       ⊎-elim
-      (λ (e : b ≡ x). subst (λ (n : ℕ). Fresh taken n) (sym e) taken-fresh)
+      (λ (e : b ≡ x). subst (λ (n : ℕ). Fresh (c .public .info .bytes) taken n) (sym e) taken-fresh)
       (λ (other : b ≡ x → ⊥). record {
         isAllocated = allocated-other (c .public) x 1 b other ∙ f .isAllocated;
         holdsZeros = taken-other b other ∙ f .holdsZeros;
@@ -126,8 +126,8 @@ module _ (c : Card) (reference x : ℕ) (fits : Fitted c) (below : x < c .public
       (same-or-other b x)
 
 module _ (reference b : ℕ) where
-  takeAll-fresh : (bs : List ℕ) (c : Card) → Fitted c → all (λ x. ltb x (c .public .info .blocks)) bs ≡ true → Fresh c b
-      → Fresh (changes c (takeAll reference bs)) b
+  takeAll-fresh : (bs : List ℕ) (c : Card) → Fitted c → all (λ x. ltb x (c .public .info .blocks)) bs ≡ true → Fresh (c .public .info .bytes) c b
+      → Fresh (c .public .info .bytes) (changes c (takeAll reference bs)) b
   unfolding takeAll changes change changePublic
   takeAll-fresh [] c fits h f = f
   takeAll-fresh (x ∷ bs) c fits h f =
@@ -145,7 +145,7 @@ module _ (reference b : ℕ) where
       let nextFits : Fitted next = taken-fits c reference x fits below in
       let rest : all (λ x. ltb x (c .public .info .blocks)) bs ≡ true = all-tail (λ x. ltb x (c .public .info .blocks)) x bs h in
       ⊎-elim
-      (λ (e : b ≡ x). inr (takeAll-fresh bs next nextFits rest (subst (λ (n : ℕ). Fresh next n) (sym e) (taken-fresh c reference x fits below))))
+      (λ (e : b ≡ x). inr (takeAll-fresh bs next nextFits rest (subst (λ (n : ℕ). Fresh (c .public .info .bytes) next n) (sym e) (taken-fresh c reference x fits below))))
       (λ (other : b ≡ x → ⊥).
       ⊎-elim (λ same. inl (same ∙ taken-other c reference x fits below b other)) (λ f. inr f) (takeAll-untouched bs next nextFits rest))
       (same-or-other b x)
