@@ -159,17 +159,15 @@ unfolding allBelow
 true-allBelow p zero f = refl
 true-allBelow p (suc n) f = and-true (p n) _ (f n (omega arith)) (true-allBelow p n (λ i h. f i (omega arith)))
 
-<<<<<<< HEAD
 -- What two tests give of each element together.
 pub all-both : (p q r : ℕ → Bool) → ((x : ℕ) → p x ≡ true → q x ≡ true → r x ≡ true) → (xs : List ℕ) → all p xs ≡ true → all q xs ≡ true → all r xs ≡ true
 unfolding all
 all-both p q r f [] h g = refl
 all-both p q r f (x ∷ xs) h g =
     and-true (r x) _ (f x (and-left (p x) _ h) (and-left (q x) _ g)) (all-both p q r f xs (and-right (p x) _ h) (and-right (q x) _ g))
-=======
+
 -- Tests that agree below n have the same numbers there.
 pub numbersBelow-same : (p q : ℕ → Bool) (n : ℕ) → ((i : ℕ) → i < n → p i ≡ q i) → numbersBelow p n ≡ numbersBelow q n
 unfolding numbersBelow
 numbersBelow-same p q zero f = refl
 numbersBelow-same p q (suc n) f = rw (f n (omega arith), numbersBelow-same p q n (λ i h. f i (omega arith)))
->>>>>>> tables
