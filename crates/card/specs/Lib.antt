@@ -13,5 +13,6 @@ pub mod PlanLaws
 pub mod Calls
 pub mod Promises
 pub mod Session
+pub mod SessionLaws
 pub mod Reach
 pub mod Trials

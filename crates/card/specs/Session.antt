@@ -6,7 +6,7 @@ use lib.Dec.{eqb}
 use lib.ListN.{length, take}
 use Rattle.card.specs.Card.{Card}
 use Rattle.card.specs.Access.{admits, opens}
-use Rattle.card.specs.Plan.{Plan, Buffers, Result, judge}
+use Rattle.card.specs.Plan.{Plan, Buffers, Result, judge, judgeSound}
 use Rattle.card.specs.Calls.{answerNumber, answerValues, modeOf, readPlan, writePlan, allocPlan, createPlan, deletePlan, keyPlan, renewPlan, forcePlan, freePlan, tickPlan, auditPlan}
 use Rattle.card.specs.declared.Port.{Port}
 use Rattle.card.specs.declared.Port.the-variants.{Host, Service}
@@ -41,6 +41,14 @@ plan port c Audit lent = auditPlan
 
 unfoldable pub perform : Port → Card → Request → Result
 perform port c q = judge c (q .lent) (plan port c (q .call) (q .lent))
+
+-- The same on a card that has been audited.
+unfoldable pub performSound : Port → Card → Request → Result
+performSound port c q = judgeSound c (q .lent) (plan port c (q .call) (q .lent))
+
+-- A call with the bytes for WRITE, READ's buffer and ALLOC's places that are lent with it.
+abbrev pub request : Call → List ℕ → List ℕ → List ℕ → Request
+request call input out places = record { call = call; lent = record { input = input; out = out; places = places } }
 
 -- ---- a list of calls
 

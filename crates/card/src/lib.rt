@@ -139,3 +139,9 @@ pub enum Verdict {
     Unsound,
     Sound,
 }
+
+// What a call answers, and the record that it leaves.
+pub struct Outcome {
+    pub answer: Answer,
+    pub info: Info,
+}

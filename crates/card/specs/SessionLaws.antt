@@ -1,0 +1,37 @@
+-- A call performed, by what the audit finds.
+-- Assumes nothing.
+use Prim.Native.Nat.{ℕ}
+use mathlib.Core.Path.{_≡_, refl, sym, ap, _∙_, subst}
+use mathlib.Core.List.{List}
+use Rattle.card.specs.Card.{Card}
+use Rattle.card.specs.Soundness.{verdict}
+use Rattle.card.specs.SoundnessLaws.{verdict-misshapen, verdict-unsound, verdict-sound}
+use Rattle.card.specs.PlanLaws.{judge-misshapen, judge-unsound, judge-sound}
+use Rattle.card.specs.Promises.{Is, is-same}
+use Rattle.card.specs.Session.{Request, plan, perform, performSound}
+use Rattle.card.specs.declared.Port.{Port}
+use Rattle.card.specs.declared.Verdict.{Verdict}
+use Rattle.card.specs.declared.Verdict.the-variants.{Misshapen, Unsound, Sound}
+use Rattle.card.specs.declared.Refusal.the-variants.{Misshapen as MisshapenRefusal, Unsound as UnsoundRefusal}
+use Rattle.card.specs.declared.Answer.{Answer}
+use Rattle.card.specs.declared.Answer.the-variants.{Refused}
+
+module _ (port : Port) (c : Card) (q : Request) where
+  pub is-misshapen : verdict c ≡ Misshapen → Is (perform port c q) (Refused MisshapenRefusal) c (q .lent .out) (q .lent .places)
+  unfolding perform
+  is-misshapen e =
+      is-same (judge-misshapen c (q .lent) (plan port c (q .call) (q .lent)) (verdict-misshapen c e))
+      (record { answers = refl; leaves = refl; fillsOut = refl; fillsPlaces = refl })
+
+  pub is-unsound : verdict c ≡ Unsound → Is (perform port c q) (Refused UnsoundRefusal) c (q .lent .out) (q .lent .places)
+  unfolding perform
+  is-unsound e =
+      let h = verdict-unsound c e in
+      is-same (judge-unsound c (q .lent) (plan port c (q .call) (q .lent)) (h .0) (h .1))
+      (record { answers = refl; leaves = refl; fillsOut = refl; fillsPlaces = refl })
+
+  -- What is right on an audited card is right.
+  pub is-audited : verdict c ≡ Sound → {answer : Answer} {after : Card} {out places : List ℕ} → Is (performSound port c q) answer after out places
+      → Is (perform port c q) answer after out places
+  unfolding perform performSound
+  is-audited e i = is-same (judge-sound c (q .lent) (plan port c (q .call) (q .lent)) (verdict-sound c e)) i
