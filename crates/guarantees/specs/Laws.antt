@@ -27,7 +27,7 @@ getD-set-either P (x ∷ xs) zero v (suc j) new old = old
 getD-set-either P (x ∷ xs) (suc i) v zero new old = old
 getD-set-either P (x ∷ xs) (suc i) v (suc j) new old = getD-set-either P xs i v j new old
 
--- What holds of the new element at its place holds at each place where it held before or that is not the new element's.
+-- By cases on the place j: what holds of the new element at its place and, where j is another, of the old element at j.
 pub getD-set-cases : (P : ℕ → ℕ → Type 0) (xs : List ℕ) (i v j : ℕ) → i < length xs → P i v → ((j ≡ i → ⊥) → P j (getD xs j 0)) → P j (getD (set xs i v) j 0)
 getD-set-cases P xs i v j l new old =
     ⊎-elim

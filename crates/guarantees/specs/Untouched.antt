@@ -26,55 +26,84 @@ use Rattle.card.specs.declared.Mode.the-variants.{Reading, Writing}
 use Rattle.card.specs.declared.WriteOperands.{WriteOperands}
 use Rattle.card.specs.declared.DeleteOperands.{DeleteOperands}
 use Rattle.card.specs.declared.AllocOperands.{AllocOperands}
+use Rattle.card.specs.declared.KeyOperands.{KeyOperands}
 use Rattle.card.specs.declared.Call.{Call}
 use Rattle.card.specs.declared.Call.the-variants.{Read, Write, Alloc, Create, Delete, Key, Renew, Force, Free, Tick, Audit}
+use Rattle.guarantees.specs.Laws.{keyedFlag}
 use Rattle.guarantees.specs.Steps.{block-within, allocated-other}
 use Rattle.guarantees.specs.Picks.{picks-takeable}
 use Rattle.guarantees.specs.KeepsSound.{not-missing}
 use Rattle.guarantees.specs.Judged.{judge-after}
 
+-- From card c to card d the block is left unallocated, and its contents as they were.
+pub record Left (c d : Card) (b : ℕ) : Type 0 where
+  pub notAllocated : allocated (d .public) b ≡ false
+  pub same : block d b ≡ block c b
+
 -- The block is allocated and holds so many zeros.
-pub record Fresh (bytes : ℕ) (c : Card) (b : ℕ) : Type 0 where
-  pub isAllocated : allocated (c .public) b ≡ true
-  pub holdsZeros : block c b ≡ zeros bytes
+pub record Fresh (bytes : ℕ) (d : Card) (b : ℕ) : Type 0 where
+  pub isAllocated : allocated (d .public) b ≡ true
+  pub holdsZeros : block d b ≡ zeros bytes
 
--- From card c to card d the block's contents are as they were, or the block is now allocated and holds zeros.
+-- What becomes of an unallocated block from card c to card d: it is left as it was, or is now allocated and filled with zeros.
 abbrev pub Untouched : Card → Card → ℕ → Type 0
-Untouched c d b = (block d b ≡ block c b) ⊎ Fresh (c .public .info .bytes) d b
+Untouched c d b = Left c d b ⊎ Fresh (c .public .info .bytes) d b
 
--- ---- windows and WRITE
+-- An unallocated block is not the one that passed the check "allocated".
+other-block : (p : Public) {a b : ℕ} → allocated p b ≡ false → allocated p a ≡ true → b ≡ a → ⊥
+other-block p free held e = absurd-test held (subst (λ (n : ℕ). allocated p n ≡ false) e free)
 
-opensWindow-block : (port : Port) (c : Card) (p : Public) (mode : Mode) (a interval b : ℕ) → block (changes c (opensWindow port p mode a interval)) b ≡ block c b
-unfolding opensWindow changes change changePublic changeContents
-opensWindow-block Host c p mode a interval b = go (eqb interval 0)
+-- ---- READ and WRITE
+
+opensWindow-left : (port : Port) (c : Card) (p : Public) (mode : Mode) (a interval b : ℕ) → allocated (c .public) b ≡ false
+    → Left c (changes c (opensWindow port p mode a interval)) b
+unfolding opensWindow changes change changePublic changeContents allocated
+opensWindow-left Host c p mode a interval b free = go (eqb interval 0)
   where
-    go : (t : Bool) → block (changes c (cond t [] (setWindow mode a (windowAfter p mode a interval) ∷ []))) b ≡ block c b
-    go true = refl
-    go false = refl
-opensWindow-block Service c p mode a interval b = refl
+    go : (t : Bool) → Left c (changes c (cond t [] (setWindow mode a (windowAfter p mode a interval) ∷ []))) b
+    go true = record { notAllocated = free; same = refl }
+    go false = record { notAllocated = free; same = refl }
+opensWindow-left Service c p mode a interval b free = record { notAllocated = free; same = refl }
 
-write-untouched : (port : Port) (c : Card) (opened : Bool) (o : WriteOperands) (input : List ℕ) (b : ℕ) → allocated (c .public) b ≡ false → SoundCard c
-    → NoneHolds (writePlan port (c .public) opened o input .checks) → Untouched c (changes c (writePlan port (c .public) opened o input .steps)) b
+write-left : (port : Port) (c : Card) (opened : Bool) (o : WriteOperands) (input : List ℕ) (b : ℕ) → allocated (c .public) b ≡ false → SoundCard c
+    → NoneHolds (writePlan port (c .public) opened o input .checks) → Left c (changes c (writePlan port (c .public) opened o input .steps)) b
 unfolding writePlan changes change changePublic changeContents
-write-untouched port c opened o input b free s h =
-    let a : allocated (c .public) (o .block) ≡ true = not-missing _ _ (h .1 .0) in
-    inl
-    (opensWindow-block port (change c (setBlock (o .block) input)) (c .public) Writing (o .block) (o .interval) b
-    ∙ part-fill-other (c .public .info .bytes) (c .contents) (o .block) input
-    (block-within c (o .block) (s .shaped .hasLengths .contents) (allocated-below (c .public) (o .block) a))
-    (eqb-true _ _ (not-false _ (or-false-left _ _ (h .0))))
-    b
-    (λ (e : b ≡ o .block). absurd-test a (subst (λ (n : ℕ). allocated (c .public) n ≡ false) e free)))
+write-left port c opened o input b free s h =
+    let held : allocated (c .public) (o .block) ≡ true = not-missing _ _ (h .1 .0) in
+    let opens : Left (change c (setBlock (o .block) input)) (changes (change c (setBlock (o .block) input)) (opensWindow port (c .public) Writing (o .block) (o .interval))) b =
+    opensWindow-left port (change c (setBlock (o .block) input)) (c .public) Writing (o .block) (o .interval) b free in
+    record {
+      notAllocated = opens .notAllocated;
+      same =
+          opens .same
+          ∙ part-fill-other (c .public .info .bytes) (c .contents) (o .block) input
+          (block-within c (o .block) (s .shaped .hasLengths .contents) (allocated-below (c .public) (o .block) held))
+          (eqb-true _ _ (not-false _ (or-false-left _ _ (h .0))))
+          b
+          (other-block (c .public) free held);
+    }
 
--- ---- DELETE
+-- ---- DELETE and KEY
 
-delete-untouched : (port : Port) (c : Card) (opened : Bool) (o : DeleteOperands) (b : ℕ) → Untouched c (changes c (deletePlan port (c .public) opened o .steps)) b
-unfolding deletePlan changes change changePublic changeContents
-delete-untouched port c opened o b = go (eqb (count (c .public) (o .destination)) 1)
+delete-left : (port : Port) (c : Card) (opened : Bool) (o : DeleteOperands) (b : ℕ) → allocated (c .public) b ≡ false
+    → NoneHolds (deletePlan port (c .public) opened o .checks) → Left c (changes c (deletePlan port (c .public) opened o .steps)) b
+unfolding deletePlan changes change changePublic changeContents allocated
+delete-left port c opened o b free h = go (eqb (count (c .public) (o .destination)) 1)
   where
-    go : (t : Bool) → Untouched c (changes (change c (dropPointer (o .source) (o .destination))) (cond t (freeBlock (o .destination) ∷ []) [])) b
-    go true = inl refl
-    go false = inl refl
+    go : (t : Bool) → Left c (changes (change c (dropPointer (o .source) (o .destination))) (cond t (freeBlock (o .destination) ∷ []) [])) b
+    go true = record {
+      notAllocated = allocated-other (c .public) (o .destination) 0 b (other-block (c .public) free (not-missing (c .public) (o .destination) (h .1 .0))) ∙ free;
+      same = refl;
+    }
+    go false = record { notAllocated = free; same = refl }
+
+key-left : (port : Port) (c : Card) (opened : Bool) (o : KeyOperands) (b : ℕ) → allocated (c .public) b ≡ false
+    → NoneHolds (keyPlan port (c .public) opened o .checks) → Left c (changes c (keyPlan port (c .public) opened o .steps)) b
+unfolding keyPlan changes change changePublic changeContents allocated
+key-left port c opened o b free h = record {
+  notAllocated = allocated-other (c .public) (o .block) (keyedFlag (o .read) (o .write)) b (other-block (c .public) free (not-missing (c .public) (o .block) (h .0))) ∙ free;
+  same = refl;
+}
 
 -- ---- ALLOC
 
@@ -114,13 +143,17 @@ module _ (c : Card) (reference x : ℕ) (fits : Fitted c) (below : x < c .public
   taken-other b other =
       part-fill-other (c .public .info .bytes) (c .contents) x (zeros (c .public .info .bytes)) (block-within c x (fits .contents) below) whole b other
 
+  still-free : (b : ℕ) → (b ≡ x → ⊥) → allocated (taken .public) b ≡ allocated (c .public) b
+  unfolding change changePublic allocated
+  still-free b other = allocated-other (c .public) x 1 b other
+
   fresh-kept : (b : ℕ) → Fresh (c .public .info .bytes) c b → Fresh (c .public .info .bytes) taken b
   unfolding change changePublic changeContents allocated
   fresh-kept b f =
       ⊎-elim
       (λ (e : b ≡ x). subst (λ (n : ℕ). Fresh (c .public .info .bytes) taken n) (sym e) taken-fresh)
       (λ (other : b ≡ x → ⊥). record {
-        isAllocated = allocated-other (c .public) x 1 b other ∙ f .isAllocated;
+        isAllocated = still-free b other ∙ f .isAllocated;
         holdsZeros = taken-other b other ∙ f .holdsZeros;
       })
       (same-or-other b x)
@@ -135,11 +168,11 @@ module _ (reference b : ℕ) where
       takeAll-fresh bs (taken c reference x fits below) (taken-fits c reference x fits below) (all-tail (λ x. ltb x (c .public .info .blocks)) x bs h)
       (fresh-kept c reference x fits below b f)
 
-  takeAll-untouched : (bs : List ℕ) (c : Card) → Fitted c → all (λ x. ltb x (c .public .info .blocks)) bs ≡ true
+  takeAll-untouched : (bs : List ℕ) (c : Card) → Fitted c → all (λ x. ltb x (c .public .info .blocks)) bs ≡ true → allocated (c .public) b ≡ false
       → Untouched c (changes c (takeAll reference bs)) b
   unfolding takeAll changes change changePublic
-  takeAll-untouched [] c fits h = inl refl
-  takeAll-untouched (x ∷ bs) c fits h =
+  takeAll-untouched [] c fits h free = inl (record { notAllocated = free; same = refl })
+  takeAll-untouched (x ∷ bs) c fits h free =
       let below : x < c .public .info .blocks = ltb-true _ _ (all-head (λ x. ltb x (c .public .info .blocks)) x bs h) in
       let next : Card = taken c reference x fits below in
       let nextFits : Fitted next = taken-fits c reference x fits below in
@@ -147,37 +180,42 @@ module _ (reference b : ℕ) where
       ⊎-elim
       (λ (e : b ≡ x). inr (takeAll-fresh bs next nextFits rest (subst (λ (n : ℕ). Fresh (c .public .info .bytes) next n) (sym e) (taken-fresh c reference x fits below))))
       (λ (other : b ≡ x → ⊥).
-      ⊎-elim (λ same. inl (same ∙ taken-other c reference x fits below b other)) (λ f. inr f) (takeAll-untouched bs next nextFits rest))
+      ⊎-elim
+      (λ (left : Left next (changes next (takeAll reference bs)) b).
+      inl (record { notAllocated = left .notAllocated; same = left .same ∙ taken-other c reference x fits below b other }))
+      (λ f. inr f)
+      (takeAll-untouched bs next nextFits rest (still-free c reference x fits below b other ∙ free)))
       (same-or-other b x)
 
-alloc-untouched : (port : Port) (c : Card) (opened : Bool) (o : AllocOperands) (places b : ℕ) → SoundCard c
+alloc-untouched : (port : Port) (c : Card) (opened : Bool) (o : AllocOperands) (places b : ℕ) → allocated (c .public) b ≡ false → SoundCard c
     → Untouched c (changes c (allocPlan port (c .public) opened o places .steps)) b
 unfolding allocPlan
-alloc-untouched port c opened o places b s =
+alloc-untouched port c opened o places b free s =
     takeAll-untouched (o .reference) b (picks (wanted (o .hint)) (o .count) (freeBlocks (c .public))) c
     (record { flags = s .shaped .hasLengths .flags; contents = s .shaped .hasLengths .contents })
     (picks-takeable (c .public) (wanted (o .hint)) (o .count) .below)
+    free
 
 -- ---- every call
 
 call-untouched : (port : Port) (c : Card) (call : Call) (lent : Buffers) (b : ℕ) → allocated (c .public) b ≡ false → SoundCard c
     → NoneHolds (plan port c call lent .checks) → Untouched c (changes c (plan port c call lent .steps)) b
-unfolding plan readPlan createPlan keyPlan renewPlan forcePlan freePlan tickPlan auditPlan changes change changePublic changeContents
-call-untouched port c (Read o) lent b free s h = inl (opensWindow-block port c (c .public) Reading (o .block) (o .interval) b)
-call-untouched port c (Write o) lent b free s h = write-untouched port c _ o (lent .input) b free s h
-call-untouched port c (Alloc o) lent b free s h = alloc-untouched port c _ o _ b s
-call-untouched port c (Create o) lent b free s h = inl refl
-call-untouched port c (Delete o) lent b free s h = delete-untouched port c _ o b
-call-untouched port c (Key o) lent b free s h = inl refl
-call-untouched port c (Renew o) lent b free s h = inl refl
-call-untouched port c (Force o) lent b free s h = inl refl
-call-untouched port c Free lent b free s h = inl refl
-call-untouched port c (Tick o) lent b free s h = inl refl
-call-untouched port c Audit lent b free s h = inl refl
+unfolding plan readPlan createPlan renewPlan forcePlan freePlan tickPlan auditPlan changes change changePublic changeContents allocated
+call-untouched port c (Read o) lent b free s h = inl (opensWindow-left port c (c .public) Reading (o .block) (o .interval) b free)
+call-untouched port c (Write o) lent b free s h = inl (write-left port c _ o (lent .input) b free s h)
+call-untouched port c (Alloc o) lent b free s h = alloc-untouched port c _ o _ b free s
+call-untouched port c (Create o) lent b free s h = inl (record { notAllocated = free; same = refl })
+call-untouched port c (Delete o) lent b free s h = inl (delete-left port c _ o b free h)
+call-untouched port c (Key o) lent b free s h = inl (key-left port c _ o b free h)
+call-untouched port c (Renew o) lent b free s h = inl (record { notAllocated = free; same = refl })
+call-untouched port c (Force o) lent b free s h = inl (record { notAllocated = free; same = refl })
+call-untouched port c Free lent b free s h = inl (record { notAllocated = free; same = refl })
+call-untouched port c (Tick o) lent b free s h = inl (record { notAllocated = free; same = refl })
+call-untouched port c Audit lent b free s h = inl (record { notAllocated = free; same = refl })
 
--- On any card, sound or not, a call leaves an unallocated block's contents as they were, or leaves the block allocated and filled with zeros.
+-- On any card, sound or not, a call leaves an unallocated block as it was, or leaves it allocated and filled with zeros.
 pub untouched : (port : Port) (c : Card) (q : Request) (b : ℕ) → allocated (c .public) b ≡ false → Untouched c (perform port c q .after) b
 unfolding perform
 untouched port c q b free =
-    judge-after (λ (d : Card). Untouched c d b) c (q .lent) (plan port c (q .call) (q .lent)) (inl refl)
+    judge-after (λ (d : Card). Untouched c d b) c (q .lent) (plan port c (q .call) (q .lent)) (inl (record { notAllocated = free; same = refl }))
     (call-untouched port c (q .call) (q .lent) b free)
