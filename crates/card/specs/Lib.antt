@@ -9,8 +9,10 @@ pub mod Soundness
 pub mod SoundnessLaws
 pub mod Access
 pub mod Plan
+pub mod ChangesLaws
 pub mod PlanLaws
 pub mod Calls
+pub mod PicksLaws
 pub mod Promises
 pub mod Session
 pub mod SessionLaws

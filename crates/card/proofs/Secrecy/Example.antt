@@ -9,23 +9,23 @@ use native.Mathlib.Omega.{arith}
 use lib.Dec.{eqb, ltb, leb}
 use lib.ListN.{getD, replicate}
 use borrow.Author.Tests.{not-true, not-false, eqb-true}
 use Rattle.card.specs.Lists.{every, allBelow}
 use Rattle.card.specs.ListsLaws.{and-left, and-right, and-true, or-else, or-false, false-unless, absurd-test, not-cases, every-true, allBelow-true}
 use Rattle.card.specs.Contents.{fill}
 use Rattle.card.specs.Card.{Card, allocated, hasKey, isRoot, windowOpen, pointsTo, block}
 use Rattle.card.specs.Soundness.{shape, sound}
 use Rattle.card.specs.SoundnessLaws.{SoundCard, shape-true, sound-true, allocated-below}
 use Rattle.card.specs.Session.{Request, Sent, performed, afterAll, reports, hostSession}
 use Rattle.card.specs.Reach.{shows, presents, presented, keyPresented, sealed, Reach, unsealedRoot, byKey, openWindow, pointed, Hidden, takesLast, isOne, lastTaken}
 use Rattle.card.specs.Trials.{rules, playerCard, send, read, writeAll, alloc, delete, key, free, lending}
 use Rattle.card.specs.declared.Mode.{Mode}
 use Rattle.card.specs.declared.Mode.the-variants.{Reading, Writing}
 use Rattle.card.specs.declared.Port.the-variants.{Host, Service}
 use Rattle.card.specs.declared.Credential.the-variants.{Nothing, Reference, Key as KeyCredential}
 use Rattle.card.specs.declared.NewKey.the-variants.{Absent, Present}
 use Rattle.card.specs.declared.Call.{Call}
 use Rattle.card.specs.declared.Call.the-variants.{Read, Write, Delete, Free}
-use Rattle.secrecy.specs.Secrecy.{EqualBut, HiddenOrFree, reach-allocated}
+use Rattle.card.proofs.Secrecy.Theorem.{EqualBut, HiddenOrFree, reach-allocated}
 
 -- ---- a test that bounds what is within reach
 

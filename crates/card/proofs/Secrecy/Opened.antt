@@ -6,15 +6,15 @@ use mathlib.Core.Logic.{_⊎_, inl, inr, ⊎-elim}
 use mathlib.Core.Bool.{Bool, true, false, _&&_, _||_, not, cond}
 use lib.Dec.{eqb}
 use borrow.Author.Tests.{eqb-true, eq-eqb}
 use Rattle.card.specs.ListsLaws.{and-left, and-right, and-true, and-false-left, and-false-right, or-cases, absurd-test}
 use Rattle.card.specs.Card.{Public, Card, allocated, hasKey, isRoot, windowOpen, pointsTo, keyHigh, keyLow}
 use Rattle.card.specs.Access.{keyIs, keyOpens, opensKeyed, opensRoot, opensPointed, opens}
 use Rattle.card.specs.Reach.{shows, keyPresented, sealed}
 use Rattle.card.specs.declared.Mode.{Mode}
 use Rattle.card.specs.declared.Mode.the-variants.{Reading, Writing}
 use Rattle.card.specs.declared.Credential.{Credential}
 use Rattle.card.specs.declared.Credential.the-variants.{Nothing, Reference, Key}
-use Rattle.secrecy.specs.Closed.{Closed}
+use Rattle.card.proofs.Secrecy.Closed.{Closed}
 
 -- Each key that the credential shows is presented.
 abbrev pub AllPresented : (ℕ → ℕ → Bool) → Credential → Type 0

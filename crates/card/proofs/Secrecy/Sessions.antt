@@ -9,27 +9,27 @@ use mathlib.Core.Option.{Option, none, some}
 use lib.Dec.{eqb}
 use lib.ListN.{length}
 use borrow.Author.Tests.{eqb-false, eq-eqb}
 use Rattle.card.specs.ListsLaws.{and-true, or-left, or-right, or-false-left, or-false-right, absurd-test}
 use Rattle.card.specs.Card.{Public, Card, allocated, freeBlocks, block, count}
 use Rattle.card.specs.SoundnessLaws.{SoundCard}
 use Rattle.card.specs.Access.{opens, admits}
 use Rattle.card.specs.Plan.{Change, setWindow, freeBlock, dropPointer, first, Shown, nothing, blockPart, numbers, Plan, Buffers, Result, refused, done, outAfter, settle, judge, judgeSound, changes}
 use Rattle.card.specs.PlanLaws.{first-none, judge-sound}
 use Rattle.card.specs.Calls.{opensWindow, windowAfter, modeOf, wanted, picks, takeAll, readPlan, writePlan, allocPlan, createPlan, deletePlan, keyPlan, renewPlan, forcePlan, freePlan, tickPlan, auditPlan}
 use Rattle.card.specs.Session.{Request, Sent, plan, perform, reply, replies, afterAll, hostSession}
 use Rattle.card.specs.Reach.{shows, presents, presented, takesLast, isOne, lastTaken}
 use Rattle.card.specs.declared.Port.the-variants.{Host}
 use Rattle.card.specs.declared.Mode.{Mode}
 use Rattle.card.specs.declared.Mode.the-variants.{Reading, Writing}
 use Rattle.card.specs.declared.Credential.{Credential}
 use Rattle.card.specs.declared.Credential.the-variants.{Key as KeyCredential}
 use Rattle.card.specs.declared.Refusal.{Refusal}
 use Rattle.card.specs.declared.Call.{Call}
 use Rattle.card.specs.declared.Call.the-variants.{Read, Write, Alloc, Create, Delete, Key, Renew, Force, Free, Tick, Audit}
-use Rattle.secrecy.specs.Closed.{Closed}
-use Rattle.secrecy.specs.Steps.{Alike, Kept, AllowedAll, GrownAll, grows, closed-changes, alike-changes, covered, FreesNone, Apart, apart-changes}
-use Rattle.secrecy.specs.Opened.{AllPresented}
-use Rattle.secrecy.specs.Plans.{sound-regular, ShownIn, Safe, CallPresents, safe}
+use Rattle.card.proofs.Secrecy.Closed.{Closed}
+use Rattle.card.proofs.Secrecy.Steps.{Alike, Kept, AllowedAll, GrownAll, grows, closed-changes, alike-changes, covered, FreesNone, Apart, apart-changes}
+use Rattle.card.proofs.Secrecy.Opened.{AllPresented}
+use Rattle.card.proofs.Secrecy.Plans.{sound-regular, ShownIn, Safe, CallPresents, safe}
 
 -- A link between the keys of two cards under which no presented credential tells them apart.
 pub record KeyLink (K : ℕ → ℕ → Bool) (L : Public → List ℕ → List ℕ → Type 0) : Type 0 where

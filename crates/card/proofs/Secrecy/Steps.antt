@@ -9,15 +9,15 @@ use native.Mathlib.Omega.{arith}
 use lib.Dec.{eqb, ltb}
 use lib.ListN.{length, getD, set, length-replicate}
 use lib.Seq.{getD-set-same, getD-set-other}
 use Rattle.card.specs.ListsLaws.{and-left, and-right, absurd-test, same-or-other}
 use Rattle.card.specs.Contents.{fill, part, zeros}
 use Rattle.card.specs.ContentsLaws.{part-fill-same, part-fill-other, block-fits}
 use Rattle.card.specs.Card.{Public, Card, flag, allocated, block}
 use Rattle.card.specs.Plan.{Change, setWindow, setBlock, setKeys, takeBlock, freeBlock, addPointer, dropPointer, setTime, keyBit, changePublic, changeKeys, changeContents, change, changes}
 use Rattle.card.specs.declared.Mode.the-variants.{Reading, Writing}
 use Rattle.card.specs.declared.NewKey.{NewKey}
 use Rattle.card.specs.declared.NewKey.the-variants.{Absent, Present}
-use Rattle.secrecy.specs.Closed.{Closed, Regular, Allowed, Taken, Grown, regular-change, closed-change}
+use Rattle.card.proofs.Secrecy.Closed.{Closed, Regular, Allowed, Taken, Grown, regular-change, closed-change}
 
 -- ---- the contents of a block after one change
 

@@ -8,18 +8,18 @@ use native.Mathlib.Omega.{arith}
 use lib.Dec.{ltb}
 use lib.ListN.{length, set, length-set}
 use lib.Seq.{getD-set-other}
 use Rattle.card.specs.Lists.{all}
 use Rattle.card.specs.ListsLaws.{absurd-test, false-unless, all-map}
 use Rattle.card.specs.Pointers.{source, destination}
 use Rattle.card.specs.Contents.{fill}
 use Rattle.card.specs.ContentsLaws.{overwrite-length, fill-length, block-fits}
 use Rattle.card.specs.Card.{Public, Card, card, flag, allocatedFlag, keyFlag, allocated, windowAt, windowEnd, longestInterval, count, inUse, keyHigh, keyLow}
 use Rattle.card.specs.Soundness.{timeLimit, pointerRight}
 use Rattle.card.specs.SoundnessLaws.{Shaped, KeyZero, Empty, RightPointer, SoundCard, pointerRight-true, true-pointerRight, allocated-below, allocated-flag, flag-allocated}
 use Rattle.card.specs.Plan.{setWindow, setBlock, setKeys, setTime, highWord, lowWord, withFlags, changePublic, changeKeys, changeContents, change}
 use Rattle.card.specs.declared.Mode.{Mode}
 use Rattle.card.specs.declared.NewKey.{NewKey}
-use Rattle.guarantees.specs.Laws.{getD-set-either, getD-set-cases, windowAt-apart, keyedFlag, keyedFlag-low, keyedFlag-allocated, keyedFlag-absent, replaced-high, replaced-low, kept-high, kept-low}
+use Rattle.card.specs.ChangesLaws.{getD-set-either, getD-set-cases, windowAt-apart, keyedFlag, keyedFlag-low, keyedFlag-allocated, keyedFlag-absent, replaced-high, replaced-low, kept-high, kept-low}
 
 -- ---- shape
 

@@ -9,31 +9,31 @@ use lib.Dec.{eqb, ltb}
 use lib.ListN.{length, set, length-set, length-replicate}
 use lib.Seq.{getD-set-same}
 use borrow.Author.Tests.{eqb-true, ltb-true, not-false}
 use Rattle.card.specs.Lists.{all}
 use Rattle.card.specs.ListsLaws.{absurd-test, or-false-left, same-or-other, all-head, all-tail}
 use Rattle.card.specs.Contents.{zeros}
 use Rattle.card.specs.ContentsLaws.{fill-length, part-fill-same, part-fill-other}
 use Rattle.card.specs.Card.{Public, Card, allocatedFlag, allocated, freeBlocks, count, block}
 use Rattle.card.specs.SoundnessLaws.{SoundCard, allocated-below, flag-allocated}
 use Rattle.card.specs.Plan.{setWindow, setBlock, takeBlock, freeBlock, addPointer, dropPointer, withFlags, changePublic, changeContents, change, changes, Buffers}
 use Rattle.card.specs.PlanLaws.{NoneHolds}
 use Rattle.card.specs.Calls.{windowAfter, opensWindow, wanted, picks, takeAll, readPlan, writePlan, allocPlan, createPlan, deletePlan, keyPlan, renewPlan, forcePlan, freePlan, tickPlan, auditPlan}
 use Rattle.card.specs.Session.{Request, plan, perform}
 use Rattle.card.specs.declared.Port.{Port}
 use Rattle.card.specs.declared.Port.the-variants.{Host, Service}
 use Rattle.card.specs.declared.Mode.{Mode}
 use Rattle.card.specs.declared.Mode.the-variants.{Reading, Writing}
 use Rattle.card.specs.declared.WriteOperands.{WriteOperands}
 use Rattle.card.specs.declared.DeleteOperands.{DeleteOperands}
 use Rattle.card.specs.declared.AllocOperands.{AllocOperands}
 use Rattle.card.specs.declared.KeyOperands.{KeyOperands}
 use Rattle.card.specs.declared.Call.{Call}
 use Rattle.card.specs.declared.Call.the-variants.{Read, Write, Alloc, Create, Delete, Key, Renew, Force, Free, Tick, Audit}
-use Rattle.guarantees.specs.Laws.{keyedFlag}
-use Rattle.guarantees.specs.Steps.{block-within, allocated-other}
-use Rattle.guarantees.specs.Picks.{picks-takeable}
-use Rattle.guarantees.specs.KeepsSound.{not-missing}
-use Rattle.guarantees.specs.Judged.{judge-after}
+use Rattle.card.specs.ChangesLaws.{keyedFlag}
+use Rattle.card.proofs.Guarantees.Steps.{block-within, allocated-other}
+use Rattle.card.specs.PicksLaws.{picks-takeable}
+use Rattle.card.proofs.Guarantees.KeepsSound.{not-missing}
+use Rattle.card.proofs.Guarantees.Judged.{judge-after}
 
 -- From card c to card d the block is left unallocated, and its contents as they were.
 pub record Left (c d : Card) (b : ℕ) : Type 0 where

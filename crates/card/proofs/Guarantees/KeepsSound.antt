@@ -8,38 +8,38 @@ use native.Mathlib.Omega.{arith}
 use lib.Dec.{eqb, ltb}
 use lib.ListN.{length, drop, set}
 use borrow.Author.Tests.{eqb-true, eqb-false, ltb-true, ltb-false, leb-false, not-true, not-false}
 use Rattle.card.specs.Lists.{all}
 use Rattle.card.specs.ListsLaws.{or-false-left, or-false-right, all-head, all-tail, all-both}
 use Rattle.card.specs.Pointers.{pointer, source, destination, ascending, pointersTo}
 use Rattle.card.specs.Card.{Public, Card, allocated, isRoot, freeBlocks, longestInterval, count, inUse, pointsTo, hasPointers}
 use Rattle.card.specs.Soundness.{timeLimit}
 use Rattle.card.specs.SoundnessLaws.{SoundCard, allocated-below}
 use Rattle.card.specs.Plan.{setWindow, takeBlock, freeBlock, addPointer, dropPointer, withFlags, changePublic, change, changes, Buffers, Result, settle}
 use Rattle.card.specs.PlanLaws.{NoneHolds}
 use Rattle.card.specs.Calls.{missing, windowAfter, opensWindow, wanted, picks, takeAll, closeWindows, modeOf, readPlan, writePlan, allocPlan, createPlan, deletePlan, keyPlan, renewPlan, forcePlan, freePlan, tickPlan, auditPlan}
 use Rattle.card.specs.Session.{Request, plan, perform}
 use Rattle.card.specs.declared.Port.{Port}
 use Rattle.card.specs.declared.Port.the-variants.{Host, Service}
 use Rattle.card.specs.declared.Mode.{Mode}
 use Rattle.card.specs.declared.Mode.the-variants.{Reading, Writing}
 use Rattle.card.specs.declared.ReadOperands.{ReadOperands}
 use Rattle.card.specs.declared.WriteOperands.{WriteOperands}
 use Rattle.card.specs.declared.AllocOperands.{AllocOperands}
 use Rattle.card.specs.declared.CreateOperands.{CreateOperands}
 use Rattle.card.specs.declared.DeleteOperands.{DeleteOperands}
 use Rattle.card.specs.declared.KeyOperands.{KeyOperands}
 use Rattle.card.specs.declared.RenewOperands.{RenewOperands}
 use Rattle.card.specs.declared.ForceOperands.{ForceOperands}
 use Rattle.card.specs.declared.TickOperands.{TickOperands}
 use Rattle.card.specs.declared.Refusal.{Refusal}
 use Rattle.card.specs.declared.Answer.the-variants.{Refused}
 use Rattle.card.specs.declared.Call.{Call}
 use Rattle.card.specs.declared.Call.the-variants.{Read, Write, Alloc, Create, Delete, Key, Renew, Force, Free, Tick, Audit}
-use Rattle.guarantees.specs.Laws.{keyedFlag, keyedFlag-allocated}
-use Rattle.guarantees.specs.Steps.{allocated-set, allocated-other, unallocated-flag, setWindow-sound, setBlock-sound, setKeys-sound, setTime-sound}
-use Rattle.guarantees.specs.PointerSteps.{sound-but, inserted-length, addPointer-sound, takeAdd-sound, dropOne-sound, dropLast-sound}
-use Rattle.guarantees.specs.Picks.{Without, distinct-head, distinct-tail, Takeable, picks-takeable, picks-length}
-use Rattle.guarantees.specs.Judged.{judge-cases, judge-after}
+use Rattle.card.specs.ChangesLaws.{keyedFlag, keyedFlag-allocated}
+use Rattle.card.proofs.Guarantees.Steps.{allocated-set, allocated-other, unallocated-flag, setWindow-sound, setBlock-sound, setKeys-sound, setTime-sound}
+use Rattle.card.proofs.Guarantees.PointerSteps.{sound-but, inserted-length, addPointer-sound, takeAdd-sound, dropOne-sound, dropLast-sound}
+use Rattle.card.specs.PicksLaws.{Without, distinct-head, distinct-tail, Takeable, picks-takeable, picks-length}
+use Rattle.card.proofs.Guarantees.Judged.{judge-cases, judge-after}
 
 -- A block that passes the check "allocated" is allocated.
 pub not-missing : (p : Public) (b : ℕ) → missing p b ≡ false → allocated p b ≡ true

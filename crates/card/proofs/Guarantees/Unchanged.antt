@@ -3,19 +3,19 @@
 use Prim.Native.Nat.{ℕ}
 use mathlib.Core.Path.{_≡_, refl, ap}
 use mathlib.Core.Bool.{Bool, true, false, _&&_}
 use Rattle.card.specs.ListsLaws.{absurd-test}
 use Rattle.card.specs.Card.{Card}
 use Rattle.card.specs.Soundness.{ranges, lengths}
 use Rattle.card.specs.Plan.{Buffers, Result, settle}
 use Rattle.card.specs.Calls.{formatResult, format, readPlan, writePlan, allocPlan, createPlan, deletePlan, keyPlan, renewPlan, forcePlan, freePlan, tickPlan, auditPlan}
 use Rattle.card.specs.Session.{Request, plan, perform}
 use Rattle.card.specs.declared.Port.{Port}
 use Rattle.card.specs.declared.Refusal.{Refusal}
 use Rattle.card.specs.declared.Answer.{Answer}
 use Rattle.card.specs.declared.Answer.the-variants.{Refused, Done, Value}
 use Rattle.card.specs.declared.Call.{Call}
 use Rattle.card.specs.declared.Call.the-variants.{Read, Write, Alloc, Create, Delete, Key, Renew, Force, Free, Tick, Audit}
-use Rattle.guarantees.specs.Judged.{judge-cases}
+use Rattle.card.proofs.Guarantees.Judged.{judge-cases}
 
 -- A result that leaves the card and the lent buffers as they were.
 pub record Unchanged (c : Card) (lent : Buffers) (result : Result) : Type 0 where

@@ -10,38 +10,38 @@ use lib.Dec.{eqb, ltb, leb}
 use lib.ListN.{length, getD, set}
 use lib.Seq.{getD-set-other}
 use borrow.Author.Tests.{eqb-true, eqb-false, ltb-true, not-false, not-true, ne-eqb}
 use Rattle.card.specs.Lists.{all}
 use Rattle.card.specs.ListsLaws.{or-left, or-right, or-false-left, and-left, and-right, and-true, all-head, all-tail, all-cons, all-map, absurd-test, same-or-other}
 use Rattle.card.specs.Pointers.{pointer, source, contains}
 use Rattle.card.specs.PointersLaws.{all-insert, source-pointer}
 use Rattle.card.specs.Card.{Public, Card, flag, allocatedFlag, allocated, inUse, pointsTo, hasKey, freeBlocks, count}
 use Rattle.card.specs.Soundness.{pointerRight}
 use Rattle.card.specs.SoundnessLaws.{SoundCard, pointerRight-true, allocated-below}
 use Rattle.card.specs.Access.{opens, admits}
 use Rattle.card.specs.Plan.{Change, setWindow, setBlock, setKeys, takeBlock, freeBlock, addPointer, dropPointer, setTime, changePublic, change, Shown, nothing, blockPart, numbers, Plan, Buffers}
 use Rattle.card.specs.PlanLaws.{NoneHolds}
 use Rattle.card.specs.Calls.{windowAfter, opensWindow, modeOf, wanted, picks, takeAll, readPlan, writePlan, allocPlan, createPlan, deletePlan, keyPlan, renewPlan, forcePlan, freePlan, tickPlan, auditPlan}
 use Rattle.card.specs.Session.{plan}
 use Rattle.card.specs.Reach.{shows, presents}
 use Rattle.card.specs.declared.Port.the-variants.{Host}
 use Rattle.card.specs.declared.Mode.{Mode}
 use Rattle.card.specs.declared.Mode.the-variants.{Reading, Writing}
 use Rattle.card.specs.declared.Credential.the-variants.{Key as KeyCredential}
 use Rattle.card.specs.declared.ReadOperands.{ReadOperands}
 use Rattle.card.specs.declared.WriteOperands.{WriteOperands}
 use Rattle.card.specs.declared.AllocOperands.{AllocOperands}
 use Rattle.card.specs.declared.CreateOperands.{CreateOperands}
 use Rattle.card.specs.declared.DeleteOperands.{DeleteOperands}
 use Rattle.card.specs.declared.KeyOperands.{KeyOperands}
 use Rattle.card.specs.declared.RenewOperands.{RenewOperands}
 use Rattle.card.specs.declared.ForceOperands.{ForceOperands}
 use Rattle.card.specs.declared.TickOperands.{TickOperands}
 use Rattle.card.specs.declared.Call.{Call}
 use Rattle.card.specs.declared.Call.the-variants.{Read, Write, Alloc, Create, Delete, Key, Renew, Force, Free, Tick, Audit}
-use Rattle.guarantees.specs.Picks.{Without, Distinct, none, more, Takeable, picks-takeable}
-use Rattle.secrecy.specs.Closed.{Closed, Regular, Allowed, Grown, inUse-added, used-added}
-use Rattle.secrecy.specs.Steps.{AllowedAll}
-use Rattle.secrecy.specs.Opened.{AllPresented, opened-within}
+use Rattle.card.specs.PicksLaws.{Without, Distinct, none, more, Takeable, picks-takeable}
+use Rattle.card.proofs.Secrecy.Closed.{Closed, Regular, Allowed, Grown, inUse-added, used-added}
+use Rattle.card.proofs.Secrecy.Steps.{AllowedAll}
+use Rattle.card.proofs.Secrecy.Opened.{AllPresented, opened-within}
 
 -- A sound card has the lengths that every change keeps.
 pub sound-regular : {c : Card} → SoundCard c → Regular c

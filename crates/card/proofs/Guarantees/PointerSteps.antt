@@ -11,21 +11,21 @@ use lib.Dec.{eqb}
 use lib.ListN.{length, take, drop, getD, set, length-set, length-replicate, length-append, length-drop}
 use lib.Seq.{take-at, drop-at, getD-set-same, getD-set-other, drop-drop, length-take-le}
 use borrow.Author.Tests.{eq-eqb, ne-eqb, eqb-false, not-true}
 use Rattle.card.specs.Lists.{all}
 use Rattle.card.specs.ListsLaws.{and-left, and-right, and-true, absurd-test, false-unless, below-or-not, same-or-other, all-both, all-drop, all-cons}
 use Rattle.card.specs.Pointers.{pointer, source, destination, ascending, contains, adds, pointersTo, insert, remove}
 use Rattle.card.specs.PointersLaws.{source-pointer, destination-pointer, insert-length, insert-ascending, all-insert, pointersTo-insert, remove-length, remove-ascending, all-remove, pointersTo-remove, uncounted, contains-all, contains-counted, unpointing}
 use Rattle.card.specs.Contents.{zeros}
 use Rattle.card.specs.ContentsLaws.{overwrite-length}
 use Rattle.card.specs.Card.{Public, Card, flag, allocatedFlag, keyFlag, allocated, windowAt, windowEnd, longestInterval, count, inUse, pointsTo, hasPointers}
 use Rattle.card.specs.Soundness.{pointerRight}
 use Rattle.card.specs.SoundnessLaws.{Shaped, KeyZero, Empty, RightPointer, SoundCard, pointerRight-true, true-pointerRight, allocated-below, allocated-flag, flag-allocated}
 use Rattle.card.specs.Plan.{takeBlock, freeBlock, addPointer, dropPointer, highWord, lowWord, withFlags, changePublic, changeKeys, changeContents, change}
 use Rattle.card.specs.declared.Mode.{Mode}
 use Rattle.card.specs.declared.Mode.the-variants.{Reading, Writing}
 use Rattle.card.specs.declared.NewKey.the-variants.{Absent}
-use Rattle.guarantees.specs.Laws.{getD-set-either, getD-set-cases, chosen, replaced-high, replaced-low, kept-high, kept-low}
-use Rattle.guarantees.specs.Steps.{shaped-with, filled-length, keyZero-from, empty-from, not-allocated, allocated-set, allocated-other, right-kept, set-flag-pointers}
+use Rattle.card.specs.ChangesLaws.{getD-set-either, getD-set-cases, chosen, replaced-high, replaced-low, kept-high, kept-low}
+use Rattle.card.proofs.Guarantees.Steps.{shaped-with, filled-length, keyZero-from, empty-from, not-allocated, allocated-set, allocated-other, right-kept, set-flag-pointers}
 
 -- ---- soundness but for one block
 

@@ -1,9 +1,0 @@
-pub mod Laws
-pub mod Steps
-pub mod PointerSteps
-pub mod Picks
-pub mod Judged
-pub mod KeepsSound
-pub mod Unchanged
-pub mod Untouched
-pub mod Format

@@ -1,1 +1,0 @@
-// Theorems about the rules of the storage card, whatever code performs them: they stand in specs/.
