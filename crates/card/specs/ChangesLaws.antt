@@ -1,14 +1,16 @@
--- Laws of a list with one element set, and of where a block's windows and keys stand in their tables.
+-- Laws of what a change leaves in a table: one element set, windows and keys replaced, pointers inserted and removed.
 -- Assumes nothing.
-use Prim.Native.Nat.{ℕ, zero, suc, _+_, _*_, _≤_, _<_}
-use mathlib.Core.Path.{_≡_, refl, sym, subst}
+use Prim.Native.Nat.{ℕ, zero, suc, _+_, _-_, _*_, _≤_, _<_}
+use mathlib.Core.Path.{_≡_, refl, sym, _∙_, subst}
 use mathlib.Core.Logic.{_⊎_, inl, inr, ⊎-elim}
 use mathlib.Core.Bool.{true, false, true≢false}
-use mathlib.Core.List.{List, [], _∷_}
+use mathlib.Core.List.{List, [], _∷_, _++_}
 use native.Mathlib.Omega.{arith}
-use lib.ListN.{length, getD, set}
-use lib.Seq.{getD-set-same, getD-set-other}
+use lib.ListN.{length, take, drop, getD, set, length-append, length-drop}
+use lib.Seq.{getD-set-same, getD-set-other, take-at, drop-at, drop-drop, length-take-le}
 use Rattle.card.specs.ListsLaws.{below-or-not, same-or-other}
+use Rattle.card.specs.Pointers.{contains, insert, remove}
+use Rattle.card.specs.PointersLaws.{insert-length, remove-length}
 use Rattle.card.specs.ContentsLaws.{overwrite-before, overwrite-within, overwrite-behind}
 use Rattle.card.specs.Card.{allocatedFlag, windowAt, keyHigh, keyLow, keyFlag}
 use Rattle.card.specs.Plan.{keyBit, highWord, lowWord, replaceKeys}
@@ -37,12 +39,12 @@ getD-set-cases P xs i v j l new old =
 
 -- ---- windows
 
--- Windows of two blocks stand at different places.
-pub windowAt-apart : (m n : Mode) {a b : ℕ} → (a ≡ b → ⊥) → windowAt m a ≡ windowAt n b → ⊥
-windowAt-apart Reading Reading other e = other (omega arith)
-windowAt-apart Reading Writing other e = omega arith
-windowAt-apart Writing Reading other e = omega arith
-windowAt-apart Writing Writing other e = other (omega arith)
+-- Each place of the windows' table belongs to one block.
+pub windowAt-block : (m n : Mode) (a b : ℕ) → windowAt m a ≡ windowAt n b → a ≡ b
+windowAt-block Reading Reading a b e = omega arith
+windowAt-block Reading Writing a b e = absurd (omega arith)
+windowAt-block Writing Reading a b e = absurd (omega arith)
+windowAt-block Writing Writing a b e = omega arith
 
 -- ---- keys
 
@@ -110,3 +112,39 @@ module _ (keys : List ℕ) (b : ℕ) (read write : NewKey) (fits : 4 * b + 4 ≤
   pub kept-low : (mode : Mode) (a : ℕ) → (a ≡ b → ⊥) → keyLow (replaceKeys keys b read write) mode a ≡ keyLow keys mode a
   kept-low Reading a other = other-word a (4 * a + 1) 1 refl other (omega arith)
   kept-low Writing a other = other-word a (4 * a + 2 + 1) 3 (omega arith) other (omega arith)
+
+-- ---- the pointers' table
+
+module _ (w used : ℕ) (ps : List ℕ) (fit : used ≤ length ps) where
+  -- A pointer put into the first `used` places, and as many places behind it as before.
+  abbrev inserted : List ℕ
+  inserted = insert w (take used ps)
+
+  pub inserted-long : length inserted ≡ used + 1
+  inserted-long = omega (arith, insert-length w (take used ps), length-take-le used ps fit)
+
+  pub inserted-take : take (used + 1) (inserted ++ drop (used + 1) ps) ≡ inserted
+  inserted-take = take-at inserted (drop (used + 1) ps) (used + 1) inserted-long
+
+  pub inserted-drop : drop (used + 1) (inserted ++ drop (used + 1) ps) ≡ drop 1 (drop used ps)
+  inserted-drop = drop-at inserted (drop (used + 1) ps) (used + 1) inserted-long ∙ sym (drop-drop 1 used ps)
+
+  pub inserted-length : used < length ps → length (inserted ++ drop (used + 1) ps) ≡ length ps
+  inserted-length room = omega (arith, length-append inserted (drop (used + 1) ps), length-drop (used + 1) ps, inserted-long)
+
+module _ (w used : ℕ) (ps : List ℕ) (fit : used ≤ length ps) (there : contains w (take used ps) ≡ true) where
+  -- A pointer taken out of the first `used` places, and a 0 behind them.
+  abbrev removed : List ℕ
+  removed = remove w (take used ps)
+
+  pub removed-long : suc (length removed) ≡ used
+  removed-long = remove-length w (take used ps) there ∙ length-take-le used ps fit
+
+  pub removed-take : take (used - 1) (removed ++ (0 ∷ drop used ps)) ≡ removed
+  removed-take = take-at removed (0 ∷ drop used ps) (used - 1) (omega (arith, removed-long))
+
+  pub removed-drop : drop (used - 1) (removed ++ (0 ∷ drop used ps)) ≡ 0 ∷ drop used ps
+  removed-drop = drop-at removed (0 ∷ drop used ps) (used - 1) (omega (arith, removed-long))
+
+  pub removed-length : length (removed ++ (0 ∷ drop used ps)) ≡ length ps
+  removed-length = omega (arith, length-append removed (0 ∷ drop used ps), length-drop used ps, removed-long)

@@ -37,7 +37,8 @@ use Rattle.card.specs.declared.Call.{Call}
 use Rattle.card.specs.declared.Call.the-variants.{Read, Write, Alloc, Create, Delete, Key, Renew, Force, Free, Tick, Audit}
 use Rattle.card.specs.ChangesLaws.{keyedFlag, keyedFlag-allocated}
 use Rattle.card.proofs.Guarantees.Steps.{allocated-set, allocated-other, unallocated-flag, setWindow-sound, setBlock-sound, setKeys-sound, setTime-sound}
-use Rattle.card.proofs.Guarantees.PointerSteps.{sound-but, inserted-length, addPointer-sound, takeAdd-sound, dropOne-sound, dropLast-sound}
+use Rattle.card.specs.ChangesLaws.{inserted-length}
+use Rattle.card.proofs.Guarantees.PointerSteps.{sound-but, addPointer-sound, takeAdd-sound, dropOne-sound, dropLast-sound}
 use Rattle.card.specs.PicksLaws.{Without, distinct-head, distinct-tail, Takeable, picks-takeable, picks-length}
 use Rattle.card.proofs.Guarantees.Judged.{judge-cases, judge-after}
 
@@ -171,7 +172,7 @@ takeAll-sound {c} reference (b ∷ bs) s a t room =
     (takeAdd-sound reference b s a below (unallocated-flag p b below free) place)
     (allocated-set p b 1 reference refl a)
     (takeable-rest p reference b bs t)
-    (omega (arith, inserted-length (pointer reference b) (p .info .used) (p .pointers) place))
+    (omega (arith, inserted-length (pointer reference b) (p .info .used) (p .pointers) (omega arith) place))
 
 alloc-sound : (port : Port) (c : Card) (opened : Bool) (o : AllocOperands) (places : ℕ) → SoundCard c
     → NoneHolds (allocPlan port (c .public) opened o places .checks) → SoundCard (changes c (allocPlan port (c .public) opened o places .steps))

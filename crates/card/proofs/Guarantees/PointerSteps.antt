@@ -24,7 +24,7 @@ use Rattle.card.specs.Plan.{takeBlock, freeBlock, addPointer, dropPointe
 use Rattle.card.specs.declared.Mode.{Mode}
 use Rattle.card.specs.declared.Mode.the-variants.{Reading, Writing}
 use Rattle.card.specs.declared.NewKey.the-variants.{Absent}
-use Rattle.card.specs.ChangesLaws.{getD-set-either, getD-set-cases, chosen, replaced-high, replaced-low, kept-high, kept-low}
+use Rattle.card.specs.ChangesLaws.{inserted-take, inserted-drop, inserted-length, removed-take, removed-drop, removed-length, getD-set-either, getD-set-cases, chosen, replaced-high, replaced-low, kept-high, kept-low}
 use Rattle.card.proofs.Guarantees.Steps.{shaped-with, filled-length, keyZero-from, empty-from, not-allocated, allocated-set, allocated-other, right-kept, set-flag-pointers}
 
 -- ---- soundness but for one block
@@ -114,23 +114,6 @@ takeBlock-sound {c} b s below free =
       windowsLow = s .isSound .windowsLow;
     }
 
--- The pointers in use with one more, in front of the places behind them.
-module _ (w used : ℕ) (ps : List ℕ) (room : used < length ps) where
-  abbrev pub inserted : List ℕ
-  inserted = insert w (take used ps)
-
-  inserted-long : length inserted ≡ used + 1
-  inserted-long = omega (arith, insert-length w (take used ps), length-take-le used ps (omega arith))
-
-  inserted-take : take (used + 1) (inserted ++ drop (used + 1) ps) ≡ inserted
-  inserted-take = take-at inserted (drop (used + 1) ps) (used + 1) inserted-long
-
-  inserted-drop : drop (used + 1) (inserted ++ drop (used + 1) ps) ≡ drop 1 (drop used ps)
-  inserted-drop = drop-at inserted (drop (used + 1) ps) (used + 1) inserted-long ∙ sym (drop-drop 1 used ps)
-
-  pub inserted-length : length (inserted ++ drop (used + 1) ps) ≡ length ps
-  inserted-length = omega (arith, length-append inserted (drop (used + 1) ps), length-drop (used + 1) ps, inserted-long)
-
 adds-same : (b w : ℕ) → destination w ≡ b → adds b w ≡ 1
 adds-same b w e = rw (eq-eqb (destination w) b e)
 
@@ -176,7 +159,7 @@ addPointer-sound {c} a b s fromAllocated toAllocated noRoot different absent roo
     let used : ℕ = p .info .used in
     let ps : List ℕ = p .pointers in
     let w : ℕ = pointer a b in
-    let listed : take (used + 1) (insert w (inUse p) ++ drop (used + 1) ps) ≡ insert w (inUse p) = inserted-take w used ps room in
+    let listed : take (used + 1) (insert w (inUse p) ++ drop (used + 1) ps) ≡ insert w (inUse p) = inserted-take w used ps (omega arith) in
     let right : pointerRight p w ≡ true = true-pointerRight {p = p} (record {
       sourceAllocated = subst (λ (n : ℕ). allocated p n ≡ true) (sym (source-pointer a b narrow)) fromAllocated;
       destinationAllocated = subst (λ (n : ℕ). allocated p n ≡ true) (sym (destination-pointer a b narrow)) toAllocated;
@@ -184,8 +167,8 @@ addPointer-sound {c} a b s fromAllocated toAllocated noRoot different absent roo
       different = λ e. different (sym (source-pointer a b narrow) ∙ e ∙ destination-pointer a b narrow);
     }) in
     but-sound {x = b} (record {
-      shaped = shaped-with (s .shaped) refl refl (length-set (p .counts) b (count p b + 1)) (inserted-length w used ps room) refl refl
-          (omega (arith, inserted-length w used ps room))
+      shaped = shaped-with (s .shaped) refl refl (length-set (p .counts) b (count p b + 1)) (inserted-length w used ps (omega arith) room) refl refl
+          (omega (arith, inserted-length w used ps (omega arith) room))
           (s .shaped .timeHigh);
       flagsLow = s .flagsLow;
       rootsAllocated = s .rootsAllocated;
@@ -197,7 +180,7 @@ addPointer-sound {c} a b s fromAllocated toAllocated noRoot different absent roo
       absentKey = λ m x l e. keyZero-from refl refl (s .absentKey m x l e);
       ascends = subst (λ (ws : List ℕ). ascending ws ≡ true) (sym listed) (insert-ascending w (inUse p) (s .ascends) absent);
       restZero =
-          subst (λ (ws : List ℕ). all (λ w. eqb w 0) ws ≡ true) (sym (inserted-drop w used ps room))
+          subst (λ (ws : List ℕ). all (λ w. eqb w 0) ws ≡ true) (sym (inserted-drop w used ps (omega arith)))
           (all-drop (λ w. eqb w 0) 1 (drop used ps) (s .restZero));
       pointersRight =
           subst (λ (ws : List ℕ). all (λ w. pointerRight p w) ws ≡ true) (sym listed)
@@ -212,23 +195,6 @@ addPointer-sound {c} a b s fromAllocated toAllocated noRoot different absent roo
     (subst (λ (n : ℕ). 1 ≤ n) (sym (getD-set-same (p .counts) b (count p b + 1) 0 inCounts)) (omega arith))
 
 -- ---- a pointer dropped, and its block freed
-
--- The pointers in use with one less, in front of a zero and the places behind them.
-module _ (w used : ℕ) (ps : List ℕ) (fit : used ≤ length ps) (there : contains w (take used ps) ≡ true) where
-  abbrev removed : List ℕ
-  removed = remove w (take used ps)
-
-  removed-long : suc (length removed) ≡ used
-  removed-long = remove-length w (take used ps) there ∙ length-take-le used ps fit
-
-  removed-take : take (used - 1) (removed ++ (0 ∷ drop used ps)) ≡ removed
-  removed-take = take-at removed (0 ∷ drop used ps) (used - 1) (omega (arith, removed-long))
-
-  removed-drop : drop (used - 1) (removed ++ (0 ∷ drop used ps)) ≡ 0 ∷ drop used ps
-  removed-drop = drop-at removed (0 ∷ drop used ps) (used - 1) (omega (arith, removed-long))
-
-  removed-length : length (removed ++ (0 ∷ drop used ps)) ≡ length ps
-  removed-length = omega (arith, length-append removed (0 ∷ drop used ps), length-drop used ps, removed-long)
 
 -- Drop a pointer that is there: sound but for a pointer to its block.
 pub dropPointer-sound : {c : Card} (a b : ℕ) → SoundCard c → allocated (c .public) b ≡ true → pointsTo (c .public) a b ≡ true

@@ -19,7 +19,7 @@ use Rattle.card.specs.SoundnessLaws.{Shaped, KeyZero, Empty, RightPointe
 use Rattle.card.specs.Plan.{setWindow, setBlock, setKeys, setTime, highWord, lowWord, withFlags, changePublic, changeKeys, changeContents, change}
 use Rattle.card.specs.declared.Mode.{Mode}
 use Rattle.card.specs.declared.NewKey.{NewKey}
-use Rattle.card.specs.ChangesLaws.{getD-set-either, getD-set-cases, windowAt-apart, keyedFlag, keyedFlag-low, keyedFlag-allocated, keyedFlag-absent, replaced-high, replaced-low, kept-high, kept-low}
+use Rattle.card.specs.ChangesLaws.{getD-set-either, getD-set-cases, windowAt-block, keyedFlag, keyedFlag-low, keyedFlag-allocated, keyedFlag-absent, replaced-high, replaced-low, kept-high, kept-low}
 
 -- ---- shape
 
@@ -99,7 +99,7 @@ setWindow-sound {c} mode b end s a low = record {
     rootsAllocated = s .isSound .rootsAllocated;
     unallocated = λ x l e.
         empty-from refl (λ m. refl) (λ m. refl) refl
-        (λ m. getD-set-other (c .public .windows) (windowAt mode b) (windowAt m x) end 0 (windowAt-apart m mode (not-allocated (c .public) a e)))
+        (λ m. getD-set-other (c .public .windows) (windowAt mode b) (windowAt m x) end 0 (λ q. not-allocated (c .public) a e (windowAt-block m mode x b q)))
         (s .isSound .unallocated x l e);
     absentKey = λ m x l e. keyZero-from refl refl (s .isSound .absentKey m x l e);
     ascends = s .isSound .ascends;

@@ -19,6 +19,7 @@ use Rattle.card.specs.ContentsLaws.{overwrite-length, overwrite-before, 
 use Rattle.card.specs.Card.{Public, Card, flag, allocatedFlag, keyFlag, allocated, hasKey, isRoot, windowAt, windowEnd, windowOpen, inUse, pointsTo, keyAt, keyHigh, keyLow}
 use Rattle.card.specs.SoundnessLaws.{allocated-below}
 use Rattle.card.specs.Plan.{Change, setWindow, setBlock, setKeys, takeBlock, freeBlock, addPointer, dropPointer, setTime, replaceKeys, changePublic, changeKeys, changeContents, change}
+use Rattle.card.specs.ChangesLaws.{windowAt-block, kept-high, kept-low, inserted-long, inserted-take, removed-take, removed-length}
 use Rattle.card.specs.Reach.{keyPresented, sealed}
 use Rattle.card.specs.declared.Mode.{Mode}
 use Rattle.card.specs.declared.Mode.the-variants.{Reading, Writing}
@@ -68,29 +69,22 @@ Grown G step x = G x ⊎ Taken step x
 -- ---- pointers after a change
 
 module _ (p : Public) (a b : ℕ) (h : p .info .used ≤ length (p .pointers)) where
-  added-length : length (insert (pointer a b) (inUse p)) ≡ p .info .used + 1
-  added-length = insert-length (pointer a b) (inUse p) ∙ omega (arith, length-take-le (p .info .used) (p .pointers) h)
-
   pub inUse-added : inUse (changePublic (addPointer a b) p) ≡ insert (pointer a b) (inUse p)
   unfolding changePublic
-  inUse-added = take-at (insert (pointer a b) (inUse p)) (drop (p .info .used + 1) (p .pointers)) (p .info .used + 1) added-length
+  inUse-added = inserted-take (pointer a b) (p .info .used) (p .pointers) h
 
   pub used-added : changePublic (addPointer a b) p .info .used ≤ length (changePublic (addPointer a b) p .pointers)
   unfolding changePublic
-  used-added = simp (length-append, added-length) (omega arith)
-
-  dropped-length : contains (pointer a b) (inUse p) ≡ true → suc (length (remove (pointer a b) (inUse p))) ≡ p .info .used
-  dropped-length e = remove-length (pointer a b) (inUse p) e ∙ length-take-le (p .info .used) (p .pointers) h
+  used-added = simp (length-append, inserted-long (pointer a b) (p .info .used) (p .pointers) h) (omega arith)
 
   pub inUse-dropped : contains (pointer a b) (inUse p) ≡ true → inUse (changePublic (dropPointer a b) p) ≡ remove (pointer a b) (inUse p)
   unfolding changePublic
-  inUse-dropped e =
-      take-at (remove (pointer a b) (inUse p)) (0 ∷ drop (p .info .used) (p .pointers)) (p .info .used - 1) (omega (arith, dropped-length e))
+  inUse-dropped e = removed-take (pointer a b) (p .info .used) (p .pointers) h e
 
   pub used-dropped : contains (pointer a b) (inUse p) ≡ true
       → changePublic (dropPointer a b) p .info .used ≤ length (changePublic (dropPointer a b) p .pointers)
   unfolding changePublic
-  used-dropped e = simp length-append (omega (arith, dropped-length e))
+  used-dropped e = omega (arith, removed-length (pointer a b) (p .info .used) (p .pointers) h e)
 
 -- ---- lengths are kept
 
@@ -188,13 +182,6 @@ open-before windows i j time end late h =
     (λ (n : i ≡ j → ⊥). rw (getD-set-other windows j i end 0 n) at h)
     (same-or-other i j)
 
--- Each place of the windows' table belongs to one block.
-window-place : (m n : Mode) (x b : ℕ) → windowAt m x ≡ windowAt n b → x ≡ b
-window-place Reading Reading x b e = omega arith
-window-place Reading Writing x b e = absurd (omega arith)
-window-place Writing Reading x b e = absurd (omega arith)
-window-place Writing Writing x b e = omega arith
-
 -- Keys of one block are presented alike, and sealed alike, on two cards with the same flags and words of it.
 record SameKeys (c c′ : Card) (x : ℕ) : Type 0 where
   sameFlag : flag (c′ .public) x ≡ flag (c .public) x
@@ -208,24 +195,6 @@ presented-same K c c′ x s mode = rw (s .sameFlag, s .sameHigh mode, s .sameLow
 sealed-same : (K : ℕ → ℕ → Bool) (c c′ : Card) (x : ℕ) → SameKeys c c′ x → sealed K c′ x ≡ sealed K c x
 unfolding sealed hasKey
 sealed-same K c c′ x s = rw (presented-same K c c′ x s Reading, presented-same K c c′ x s Writing, s .sameFlag)
-
--- Another block's words are left where a block's keys are replaced.
-word-kept : (keys : List ℕ) (b : ℕ) (words : List ℕ) → length words ≡ 4 → 4 * b + 4 ≤ length keys → (x k : ℕ) → k < 4 → (x ≡ b → ⊥)
-    → getD (overwrite keys (4 * b) words) (4 * x + k) 0 ≡ getD keys (4 * x + k) 0
-word-kept keys b words four fits x k low other =
-    ⊎-elim
-    (λ (h : x < b). overwrite-before keys (4 * b) words (omega arith) (4 * x + k) (omega arith))
-    (λ (h : b ≤ x). overwrite-behind keys (4 * b) words (omega arith) (4 * x + k) (omega arith))
-    (below-or-not x b)
-
-module _ (keys : List ℕ) (b : ℕ) (read write : NewKey) (fits : 4 * b + 4 ≤ length keys) (x : ℕ) (other : x ≡ b → ⊥) where
-  high-kept : (mode : Mode) → keyHigh (replaceKeys keys b read write) mode x ≡ keyHigh keys mode x
-  high-kept Reading = rw (← native.Mathlib.Nat.add-zero (4 * x)) (word-kept keys b _ refl fits x 0 (omega arith) other)
-  high-kept Writing = word-kept keys b _ refl fits x 2 (omega arith) other
-
-  low-kept : (mode : Mode) → keyLow (replaceKeys keys b read write) mode x ≡ keyLow keys mode x
-  low-kept Reading = word-kept keys b _ refl fits x 1 (omega arith) other
-  low-kept Writing = rw (native.Mathlib.Nat.add-assoc (4 * x) 2 1) (word-kept keys b _ refl fits x 3 (omega arith) other)
 
 -- ---- closed after each change
 
@@ -251,7 +220,7 @@ module _ (K : ℕ → ℕ → Bool) (G : ℕ → Type 0) (c : Card) (r : Regular
         wasUnsealed = λ s. s;
         wasPresented = λ m k. k;
         wasOpen = λ m o.
-            open-before (c .public .windows) (windowAt m x) (windowAt mode b) (c .public .info .time) end (λ e. late (window-place m mode x b e)) o;
+            open-before (c .public .windows) (windowAt m x) (windowAt mode b) (c .public .info .time) end (λ e. late (windowAt-block m mode x b e)) o;
         wasPointed = λ y g p. (same-set G y g, p);
       }
 
@@ -278,8 +247,8 @@ module _ (K : ℕ → ℕ → Bool) (G : ℕ → Type 0) (c : Card) (r : Regular
       same : (x : ℕ) → (x ≡ b → ⊥) → SameKeys c (change c (setKeys b read write)) x
       same x n = record {
         sameFlag = getD-set-other (c .public .flags) b x _ 0 n;
-        sameHigh = high-kept (c .keys) b read write (keys-fit c b r (h .1)) x n;
-        sameLow = low-kept (c .keys) b read write (keys-fit c b r (h .1)) x n;
+        sameHigh = λ m. kept-high (c .keys) b read write (keys-fit c b r (h .1)) m x n;
+        sameLow = λ m. kept-low (c .keys) b read write (keys-fit c b r (h .1)) m x n;
       }
 
       framed : (x : ℕ) → allocated (change c (setKeys b read write) .public) x ≡ true → (x ≡ b → ⊥)
@@ -335,8 +304,8 @@ module _ (K : ℕ → ℕ → Bool) (G : ℕ → Type 0) (c : Card) (r : Regular
       same : (x : ℕ) → (x ≡ b → ⊥) → SameKeys c (change c (freeBlock b)) x
       same x n = record {
         sameFlag = getD-set-other (c .public .flags) b x 0 0 n;
-        sameHigh = high-kept (c .keys) b Absent Absent (keys-fit c b r h) x n;
-        sameLow = low-kept (c .keys) b Absent Absent (keys-fit c b r h) x n;
+        sameHigh = λ m. kept-high (c .keys) b Absent Absent (keys-fit c b r h) m x n;
+        sameLow = λ m. kept-low (c .keys) b Absent Absent (keys-fit c b r h) m x n;
       }
 
       -- Both windows of the block were set to 0.
