@@ -2,6 +2,16 @@
 use card::Info;
 use card::Verdict;
 
+// The table that is lent too short.
+enum Lack {
+    Flags,
+    Keys,
+    Counts,
+    Pointers,
+    Windows,
+    Contents,
+}
+
 // One store into a table of the good card.
 enum Fault {
     Nothing,
@@ -38,7 +48,7 @@ fn write_verdict(name: &[u8], verdict: Verdict) {
     }
 }
 
-// The tables with contents of zeros.
+// Audits the tables with contents of zeros.
 fn lend(
     info: Info,
     flags: &[u8; 16],
@@ -348,112 +358,94 @@ fn faults_of_records() {
     );
 }
 
-// Table lengths, on a card without pointers.
-fn faults_of_lengths() {
-    let mut flags = [0u8; 17];
-    let keys = [0u64; 65];
-    let counts = [0u16; 17];
-    let pointers = [0u32; 32];
-    let windows = [0u64; 33];
-    let contents = [0u8; 8193];
+// A card without pointers, one table too short.
+fn judge_length(lack: Lack) -> Verdict {
     let info = record(1, 0);
+    let mut flags = [0u8; 16];
+    let keys = [0u64; 64];
+    let counts = [0u16; 16];
+    let pointers = [0u32; 32];
+    let windows = [0u64; 32];
+    let contents = [0u8; 8192];
     flags[0] = 1;
-    write_verdict(
-        b"lengths",
-        audit::audit(
-            info,
-            &flags[..16],
-            &keys[..64],
-            &counts[..16],
-            &pointers[..32],
-            &windows[..32],
-            &contents[..8192],
-        ),
-    );
-    write_verdict(
-        b"one-place",
-        audit::audit(
-            info,
-            &flags[..16],
-            &keys[..64],
-            &counts[..16],
-            &pointers[..1],
-            &windows[..32],
-            &contents[..8192],
-        ),
-    );
-    write_verdict(
-        b"no-place",
-        audit::audit(
-            info,
-            &flags[..16],
-            &keys[..64],
-            &counts[..16],
-            &pointers[..0],
-            &windows[..32],
-            &contents[..8192],
-        ),
-    );
-    write_verdict(
-        b"flags-short",
-        audit::audit(
-            info,
-            &flags[..15],
-            &keys[..64],
-            &counts[..16],
-            &pointers[..32],
-            &windows[..32],
-            &contents[..8192],
-        ),
-    );
-    write_verdict(
-        b"keys-long",
-        audit::audit(
-            info,
-            &flags[..16],
-            &keys[..65],
-            &counts[..16],
-            &pointers[..32],
-            &windows[..32],
-            &contents[..8192],
-        ),
-    );
-    write_verdict(
-        b"counts-short",
-        audit::audit(
-            info,
-            &flags[..16],
-            &keys[..64],
-            &counts[..15],
-            &pointers[..32],
-            &windows[..32],
-            &contents[..8192],
-        ),
-    );
-    write_verdict(
-        b"windows-long",
-        audit::audit(
-            info,
-            &flags[..16],
-            &keys[..64],
-            &counts[..16],
-            &pointers[..32],
-            &windows[..33],
-            &contents[..8192],
-        ),
-    );
-    write_verdict(
-        b"contents-short",
-        audit::audit(
-            info,
-            &flags[..16],
-            &keys[..64],
-            &counts[..16],
-            &pointers[..32],
-            &windows[..32],
-            &contents[..8191],
-        ),
-    );
+    match lack {
+        Lack::Flags => {
+            audit::audit(
+                info,
+                &flags[..15],
+                &keys,
+                &counts,
+                &pointers,
+                &windows,
+                &contents,
+            )
+        }
+        Lack::Keys => {
+            audit::audit(
+                info,
+                &flags,
+                &keys[..63],
+                &counts,
+                &pointers,
+                &windows,
+                &contents,
+            )
+        }
+        Lack::Counts => {
+            audit::audit(
+                info,
+                &flags,
+                &keys,
+                &counts[..15],
+                &pointers,
+                &windows,
+                &contents,
+            )
+        }
+        Lack::Pointers => {
+            audit::audit(
+                info,
+                &flags,
+                &keys,
+                &counts,
+                &pointers[..0],
+                &windows,
+                &contents,
+            )
+        }
+        Lack::Windows => {
+            audit::audit(
+                info,
+                &flags,
+                &keys,
+                &counts,
+                &pointers,
+                &windows[..31],
+                &contents,
+            )
+        }
+        Lack::Contents => {
+            audit::audit(
+                info,
+                &flags,
+                &keys,
+                &counts,
+                &pointers,
+                &windows,
+                &contents[..8191],
+            )
+        }
+    }
+}
+
+// Table lengths.
+fn faults_of_lengths() {
+    write_verdict(b"flags-15", judge_length(Lack::Flags));
+    write_verdict(b"keys-63", judge_length(Lack::Keys));
+    write_verdict(b"counts-15", judge_length(Lack::Counts));
+    write_verdict(b"no-place", judge_length(Lack::Pointers));
+    write_verdict(b"windows-31", judge_length(Lack::Windows));
+    write_verdict(b"contents-8191", judge_length(Lack::Contents));
 }
 
 fn main() {
