@@ -17,7 +17,7 @@ use card::Verdict;
 fn in_ranges(blocks: usize, roots: usize, bytes: usize) -> bool
     ensures { λ r. ⌜ r ≡ ranges blocks roots bytes ⌝ }
 {
-    // A divisor below.
+    // `bytes` is a divisor below.
     if bytes < 512 {
         return false;
     }
@@ -99,7 +99,8 @@ fn pointer_right(info: Info, flags: &[u8], w: u32) -> bool
 }
 
 // Whether the pointers in use ascend and are right. If so, each block's place of the tally has
-// the number of pointers to it. `least` is the least word that the next pointer may be.
+// the number of pointers to it; else the tally says nothing. `least` is the least word that the
+// next pointer may be.
 fn walk_pointers(info: Info, flags: &[u8], pointers: &[u32], tally: &mut [u16; 4096]) -> bool
     requires { ⌜ PointersFit info (now flags) (now pointers) ⌝ ∗ ⌜ now tally ≡ replicate 4096 0 ⌝ }
     ensures { λ r. ⌜ PointersWalked (pointing info (now (flags .entry)) (now (pointers .entry))) r (now (tally .exit)) ⌝ }
@@ -232,6 +233,7 @@ fn walk(
     }
 }
 
+// The verdict on a record and tables of any lengths and contents.
 pub fn audit(
     info: Info,
     flags: &[u8],
