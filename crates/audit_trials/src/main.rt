@@ -2,8 +2,9 @@
 use card::Info;
 use card::Verdict;
 
-// The table that is lent too short.
+// The table that is lent without its elements.
 enum Lack {
+    Nothing,
     Flags,
     Keys,
     Counts,
@@ -305,6 +306,19 @@ fn faults_of_records() {
         ),
     );
     write_verdict(
+        b"contents-short",
+        judge(
+            Info {
+                blocks: 16,
+                roots: 1,
+                bytes: 1024,
+                used: 3,
+                time: 100,
+            },
+            Fault::Nothing,
+        ),
+    );
+    write_verdict(
         b"used-33",
         judge(
             Info {
@@ -358,9 +372,46 @@ fn faults_of_records() {
     );
 }
 
-// A card without pointers, one table too short.
-fn judge_length(lack: Lack) -> Verdict {
+// Audits the tables, one of them lent without its elements.
+fn lend_lacking(
+    lack: Lack,
+    flags: &[u8],
+    keys: &[u64],
+    counts: &[u16],
+    pointers: &[u32],
+    windows: &[u64],
+    contents: &[u8],
+) -> Verdict {
     let info = record(1, 0);
+    match lack {
+        Lack::Nothing => audit::audit(info, flags, keys, counts, pointers, windows, contents),
+        Lack::Flags => audit::audit(info, &flags[..0], keys, counts, pointers, windows, contents),
+        Lack::Keys => audit::audit(info, flags, &keys[..0], counts, pointers, windows, contents),
+        Lack::Counts => audit::audit(info, flags, keys, &counts[..0], pointers, windows, contents),
+        Lack::Pointers => audit::audit(
+            info,
+            flags,
+            keys,
+            counts,
+            &pointers[..0],
+            windows,
+            contents,
+        ),
+        Lack::Windows => audit::audit(info, flags, keys, counts, pointers, &windows[..0], contents),
+        Lack::Contents => audit::audit(
+            info,
+            flags,
+            keys,
+            counts,
+            pointers,
+            windows,
+            &contents[..0],
+        ),
+    }
+}
+
+// A fresh card, one table lacking.
+fn judge_lacking(lack: Lack) -> Verdict {
     let mut flags = [0u8; 16];
     let keys = [0u64; 64];
     let counts = [0u16; 16];
@@ -368,84 +419,18 @@ fn judge_length(lack: Lack) -> Verdict {
     let windows = [0u64; 32];
     let contents = [0u8; 8192];
     flags[0] = 1;
-    match lack {
-        Lack::Flags => {
-            audit::audit(
-                info,
-                &flags[..15],
-                &keys,
-                &counts,
-                &pointers,
-                &windows,
-                &contents,
-            )
-        }
-        Lack::Keys => {
-            audit::audit(
-                info,
-                &flags,
-                &keys[..63],
-                &counts,
-                &pointers,
-                &windows,
-                &contents,
-            )
-        }
-        Lack::Counts => {
-            audit::audit(
-                info,
-                &flags,
-                &keys,
-                &counts[..15],
-                &pointers,
-                &windows,
-                &contents,
-            )
-        }
-        Lack::Pointers => {
-            audit::audit(
-                info,
-                &flags,
-                &keys,
-                &counts,
-                &pointers[..0],
-                &windows,
-                &contents,
-            )
-        }
-        Lack::Windows => {
-            audit::audit(
-                info,
-                &flags,
-                &keys,
-                &counts,
-                &pointers,
-                &windows[..31],
-                &contents,
-            )
-        }
-        Lack::Contents => {
-            audit::audit(
-                info,
-                &flags,
-                &keys,
-                &counts,
-                &pointers,
-                &windows,
-                &contents[..8191],
-            )
-        }
-    }
+    lend_lacking(lack, &flags, &keys, &counts, &pointers, &windows, &contents)
 }
 
 // Table lengths.
 fn faults_of_lengths() {
-    write_verdict(b"flags-15", judge_length(Lack::Flags));
-    write_verdict(b"keys-63", judge_length(Lack::Keys));
-    write_verdict(b"counts-15", judge_length(Lack::Counts));
-    write_verdict(b"no-place", judge_length(Lack::Pointers));
-    write_verdict(b"windows-31", judge_length(Lack::Windows));
-    write_verdict(b"contents-8191", judge_length(Lack::Contents));
+    write_verdict(b"fresh", judge_lacking(Lack::Nothing));
+    write_verdict(b"no-flags", judge_lacking(Lack::Flags));
+    write_verdict(b"no-keys", judge_lacking(Lack::Keys));
+    write_verdict(b"no-counts", judge_lacking(Lack::Counts));
+    write_verdict(b"no-places", judge_lacking(Lack::Pointers));
+    write_verdict(b"no-windows", judge_lacking(Lack::Windows));
+    write_verdict(b"no-contents", judge_lacking(Lack::Contents));
 }
 
 fn main() {
