@@ -1,5 +1,4 @@
 // Audits good and damaged cards of N 16, B 512 and P 32. Writes a line for each: its name, then 0 if sound, 1 if misshapen, 2 if unsound.
-ghost use mathlib.Core.Path.{_≡_};
 use card::Info;
 use card::Verdict;
 
@@ -22,18 +21,6 @@ enum Fault {
     Count(usize, u16),
     Pointer(usize, u32),
     Window(usize, u64),
-}
-
-fn record(blocks: usize, roots: usize, bytes: usize, used: usize, time: u64) -> Info
-    ensures { λ r. ⌜ r ≡ record { blocks = blocks; roots = roots; bytes = bytes; used = used; time = time } ⌝ }
-{
-    Info {
-        blocks,
-        roots,
-        bytes,
-        used,
-        time,
-    }
 }
 
 fn write_verdict(name: &[u8], verdict: Verdict) {
@@ -70,7 +57,22 @@ fn lend(
 
 // The good card with one store: root 0, block 1 with both keys, block 2 without, pointers 0 to 1,
 // 0 to 2 and 1 to 2, and block 0's read window at its latest end.
-fn judge(name: &[u8], info: Info, fault: Fault) {
+fn judge(
+    name: &[u8],
+    blocks: usize,
+    roots: usize,
+    bytes: usize,
+    used: usize,
+    time: u64,
+    fault: Fault,
+) {
+    let info = Info {
+        blocks,
+        roots,
+        bytes,
+        used,
+        time,
+    };
     let mut flags = [0u8; 16];
     let mut keys = [0u64; 64];
     let mut counts = [0u16; 16];
@@ -120,163 +122,151 @@ fn judge(name: &[u8], info: Info, fault: Fault) {
 
 // Clauses of soundness on blocks.
 fn faults_of_blocks() {
-    judge(b"good", record(16, 1, 512, 3, 100), Fault::Nothing);
-    judge(b"zero-key", record(16, 1, 512, 3, 100), Fault::Key(4, 0));
-    judge(b"flags-8", record(16, 1, 512, 3, 100), Fault::Flag(0, 9));
-    judge(
-        b"root-unallocated",
-        record(16, 1, 512, 3, 100),
-        Fault::Flag(0, 0),
-    );
-    judge(
-        b"free-with-flags",
-        record(16, 1, 512, 3, 100),
-        Fault::Flag(5, 2),
-    );
-    judge(
-        b"free-with-key",
-        record(16, 1, 512, 3, 100),
-        Fault::Key(20, 1),
-    );
-    judge(
-        b"free-with-count",
-        record(16, 1, 512, 3, 100),
-        Fault::Count(5, 1),
-    );
+    judge(b"good", 16, 1, 512, 3, 100, Fault::Nothing);
+    judge(b"zero-key", 16, 1, 512, 3, 100, Fault::Key(4, 0));
+    judge(b"flags-8", 16, 1, 512, 3, 100, Fault::Flag(0, 9));
+    judge(b"root-unallocated", 16, 1, 512, 3, 100, Fault::Flag(0, 0));
+    judge(b"free-with-flags", 16, 1, 512, 3, 100, Fault::Flag(5, 2));
+    judge(b"free-with-key", 16, 1, 512, 3, 100, Fault::Key(20, 1));
+    judge(b"free-with-count", 16, 1, 512, 3, 100, Fault::Count(5, 1));
     judge(
         b"free-with-window",
-        record(16, 1, 512, 3, 100),
+        16,
+        1,
+        512,
+        3,
+        100,
         Fault::Window(11, 1),
     );
-    judge(
-        b"absent-read-high",
-        record(16, 1, 512, 3, 100),
-        Fault::Key(8, 1),
-    );
-    judge(
-        b"absent-read-low",
-        record(16, 1, 512, 3, 100),
-        Fault::Key(9, 1),
-    );
-    judge(
-        b"absent-write-high",
-        record(16, 1, 512, 3, 100),
-        Fault::Key(10, 1),
-    );
-    judge(
-        b"absent-write-low",
-        record(16, 1, 512, 3, 100),
-        Fault::Key(11, 1),
-    );
+    judge(b"absent-read-high", 16, 1, 512, 3, 100, Fault::Key(8, 1));
+    judge(b"absent-read-low", 16, 1, 512, 3, 100, Fault::Key(9, 1));
+    judge(b"absent-write-high", 16, 1, 512, 3, 100, Fault::Key(10, 1));
+    judge(b"absent-write-low", 16, 1, 512, 3, 100, Fault::Key(11, 1));
 }
 
 // Clauses of soundness on pointers, counts and windows.
 fn faults_of_pointers() {
-    judge(
-        b"equal-pointers",
-        record(16, 1, 512, 3, 100),
-        Fault::Pointer(1, 1),
-    );
+    judge(b"equal-pointers", 16, 1, 512, 3, 100, Fault::Pointer(1, 1));
     judge(
         b"falling-pointers",
-        record(16, 1, 512, 3, 100),
+        16,
+        1,
+        512,
+        3,
+        100,
         Fault::Pointer(0, 3),
     );
     judge(
         b"unused-not-zero",
-        record(16, 1, 512, 3, 100),
+        16,
+        1,
+        512,
+        3,
+        100,
         Fault::Pointer(3, 65539),
     );
     judge(
         b"last-unused-not-zero",
-        record(16, 1, 512, 3, 100),
+        16,
+        1,
+        512,
+        3,
+        100,
         Fault::Pointer(31, 1),
     );
     judge(
         b"source-unallocated",
-        record(16, 1, 512, 3, 100),
+        16,
+        1,
+        512,
+        3,
+        100,
         Fault::Pointer(2, 327682),
     );
     judge(
         b"source-above",
-        record(16, 1, 512, 3, 100),
+        16,
+        1,
+        512,
+        3,
+        100,
         Fault::Pointer(2, 1048578),
     );
     judge(
         b"destination-unallocated",
-        record(16, 1, 512, 3, 100),
+        16,
+        1,
+        512,
+        3,
+        100,
         Fault::Pointer(2, 65541),
     );
     judge(
         b"destination-above",
-        record(16, 1, 512, 3, 100),
+        16,
+        1,
+        512,
+        3,
+        100,
         Fault::Pointer(2, 65552),
     );
     judge(
         b"destination-root",
-        record(16, 1, 512, 3, 100),
+        16,
+        1,
+        512,
+        3,
+        100,
         Fault::Pointer(2, 65536),
     );
-    judge(
-        b"ends-equal",
-        record(16, 1, 512, 3, 100),
-        Fault::Pointer(2, 131074),
-    );
-    judge(b"count-low", record(16, 1, 512, 3, 100), Fault::Count(2, 1));
-    judge(b"unpointed", record(16, 1, 512, 3, 100), Fault::Flag(5, 1));
+    judge(b"ends-equal", 16, 1, 512, 3, 100, Fault::Pointer(2, 131074));
+    judge(b"count-low", 16, 1, 512, 3, 100, Fault::Count(2, 1));
+    judge(b"unpointed", 16, 1, 512, 3, 100, Fault::Flag(5, 1));
     judge(
         b"read-window-late",
-        record(16, 1, 512, 3, 100),
+        16,
+        1,
+        512,
+        3,
+        100,
         Fault::Window(0, 86501),
     );
     judge(
         b"write-window-late",
-        record(16, 1, 512, 3, 100),
+        16,
+        1,
+        512,
+        3,
+        100,
         Fault::Window(5, 86501),
     );
     judge(
         b"write-window-latest",
-        record(16, 1, 512, 3, 100),
+        16,
+        1,
+        512,
+        3,
+        100,
         Fault::Window(5, 86500),
     );
 }
 
 // Ranges of the record.
 fn faults_of_records() {
-    judge(b"blocks-15", record(15, 1, 512, 3, 100), Fault::Nothing);
-    judge(b"blocks-17", record(17, 1, 512, 3, 100), Fault::Nothing);
-    judge(b"blocks-4097", record(4097, 1, 512, 3, 100), Fault::Nothing);
-    judge(b"roots-0", record(16, 0, 512, 3, 100), Fault::Nothing);
-    judge(b"roots-9", record(16, 9, 512, 3, 100), Fault::Nothing);
-    judge(b"bytes-0", record(16, 1, 0, 3, 100), Fault::Nothing);
-    judge(b"bytes-256", record(16, 1, 256, 3, 100), Fault::Nothing);
-    judge(b"bytes-768", record(16, 1, 768, 3, 100), Fault::Nothing);
-    judge(
-        b"bytes-131072",
-        record(16, 1, 131072, 3, 100),
-        Fault::Nothing,
-    );
-    judge(
-        b"contents-short",
-        record(16, 1, 1024, 3, 100),
-        Fault::Nothing,
-    );
-    judge(b"used-33", record(16, 1, 512, 33, 100), Fault::Nothing);
-    judge(
-        b"time-end",
-        record(16, 1, 512, 3, 1099511627776),
-        Fault::Nothing,
-    );
-    judge(
-        b"last-second",
-        record(16, 1, 512, 3, 1099511627775),
-        Fault::Nothing,
-    );
-    judge(
-        b"pointer-forgotten",
-        record(16, 1, 512, 2, 100),
-        Fault::Nothing,
-    );
+    judge(b"blocks-15", 15, 1, 512, 3, 100, Fault::Nothing);
+    judge(b"blocks-17", 17, 1, 512, 3, 100, Fault::Nothing);
+    judge(b"blocks-4097", 4097, 1, 512, 3, 100, Fault::Nothing);
+    judge(b"roots-0", 16, 0, 512, 3, 100, Fault::Nothing);
+    judge(b"roots-9", 16, 9, 512, 3, 100, Fault::Nothing);
+    judge(b"bytes-0", 16, 1, 0, 3, 100, Fault::Nothing);
+    judge(b"bytes-256", 16, 1, 256, 3, 100, Fault::Nothing);
+    judge(b"bytes-768", 16, 1, 768, 3, 100, Fault::Nothing);
+    judge(b"bytes-131072", 16, 1, 131072, 3, 100, Fault::Nothing);
+    judge(b"contents-short", 16, 1, 1024, 3, 100, Fault::Nothing);
+    judge(b"used-33", 16, 1, 512, 33, 100, Fault::Nothing);
+    judge(b"time-end", 16, 1, 512, 3, 1099511627776, Fault::Nothing);
+    judge(b"last-second", 16, 1, 512, 3, 1099511627775, Fault::Nothing);
+    judge(b"pointer-forgotten", 16, 1, 512, 2, 100, Fault::Nothing);
 }
 
 // Audits the tables, one of them lent without its elements.
@@ -290,7 +280,13 @@ fn lend_lacking(
     windows: &[u64],
     contents: &[u8],
 ) {
-    let info = record(16, 1, 512, 0, 100);
+    let info = Info {
+        blocks: 16,
+        roots: 1,
+        bytes: 512,
+        used: 0,
+        time: 100,
+    };
     let verdict = match lack {
         Lack::Nothing => audit::audit(info, flags, keys, counts, pointers, windows, contents),
         Lack::Flags => audit::audit(info, &flags[..0], keys, counts, pointers, windows, contents),
