@@ -38,6 +38,22 @@ fn write_verdict(name: &[u8], verdict: Verdict) {
     }
 }
 
+fn show(
+    name: &[u8],
+    info: Info,
+    flags: &[u8],
+    keys: &[u64],
+    counts: &[u16],
+    pointers: &[u32],
+    windows: &[u64],
+    contents: &[u8],
+) {
+    write_verdict(
+        name,
+        audit::audit(info, flags, keys, counts, pointers, windows, contents),
+    );
+}
+
 // Audits the tables with contents of zeros.
 fn lend(
     name: &[u8],
@@ -49,9 +65,15 @@ fn lend(
     windows: &[u64; 32],
 ) {
     let contents = [0u8; 8192];
-    write_verdict(
+    show(
         name,
-        audit::audit(info, flags, keys, counts, pointers, windows, &contents),
+        info,
+        flags,
+        keys,
+        counts,
+        pointers,
+        windows,
+        &contents,
     );
 }
 
@@ -287,12 +309,40 @@ fn lend_lacking(
         used: 0,
         time: 100,
     };
-    let verdict = match lack {
-        Lack::Nothing => audit::audit(info, flags, keys, counts, pointers, windows, contents),
-        Lack::Flags => audit::audit(info, &flags[..0], keys, counts, pointers, windows, contents),
-        Lack::Keys => audit::audit(info, flags, &keys[..0], counts, pointers, windows, contents),
-        Lack::Counts => audit::audit(info, flags, keys, &counts[..0], pointers, windows, contents),
-        Lack::Pointers => audit::audit(
+    match lack {
+        Lack::Nothing => show(name, info, flags, keys, counts, pointers, windows, contents),
+        Lack::Flags => show(
+            name,
+            info,
+            &flags[..0],
+            keys,
+            counts,
+            pointers,
+            windows,
+            contents,
+        ),
+        Lack::Keys => show(
+            name,
+            info,
+            flags,
+            &keys[..0],
+            counts,
+            pointers,
+            windows,
+            contents,
+        ),
+        Lack::Counts => show(
+            name,
+            info,
+            flags,
+            keys,
+            &counts[..0],
+            pointers,
+            windows,
+            contents,
+        ),
+        Lack::Pointers => show(
+            name,
             info,
             flags,
             keys,
@@ -301,8 +351,18 @@ fn lend_lacking(
             windows,
             contents,
         ),
-        Lack::Windows => audit::audit(info, flags, keys, counts, pointers, &windows[..0], contents),
-        Lack::Contents => audit::audit(
+        Lack::Windows => show(
+            name,
+            info,
+            flags,
+            keys,
+            counts,
+            pointers,
+            &windows[..0],
+            contents,
+        ),
+        Lack::Contents => show(
+            name,
             info,
             flags,
             keys,
@@ -311,8 +371,7 @@ fn lend_lacking(
             windows,
             &contents[..0],
         ),
-    };
-    write_verdict(name, verdict);
+    }
 }
 
 // A fresh card, one table lacking.
