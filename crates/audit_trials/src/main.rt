@@ -23,17 +23,6 @@ enum Fault {
     Window(usize, u64),
 }
 
-// The record of a card of N 16, B 512 and time 100.
-fn record(roots: usize, used: usize) -> Info {
-    Info {
-        blocks: 16,
-        roots,
-        bytes: 512,
-        used,
-        time: 100,
-    }
-}
-
 fn write_verdict(name: &[u8], verdict: Verdict) {
     io::write_all(1, name);
     match verdict {
@@ -49,22 +38,63 @@ fn write_verdict(name: &[u8], verdict: Verdict) {
     }
 }
 
+fn show(
+    name: &[u8],
+    info: Info,
+    flags: &[u8],
+    keys: &[u64],
+    counts: &[u16],
+    pointers: &[u32],
+    windows: &[u64],
+    contents: &[u8],
+) {
+    write_verdict(
+        name,
+        audit::audit(info, flags, keys, counts, pointers, windows, contents),
+    );
+}
+
 // Audits the tables with contents of zeros.
 fn lend(
+    name: &[u8],
     info: Info,
     flags: &[u8; 16],
     keys: &[u64; 64],
     counts: &[u16; 16],
     pointers: &[u32; 32],
     windows: &[u64; 32],
-) -> Verdict {
+) {
     let contents = [0u8; 8192];
-    audit::audit(info, flags, keys, counts, pointers, windows, &contents)
+    show(
+        name,
+        info,
+        flags,
+        keys,
+        counts,
+        pointers,
+        windows,
+        &contents,
+    );
 }
 
 // The good card with one store: root 0, block 1 with both keys, block 2 without, pointers 0 to 1,
 // 0 to 2 and 1 to 2, and block 0's read window at its latest end.
-fn judge(info: Info, fault: Fault) -> Verdict {
+fn judge(
+    name: &[u8],
+    blocks: usize,
+    roots: usize,
+    bytes: usize,
+    used: usize,
+    time: u64,
+    fault: Fault,
+) {
+    let info = Info {
+        blocks,
+        roots,
+        bytes,
+        used,
+        time,
+    };
     let mut flags = [0u8; 16];
     let mut keys = [0u64; 64];
     let mut counts = [0u16; 16];
@@ -109,271 +139,161 @@ fn judge(info: Info, fault: Fault) -> Verdict {
             }
         }
     }
-    lend(info, &flags, &keys, &counts, &pointers, &windows)
+    lend(name, info, &flags, &keys, &counts, &pointers, &windows);
 }
 
 // Clauses of soundness on blocks.
 fn faults_of_blocks() {
-    write_verdict(b"good", judge(record(1, 3), Fault::Nothing));
-    write_verdict(b"zero-key", judge(record(1, 3), Fault::Key(4, 0)));
-    write_verdict(b"flags-8", judge(record(1, 3), Fault::Flag(0, 9)));
-    write_verdict(b"root-unallocated", judge(record(1, 3), Fault::Flag(0, 0)));
-    write_verdict(b"free-with-flags", judge(record(1, 3), Fault::Flag(5, 2)));
-    write_verdict(b"free-with-key", judge(record(1, 3), Fault::Key(20, 1)));
-    write_verdict(b"free-with-count", judge(record(1, 3), Fault::Count(5, 1)));
-    write_verdict(
+    judge(b"good", 16, 1, 512, 3, 100, Fault::Nothing);
+    judge(b"zero-key", 16, 1, 512, 3, 100, Fault::Key(4, 0));
+    judge(b"flags-8", 16, 1, 512, 3, 100, Fault::Flag(0, 9));
+    judge(b"root-unallocated", 16, 1, 512, 3, 100, Fault::Flag(0, 0));
+    judge(b"free-with-flags", 16, 1, 512, 3, 100, Fault::Flag(5, 2));
+    judge(b"free-with-key", 16, 1, 512, 3, 100, Fault::Key(20, 1));
+    judge(b"free-with-count", 16, 1, 512, 3, 100, Fault::Count(5, 1));
+    judge(
         b"free-with-window",
-        judge(record(1, 3), Fault::Window(11, 1)),
+        16,
+        1,
+        512,
+        3,
+        100,
+        Fault::Window(11, 1),
     );
-    write_verdict(b"absent-read-high", judge(record(1, 3), Fault::Key(8, 1)));
-    write_verdict(b"absent-read-low", judge(record(1, 3), Fault::Key(9, 1)));
-    write_verdict(b"absent-write-high", judge(record(1, 3), Fault::Key(10, 1)));
-    write_verdict(b"absent-write-low", judge(record(1, 3), Fault::Key(11, 1)));
+    judge(b"absent-read-high", 16, 1, 512, 3, 100, Fault::Key(8, 1));
+    judge(b"absent-read-low", 16, 1, 512, 3, 100, Fault::Key(9, 1));
+    judge(b"absent-write-high", 16, 1, 512, 3, 100, Fault::Key(10, 1));
+    judge(b"absent-write-low", 16, 1, 512, 3, 100, Fault::Key(11, 1));
 }
 
 // Clauses of soundness on pointers, counts and windows.
 fn faults_of_pointers() {
-    write_verdict(b"equal-pointers", judge(record(1, 3), Fault::Pointer(1, 1)));
-    write_verdict(
+    judge(b"equal-pointers", 16, 1, 512, 3, 100, Fault::Pointer(1, 1));
+    judge(
         b"falling-pointers",
-        judge(record(1, 3), Fault::Pointer(0, 3)),
+        16,
+        1,
+        512,
+        3,
+        100,
+        Fault::Pointer(0, 3),
     );
-    write_verdict(
+    judge(
         b"unused-not-zero",
-        judge(record(1, 3), Fault::Pointer(3, 65539)),
+        16,
+        1,
+        512,
+        3,
+        100,
+        Fault::Pointer(3, 65539),
     );
-    write_verdict(
+    judge(
         b"last-unused-not-zero",
-        judge(record(1, 3), Fault::Pointer(31, 1)),
+        16,
+        1,
+        512,
+        3,
+        100,
+        Fault::Pointer(31, 1),
     );
-    write_verdict(
+    judge(
         b"source-unallocated",
-        judge(record(1, 3), Fault::Pointer(2, 327682)),
+        16,
+        1,
+        512,
+        3,
+        100,
+        Fault::Pointer(2, 327682),
     );
-    write_verdict(
+    judge(
         b"source-above",
-        judge(record(1, 3), Fault::Pointer(2, 1048578)),
+        16,
+        1,
+        512,
+        3,
+        100,
+        Fault::Pointer(2, 1048578),
     );
-    write_verdict(
+    judge(
         b"destination-unallocated",
-        judge(record(1, 3), Fault::Pointer(2, 65541)),
+        16,
+        1,
+        512,
+        3,
+        100,
+        Fault::Pointer(2, 65541),
     );
-    write_verdict(
+    judge(
         b"destination-above",
-        judge(record(1, 3), Fault::Pointer(2, 65552)),
+        16,
+        1,
+        512,
+        3,
+        100,
+        Fault::Pointer(2, 65552),
     );
-    write_verdict(
+    judge(
         b"destination-root",
-        judge(record(1, 3), Fault::Pointer(2, 65536)),
+        16,
+        1,
+        512,
+        3,
+        100,
+        Fault::Pointer(2, 65536),
     );
-    write_verdict(
-        b"ends-equal",
-        judge(record(1, 3), Fault::Pointer(2, 131074)),
-    );
-    write_verdict(b"count-low", judge(record(1, 3), Fault::Count(2, 1)));
-    write_verdict(b"unpointed", judge(record(1, 3), Fault::Flag(5, 1)));
-    write_verdict(
+    judge(b"ends-equal", 16, 1, 512, 3, 100, Fault::Pointer(2, 131074));
+    judge(b"count-low", 16, 1, 512, 3, 100, Fault::Count(2, 1));
+    judge(b"unpointed", 16, 1, 512, 3, 100, Fault::Flag(5, 1));
+    judge(
         b"read-window-late",
-        judge(record(1, 3), Fault::Window(0, 86501)),
+        16,
+        1,
+        512,
+        3,
+        100,
+        Fault::Window(0, 86501),
     );
-    write_verdict(
+    judge(
         b"write-window-late",
-        judge(record(1, 3), Fault::Window(5, 86501)),
+        16,
+        1,
+        512,
+        3,
+        100,
+        Fault::Window(5, 86501),
     );
-    write_verdict(
+    judge(
         b"write-window-latest",
-        judge(record(1, 3), Fault::Window(5, 86500)),
+        16,
+        1,
+        512,
+        3,
+        100,
+        Fault::Window(5, 86500),
     );
 }
 
 // Ranges of the record.
 fn faults_of_records() {
-    write_verdict(
-        b"blocks-15",
-        judge(
-            Info {
-                blocks: 15,
-                roots: 1,
-                bytes: 512,
-                used: 3,
-                time: 100,
-            },
-            Fault::Nothing,
-        ),
-    );
-    write_verdict(
-        b"blocks-17",
-        judge(
-            Info {
-                blocks: 17,
-                roots: 1,
-                bytes: 512,
-                used: 3,
-                time: 100,
-            },
-            Fault::Nothing,
-        ),
-    );
-    write_verdict(
-        b"blocks-4097",
-        judge(
-            Info {
-                blocks: 4097,
-                roots: 1,
-                bytes: 512,
-                used: 3,
-                time: 100,
-            },
-            Fault::Nothing,
-        ),
-    );
-    write_verdict(
-        b"roots-0",
-        judge(
-            Info {
-                blocks: 16,
-                roots: 0,
-                bytes: 512,
-                used: 3,
-                time: 100,
-            },
-            Fault::Nothing,
-        ),
-    );
-    write_verdict(
-        b"roots-9",
-        judge(
-            Info {
-                blocks: 16,
-                roots: 9,
-                bytes: 512,
-                used: 3,
-                time: 100,
-            },
-            Fault::Nothing,
-        ),
-    );
-    write_verdict(
-        b"bytes-0",
-        judge(
-            Info {
-                blocks: 16,
-                roots: 1,
-                bytes: 0,
-                used: 3,
-                time: 100,
-            },
-            Fault::Nothing,
-        ),
-    );
-    write_verdict(
-        b"bytes-256",
-        judge(
-            Info {
-                blocks: 16,
-                roots: 1,
-                bytes: 256,
-                used: 3,
-                time: 100,
-            },
-            Fault::Nothing,
-        ),
-    );
-    write_verdict(
-        b"bytes-768",
-        judge(
-            Info {
-                blocks: 16,
-                roots: 1,
-                bytes: 768,
-                used: 3,
-                time: 100,
-            },
-            Fault::Nothing,
-        ),
-    );
-    write_verdict(
-        b"bytes-131072",
-        judge(
-            Info {
-                blocks: 16,
-                roots: 1,
-                bytes: 131072,
-                used: 3,
-                time: 100,
-            },
-            Fault::Nothing,
-        ),
-    );
-    write_verdict(
-        b"contents-short",
-        judge(
-            Info {
-                blocks: 16,
-                roots: 1,
-                bytes: 1024,
-                used: 3,
-                time: 100,
-            },
-            Fault::Nothing,
-        ),
-    );
-    write_verdict(
-        b"used-33",
-        judge(
-            Info {
-                blocks: 16,
-                roots: 1,
-                bytes: 512,
-                used: 33,
-                time: 100,
-            },
-            Fault::Nothing,
-        ),
-    );
-    write_verdict(
-        b"time-end",
-        judge(
-            Info {
-                blocks: 16,
-                roots: 1,
-                bytes: 512,
-                used: 3,
-                time: 1099511627776,
-            },
-            Fault::Nothing,
-        ),
-    );
-    write_verdict(
-        b"last-second",
-        judge(
-            Info {
-                blocks: 16,
-                roots: 1,
-                bytes: 512,
-                used: 3,
-                time: 1099511627775,
-            },
-            Fault::Nothing,
-        ),
-    );
-    write_verdict(
-        b"pointer-forgotten",
-        judge(
-            Info {
-                blocks: 16,
-                roots: 1,
-                bytes: 512,
-                used: 2,
-                time: 100,
-            },
-            Fault::Nothing,
-        ),
-    );
+    judge(b"blocks-15", 15, 1, 512, 3, 100, Fault::Nothing);
+    judge(b"blocks-17", 17, 1, 512, 3, 100, Fault::Nothing);
+    judge(b"blocks-4097", 4097, 1, 512, 3, 100, Fault::Nothing);
+    judge(b"roots-0", 16, 0, 512, 3, 100, Fault::Nothing);
+    judge(b"roots-9", 16, 9, 512, 3, 100, Fault::Nothing);
+    judge(b"bytes-0", 16, 1, 0, 3, 100, Fault::Nothing);
+    judge(b"bytes-256", 16, 1, 256, 3, 100, Fault::Nothing);
+    judge(b"bytes-768", 16, 1, 768, 3, 100, Fault::Nothing);
+    judge(b"bytes-131072", 16, 1, 131072, 3, 100, Fault::Nothing);
+    judge(b"contents-short", 16, 1, 1024, 3, 100, Fault::Nothing);
+    judge(b"used-33", 16, 1, 512, 33, 100, Fault::Nothing);
+    judge(b"time-end", 16, 1, 512, 3, 1099511627776, Fault::Nothing);
+    judge(b"last-second", 16, 1, 512, 3, 1099511627775, Fault::Nothing);
+    judge(b"pointer-forgotten", 16, 1, 512, 2, 100, Fault::Nothing);
 }
 
 // Audits the tables, one of them lent without its elements.
 fn lend_lacking(
+    name: &[u8],
     lack: Lack,
     flags: &[u8],
     keys: &[u64],
@@ -381,14 +301,48 @@ fn lend_lacking(
     pointers: &[u32],
     windows: &[u64],
     contents: &[u8],
-) -> Verdict {
-    let info = record(1, 0);
+) {
+    let info = Info {
+        blocks: 16,
+        roots: 1,
+        bytes: 512,
+        used: 0,
+        time: 100,
+    };
     match lack {
-        Lack::Nothing => audit::audit(info, flags, keys, counts, pointers, windows, contents),
-        Lack::Flags => audit::audit(info, &flags[..0], keys, counts, pointers, windows, contents),
-        Lack::Keys => audit::audit(info, flags, &keys[..0], counts, pointers, windows, contents),
-        Lack::Counts => audit::audit(info, flags, keys, &counts[..0], pointers, windows, contents),
-        Lack::Pointers => audit::audit(
+        Lack::Nothing => show(name, info, flags, keys, counts, pointers, windows, contents),
+        Lack::Flags => show(
+            name,
+            info,
+            &flags[..0],
+            keys,
+            counts,
+            pointers,
+            windows,
+            contents,
+        ),
+        Lack::Keys => show(
+            name,
+            info,
+            flags,
+            &keys[..0],
+            counts,
+            pointers,
+            windows,
+            contents,
+        ),
+        Lack::Counts => show(
+            name,
+            info,
+            flags,
+            keys,
+            &counts[..0],
+            pointers,
+            windows,
+            contents,
+        ),
+        Lack::Pointers => show(
+            name,
             info,
             flags,
             keys,
@@ -397,8 +351,18 @@ fn lend_lacking(
             windows,
             contents,
         ),
-        Lack::Windows => audit::audit(info, flags, keys, counts, pointers, &windows[..0], contents),
-        Lack::Contents => audit::audit(
+        Lack::Windows => show(
+            name,
+            info,
+            flags,
+            keys,
+            counts,
+            pointers,
+            &windows[..0],
+            contents,
+        ),
+        Lack::Contents => show(
+            name,
             info,
             flags,
             keys,
@@ -411,7 +375,7 @@ fn lend_lacking(
 }
 
 // A fresh card, one table lacking.
-fn judge_lacking(lack: Lack) -> Verdict {
+fn judge_lacking(name: &[u8], lack: Lack) {
     let mut flags = [0u8; 16];
     let keys = [0u64; 64];
     let counts = [0u16; 16];
@@ -419,18 +383,27 @@ fn judge_lacking(lack: Lack) -> Verdict {
     let windows = [0u64; 32];
     let contents = [0u8; 8192];
     flags[0] = 1;
-    lend_lacking(lack, &flags, &keys, &counts, &pointers, &windows, &contents)
+    lend_lacking(
+        name,
+        lack,
+        &flags,
+        &keys,
+        &counts,
+        &pointers,
+        &windows,
+        &contents,
+    );
 }
 
 // Table lengths.
 fn faults_of_lengths() {
-    write_verdict(b"fresh", judge_lacking(Lack::Nothing));
-    write_verdict(b"no-flags", judge_lacking(Lack::Flags));
-    write_verdict(b"no-keys", judge_lacking(Lack::Keys));
-    write_verdict(b"no-counts", judge_lacking(Lack::Counts));
-    write_verdict(b"no-places", judge_lacking(Lack::Pointers));
-    write_verdict(b"no-windows", judge_lacking(Lack::Windows));
-    write_verdict(b"no-contents", judge_lacking(Lack::Contents));
+    judge_lacking(b"fresh", Lack::Nothing);
+    judge_lacking(b"no-flags", Lack::Flags);
+    judge_lacking(b"no-keys", Lack::Keys);
+    judge_lacking(b"no-counts", Lack::Counts);
+    judge_lacking(b"no-places", Lack::Pointers);
+    judge_lacking(b"no-windows", Lack::Windows);
+    judge_lacking(b"no-contents", Lack::Contents);
 }
 
 fn main() {
