@@ -1,0 +1,7 @@
+pub mod Bytes
+pub mod BytesLaws
+pub mod Kinds
+pub mod AllKinds
+pub mod Decode
+pub mod Encode
+pub mod RoundTrip
