@@ -3,7 +3,7 @@
 use card::{AllocOperands, Call, CreateOperands, Credential, DeleteOperands, ForceOperands, KeyOperands, NewKey, Port, ReadOperands, RenewOperands, TickOperands, WriteOperands};
 
 ghost use mathlib.Core.Path.{_≡_};
-ghost use Prim.Native.Nat.{_≤_};
+ghost use Prim.Native.Nat.{_+_, _≤_, _<_};
 ghost use lib.ListN.{length, drop};
 ghost use Rattle.records.specs.Bytes.{number, zeroed};
 ghost use Rattle.records.specs.Kinds.{lengthOf, kindOf, bodyLength};
@@ -115,47 +115,47 @@ pub fn body_length(kind: u8) -> Length
 // ---- numbers and filler
 
 fn wide(x: u8) -> u64
-    ensures { λ r. ⌜ r ≡ x ⌝ }
+    ensures { λ r. ⌜ (r ≡ x) × (r < 256) ⌝ }
 {
     x as u64
 }
 
-// The number of the first two bytes.
-fn two(bytes: &[u8]) -> u16
-    requires { ⌜ 2 ≤ length (now bytes) ⌝ }
-    ensures { λ r. ⌜ r ≡ number 2 (now (bytes .entry)) ⌝ }
+// The number of the two bytes at a place.
+fn two(bytes: &[u8], at: usize) -> u16
+    requires { ⌜ at + 2 ≤ length (now bytes) ⌝ }
+    ensures { λ r. ⌜ r ≡ number 2 (drop at (now (bytes .entry))) ⌝ }
 {
-    (wide(bytes[0]) * 256 + wide(bytes[1])) as u16
+    (wide(bytes[at]) * 256 + wide(bytes[at + 1])) as u16
 }
 
-// The number of the first four bytes.
-fn four(bytes: &[u8]) -> u32
-    requires { ⌜ 4 ≤ length (now bytes) ⌝ }
-    ensures { λ r. ⌜ r ≡ number 4 (now (bytes .entry)) ⌝ }
+// The number of the four bytes at a place.
+fn four(bytes: &[u8], at: usize) -> u32
+    requires { ⌜ at + 4 ≤ length (now bytes) ⌝ }
+    ensures { λ r. ⌜ r ≡ number 4 (drop at (now (bytes .entry))) ⌝ }
 {
-    let high = two(bytes) as u32;
-    let low = two(&bytes[2..]) as u32;
+    let high = two(bytes, at) as u32;
+    let low = two(bytes, at + 2) as u32;
     high * 65536 + low
 }
 
-// The number of the first eight bytes.
-fn eight(bytes: &[u8]) -> u64
-    requires { ⌜ 8 ≤ length (now bytes) ⌝ }
-    ensures { λ r. ⌜ r ≡ number 8 (now (bytes .entry)) ⌝ }
+// The number of the eight bytes at a place.
+fn eight(bytes: &[u8], at: usize) -> u64
+    requires { ⌜ at + 8 ≤ length (now bytes) ⌝ }
+    ensures { λ r. ⌜ r ≡ number 8 (drop at (now (bytes .entry))) ⌝ }
 {
-    let high = four(bytes) as u64;
-    let low = four(&bytes[4..]) as u64;
+    let high = four(bytes, at) as u64;
+    let low = four(bytes, at + 4) as u64;
     high * 4294967296 + low
 }
 
-// The first `count` bytes are 0.
-fn zeroed(bytes: &[u8], count: usize) -> bool
-    requires { ⌜ count ≤ length (now bytes) ⌝ }
-    ensures { λ r. ⌜ r ≡ zeroed count (now (bytes .entry)) ⌝ }
+// The `count` bytes at a place are 0.
+fn zeroed(bytes: &[u8], at: usize, count: usize) -> bool
+    requires { ⌜ at + count ≤ length (now bytes) ⌝ }
+    ensures { λ r. ⌜ r ≡ zeroed count (drop at (now (bytes .entry))) ⌝ }
 {
     let mut i = 0;
     while i < count {
-        if bytes[i] != 0 {
+        if bytes[at + i] != 0 {
             return false;
         }
         i += 1;
@@ -165,42 +165,42 @@ fn zeroed(bytes: &[u8], count: usize) -> bool
 
 // ---- credentials and new keys
 
-// The credential of the first 17 bytes.
-fn credential(bytes: &[u8]) -> Presented
-    requires { ⌜ 17 ≤ length (now bytes) ⌝ }
-    ensures { λ r. ⌜ r ≡ credential (now (bytes .entry)) ⌝ }
+// The credential of the 17 bytes at a place.
+fn credential(bytes: &[u8], at: usize) -> Presented
+    requires { ⌜ at + 17 ≤ length (now bytes) ⌝ }
+    ensures { λ r. ⌜ r ≡ credential (drop at (now (bytes .entry))) ⌝ }
 {
-    match bytes[0] {
+    match bytes[at] {
         0 => {
-            if zeroed(&bytes[1..], 16) {
+            if zeroed(bytes, at + 1, 16) {
                 return Presented::Good(Credential::Nothing);
             }
             Presented::Bad
         }
         1 => {
-            if zeroed(&bytes[3..], 14) {
-                return Presented::Good(Credential::Reference(two(&bytes[1..])));
+            if zeroed(bytes, at + 3, 14) {
+                return Presented::Good(Credential::Reference(two(bytes, at + 1)));
             }
             Presented::Bad
         }
-        2 => Presented::Good(Credential::Key(eight(&bytes[1..]), eight(&bytes[9..]))),
+        2 => Presented::Good(Credential::Key(eight(bytes, at + 1), eight(bytes, at + 9))),
         _ => Presented::Bad,
     }
 }
 
-// The new key, or none, of the first 17 bytes.
-fn new_key(bytes: &[u8]) -> Replacing
-    requires { ⌜ 17 ≤ length (now bytes) ⌝ }
-    ensures { λ r. ⌜ r ≡ newKey (now (bytes .entry)) ⌝ }
+// The new key, or none, of the 17 bytes at a place.
+fn new_key(bytes: &[u8], at: usize) -> Replacing
+    requires { ⌜ at + 17 ≤ length (now bytes) ⌝ }
+    ensures { λ r. ⌜ r ≡ newKey (drop at (now (bytes .entry))) ⌝ }
 {
-    match bytes[0] {
+    match bytes[at] {
         0 => {
-            if zeroed(&bytes[1..], 16) {
+            if zeroed(bytes, at + 1, 16) {
                 return Replacing::Good(NewKey::Absent);
             }
             Replacing::Bad
         }
-        1 => Replacing::Good(NewKey::Present(eight(&bytes[1..]), eight(&bytes[9..]))),
+        1 => Replacing::Good(NewKey::Present(eight(bytes, at + 1), eight(bytes, at + 9))),
         _ => Replacing::Bad,
     }
 }
