@@ -1,3 +1,6 @@
+-- `records::credential` meets its contract: an arm for each first byte.
+-- Assumes nothing.
+use Rattle.records.proofs.Fields.{nothing, not-nothing, reference, not-reference, key, no-credential}
 use borrow.Author.Needs.{needs}
 use Rattle.records.proofs.credential.Statement.{statement}
 use Rattle.records.proofs.credential.Tie as tie
@@ -7,73 +10,56 @@ use Rattle.records.proofs.eight.Reads as eight-reads
 use Rattle.records.proofs.two.Reads as two-reads
 use Rattle.records.proofs.zeroed.Reads as zeroed-reads
 
--- src/lib.rt:173:11
 shared-slice-read-match : tie.Need-shared-slice-read-match
 shared-slice-read-match c = search needs
 
--- src/lib.rt:175:30
 add-zeroed : tie.Need-add-zeroed
 add-zeroed c = search needs
 
--- src/lib.rt:175:16
 zeroed-requires : tie.Need-zeroed-requires
 zeroed-requires c κs = search needs
 
--- src/lib.rt:176:17
 returns : tie.Need-returns
-returns c = ?
+returns c = let a = c .before .before .before .before .before .args in nothing (a .bytes .now) (a .at) (c .before .before .match .keys1) (c .before .zeroed .ensures) (c .if1 .taken)
 
--- src/lib.rt:181:30
 add-zeroed-2 : tie.Need-add-zeroed-2
 add-zeroed-2 c = search needs
 
--- src/lib.rt:181:16
 zeroed-requires-2 : tie.Need-zeroed-requires-2
 zeroed-requires-2 c κs = search needs
 
--- src/lib.rt:182:73
 add-two : tie.Need-add-two
 add-two c = search needs
 
--- src/lib.rt:182:62
 two-requires : tie.Need-two-requires
 two-requires c κs = search needs
 
--- src/lib.rt:182:17
 returns-2 : tie.Need-returns-2
-returns-2 c = ?
+returns-2 c = let a = c .before .before .before .before .before .before .args in reference (a .bytes .now) (a .at) (c .before .before .before .match .keys2) (c .before .before .zeroed2 .ensures) (c .before .if2 .taken) (c .two .ensures)
 
--- src/lib.rt:186:59
 add-eight : tie.Need-add-eight
 add-eight c = search needs
 
--- src/lib.rt:186:46
 eight-requires : tie.Need-eight-requires
 eight-requires c κs = search needs
 
--- src/lib.rt:186:81
 add-eight-2 : tie.Need-add-eight-2
 add-eight-2 c = search needs
 
--- src/lib.rt:186:68
 eight-requires-2 : tie.Need-eight-requires-2
 eight-requires-2 c κs = search needs
 
--- src/lib.rt:169:1
 returns-3 : tie.Need-returns-3
-returns-3 c = ?
+returns-3 c = let a = c .before .before .before .before .before .args in not-nothing (a .bytes .now) (a .at) (c .before .before .match .keys1) (c .before .zeroed .ensures) (c .if1 .left)
 
--- src/lib.rt:169:1
 returns-4 : tie.Need-returns-4
-returns-4 c = ?
+returns-4 c = let a = c .before .before .before .before .before .args in not-reference (a .bytes .now) (a .at) (c .before .before .match .keys2) (c .before .zeroed2 .ensures) (c .if2 .left)
 
--- src/lib.rt:169:1
 returns-5 : tie.Need-returns-5
-returns-5 c = ?
+returns-5 c = let a = c .before .before .before .before .before .args in key (a .bytes .now) (a .at) (c .before .before .match .keys3) (c .before .eight .ensures) (c .eight2 .ensures)
 
--- src/lib.rt:169:1
 returns-6 : tie.Need-returns-6
-returns-6 c = ?
+returns-6 c = let a = c .before .before .before .args in no-credential (a .bytes .now) (a .at) (c .match .rest .0 .0 .1) (c .match .rest .0 .1) (c .match .rest .1)
 
 pub credential-spec : {M : Type 1} → statement M
 credential-spec =

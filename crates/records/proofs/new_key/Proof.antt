@@ -1,3 +1,6 @@
+-- `records::new_key` meets its contract: an arm for each first byte.
+-- Assumes nothing.
+use Rattle.records.proofs.Fields.{absent, not-absent, present, no-new-key}
 use borrow.Author.Needs.{needs}
 use Rattle.records.proofs.new_key.Statement.{statement}
 use Rattle.records.proofs.new_key.Tie as tie
@@ -6,49 +9,38 @@ use Rattle.records.proofs.new_key.Lts as lts
 use Rattle.records.proofs.eight.Reads as eight-reads
 use Rattle.records.proofs.zeroed.Reads as zeroed-reads
 
--- src/lib.rt:196:11
 shared-slice-read-match : tie.Need-shared-slice-read-match
 shared-slice-read-match c = search needs
 
--- src/lib.rt:198:30
 add-zeroed : tie.Need-add-zeroed
 add-zeroed c = search needs
 
--- src/lib.rt:198:16
 zeroed-requires : tie.Need-zeroed-requires
 zeroed-requires c κs = search needs
 
--- src/lib.rt:199:17
 returns : tie.Need-returns
-returns c = ?
+returns c = let a = c .before .before .before .before .before .args in absent (a .bytes .now) (a .at) (c .before .before .match .keys1) (c .before .zeroed .ensures) (c .if1 .taken)
 
--- src/lib.rt:203:59
 add-eight : tie.Need-add-eight
 add-eight c = search needs
 
--- src/lib.rt:203:46
 eight-requires : tie.Need-eight-requires
 eight-requires c κs = search needs
 
--- src/lib.rt:203:81
 add-eight-2 : tie.Need-add-eight-2
 add-eight-2 c = search needs
 
--- src/lib.rt:203:68
 eight-requires-2 : tie.Need-eight-requires-2
 eight-requires-2 c κs = search needs
 
--- src/lib.rt:192:1
 returns-2 : tie.Need-returns-2
-returns-2 c = ?
+returns-2 c = let a = c .before .before .before .before .before .args in not-absent (a .bytes .now) (a .at) (c .before .before .match .keys1) (c .before .zeroed .ensures) (c .if1 .left)
 
--- src/lib.rt:192:1
 returns-3 : tie.Need-returns-3
-returns-3 c = ?
+returns-3 c = let a = c .before .before .before .before .before .args in present (a .bytes .now) (a .at) (c .before .before .match .keys2) (c .before .eight .ensures) (c .eight2 .ensures)
 
--- src/lib.rt:192:1
 returns-4 : tie.Need-returns-4
-returns-4 c = ?
+returns-4 c = let a = c .before .before .before .args in no-new-key (a .bytes .now) (a .at) (c .match .rest .0 .1) (c .match .rest .1)
 
 pub new-key-spec : {M : Type 1} → statement M
 new-key-spec =
