@@ -1,3 +1,4 @@
 pub mod Table
 pub mod Filler
 pub mod Fields
+pub mod Bodies

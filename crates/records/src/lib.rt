@@ -332,14 +332,14 @@ fn decode_key(port: Port, body: &[u8]) -> Decoding
 {
     let block = two(body, 0);
     let presented = credential(body, 2);
+    let reading = new_key(body, 19);
+    let writing = new_key(body, 36);
     let Presented::Good(credential) = presented else {
         return Decoding::Bad;
     };
-    let reading = new_key(body, 19);
     let Replacing::Good(read) = reading else {
         return Decoding::Bad;
     };
-    let writing = new_key(body, 36);
     let Replacing::Good(write) = writing else {
         return Decoding::Bad;
     };

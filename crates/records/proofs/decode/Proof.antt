@@ -1,3 +1,6 @@
+-- `records::decode` meets its contract: another kind, a body cut short, or the call.
+-- Assumes nothing.
+use Rattle.records.proofs.Bodies.{whole, cut-short, other-kind}
 use borrow.Author.Needs.{needs}
 use Rattle.records.proofs.decode.Statement.{statement}
 use Rattle.records.proofs.decode.Tie as tie
@@ -7,37 +10,29 @@ use Rattle.records.proofs.decode_call.Reads as decode-call-reads
 use Rattle.records.proofs.kind_of.Reads as kind-of-reads
 use Rattle.records.proofs.length_of.Reads as length-of-reads
 
--- src/lib.rt:418:9
 kind-of-requires : tie.Need-kind-of-requires
 kind-of-requires c κs = search needs
 
--- src/lib.rt:420:21
 enum-known-known : tie.Need-enum-known-known
 enum-known-known c = search needs
 
--- src/lib.rt:421:16
 length-of-requires : tie.Need-length-of-requires
 length-of-requires c κs = search needs
 
--- src/lib.rt:422:17
 decode-call-requires : tie.Need-decode-call-requires
 decode-call-requires c κs = search needs
 
--- src/lib.rt:422:17
 returns : tie.Need-returns
-returns c = ?
+returns c = whole _ _ (c .before .before .before .before .before .before .kind-of .ensures) (c .before .before .before .before .known .given .1) (c .before .before .length-of .ensures) (c .before .if1 .taken) (c .decode-call .ensures)
 
--- src/lib.rt:426:26
 enum-told : tie.Need-enum-told
 enum-told c = search needs
 
--- src/lib.rt:415:1
 returns-2 : tie.Need-returns-2
-returns-2 c = ?
+returns-2 c = cut-short _ _ (c .before .before .before .before .before .kind-of .ensures) (c .before .before .before .known .given .1) (c .before .length-of .ensures) (c .if1 .left)
 
--- src/lib.rt:415:1
 returns-3 : tie.Need-returns-3
-returns-3 c = ?
+returns-3 c = other-kind _ _ (c .before .before .kind-of .ensures) (c .enum-told .given .1)
 
 pub decode-spec : {M : Type 1} → statement M
 decode-spec =

@@ -1,3 +1,7 @@
+-- `records::decode_alloc` meets its contract.
+-- Assumes nothing.
+use Rattle.records.specs.Decode.{decodeCall}
+use Rattle.records.proofs.Bodies.{alloc, refused}
 use borrow.Author.Needs.{needs}
 use Rattle.records.proofs.decode_alloc.Statement.{statement}
 use Rattle.records.proofs.decode_alloc.Tie as tie
@@ -6,37 +10,30 @@ use Rattle.records.proofs.decode_alloc.Lts as lts
 use Rattle.records.proofs.credential.Reads as credential-reads
 use Rattle.records.proofs.two.Reads as two-reads
 
--- src/lib.rt:266:9
 two-requires : tie.Need-two-requires
 two-requires c κs = search needs
 
--- src/lib.rt:267:9
 two-requires-2 : tie.Need-two-requires-2
 two-requires-2 c κs = search needs
 
--- src/lib.rt:268:17
 shared-slice-read-count : tie.Need-shared-slice-read-count
 shared-slice-read-count c = search needs
 
--- src/lib.rt:269:9
 credential-requires : tie.Need-credential-requires
 credential-requires c κs = search needs
 
--- src/lib.rt:271:25
 enum-known-presented : tie.Need-enum-known-presented
 enum-known-presented c = search needs
 
--- src/lib.rt:280:27
 enum-told : tie.Need-enum-told
 enum-told c = search needs
 
--- src/lib.rt:262:1
 returns : tie.Need-returns
-returns c = ?
+returns c = alloc _ _ (c .before .before .before .before .before .before .two .ensures) (c .before .before .before .before .before .two2 .ensures) (c .before .before .before .credential .ensures) (c .before .presented .given .1)
 
--- src/lib.rt:262:1
 returns-2 : tie.Need-returns-2
-returns-2 c = ?
+unfolding decodeCall
+returns-2 c = refused _ _ _ (c .before .before .credential .ensures) (c .enum-told .given .1)
 
 pub decode-alloc-spec : {M : Type 1} → statement M
 decode-alloc-spec =

@@ -1,3 +1,7 @@
+-- `records::decode_call` meets its contract: an arm for each call.
+-- Assumes nothing.
+use Rattle.records.proofs.Table.{table}
+use Rattle.records.proofs.Bodies.{by-name, room, free, audit}
 use borrow.Author.Needs.{needs}
 use Rattle.records.proofs.decode_call.Statement.{statement}
 use Rattle.records.proofs.decode_call.Tie as tie
@@ -13,129 +17,107 @@ use Rattle.records.proofs.decode_renew.Reads as decode-renew-reads
 use Rattle.records.proofs.decode_tick.Reads as decode-tick-reads
 use Rattle.records.proofs.decode_write.Reads as decode-write-reads
 
--- src/lib.rt:400:23
 enum-told : tie.Need-enum-told
 enum-told c = search needs
 
--- src/lib.rt:400:23
 decode-read-requires : tie.Need-decode-read-requires
-decode-read-requires c κs = ?
+unfolding table
+decode-read-requires c κs = room (c .enum-told .given .1) (c .before .before .before .pre)
 
--- src/lib.rt:401:24
 enum-told-2 : tie.Need-enum-told-2
 enum-told-2 c = search needs
 
--- src/lib.rt:401:24
 decode-write-requires : tie.Need-decode-write-requires
-decode-write-requires c κs = ?
+unfolding table
+decode-write-requires c κs = room (c .enum-told2 .given .1) (c .before .before .before .pre)
 
--- src/lib.rt:402:24
 enum-told-3 : tie.Need-enum-told-3
 enum-told-3 c = search needs
 
--- src/lib.rt:402:24
 decode-alloc-requires : tie.Need-decode-alloc-requires
-decode-alloc-requires c κs = ?
+unfolding table
+decode-alloc-requires c κs = room (c .enum-told3 .given .1) (c .before .before .before .pre)
 
--- src/lib.rt:403:25
 enum-told-4 : tie.Need-enum-told-4
 enum-told-4 c = search needs
 
--- src/lib.rt:403:25
 decode-create-requires : tie.Need-decode-create-requires
-decode-create-requires c κs = ?
+unfolding table
+decode-create-requires c κs = room (c .enum-told4 .given .1) (c .before .before .before .pre)
 
--- src/lib.rt:404:25
 enum-told-5 : tie.Need-enum-told-5
 enum-told-5 c = search needs
 
--- src/lib.rt:404:25
 decode-delete-requires : tie.Need-decode-delete-requires
-decode-delete-requires c κs = ?
+unfolding table
+decode-delete-requires c κs = room (c .enum-told5 .given .1) (c .before .before .before .pre)
 
--- src/lib.rt:405:22
 enum-told-6 : tie.Need-enum-told-6
 enum-told-6 c = search needs
 
--- src/lib.rt:405:22
 decode-key-requires : tie.Need-decode-key-requires
-decode-key-requires c κs = ?
+unfolding table
+decode-key-requires c κs = room (c .enum-told6 .given .1) (c .before .before .before .pre)
 
--- src/lib.rt:406:24
 enum-told-7 : tie.Need-enum-told-7
 enum-told-7 c = search needs
 
--- src/lib.rt:406:24
 decode-renew-requires : tie.Need-decode-renew-requires
-decode-renew-requires c κs = ?
+unfolding table
+decode-renew-requires c κs = room (c .enum-told7 .given .1) (c .before .before .before .pre)
 
--- src/lib.rt:407:24
 enum-told-8 : tie.Need-enum-told-8
 enum-told-8 c = search needs
 
--- src/lib.rt:407:24
 decode-force-requires : tie.Need-decode-force-requires
-decode-force-requires c κs = ?
+unfolding table
+decode-force-requires c κs = room (c .enum-told8 .given .1) (c .before .before .before .pre)
 
--- src/lib.rt:408:47
 enum-told-9 : tie.Need-enum-told-9
 enum-told-9 c = search needs
 
--- src/lib.rt:409:23
 enum-told-10 : tie.Need-enum-told-10
 enum-told-10 c = search needs
 
--- src/lib.rt:409:23
 decode-tick-requires : tie.Need-decode-tick-requires
-decode-tick-requires c κs = ?
+unfolding table
+decode-tick-requires c κs = room (c .enum-told10 .given .1) (c .before .before .before .pre)
 
--- src/lib.rt:410:48
 enum-told-11 : tie.Need-enum-told-11
 enum-told-11 c = search needs
 
--- src/lib.rt:395:1
 returns : tie.Need-returns
-returns c = ?
+returns c = by-name _ _ (c .before .enum-told .given .1) (c .decode-read .ensures)
 
--- src/lib.rt:395:1
 returns-2 : tie.Need-returns-2
-returns-2 c = ?
+returns-2 c = by-name _ _ (c .before .enum-told2 .given .1) (c .decode-write .ensures)
 
--- src/lib.rt:395:1
 returns-3 : tie.Need-returns-3
-returns-3 c = ?
+returns-3 c = by-name _ _ (c .before .enum-told3 .given .1) (c .decode-alloc .ensures)
 
--- src/lib.rt:395:1
 returns-4 : tie.Need-returns-4
-returns-4 c = ?
+returns-4 c = by-name _ _ (c .before .enum-told4 .given .1) (c .decode-create .ensures)
 
--- src/lib.rt:395:1
 returns-5 : tie.Need-returns-5
-returns-5 c = ?
+returns-5 c = by-name _ _ (c .before .enum-told5 .given .1) (c .decode-delete .ensures)
 
--- src/lib.rt:395:1
 returns-6 : tie.Need-returns-6
-returns-6 c = ?
+returns-6 c = by-name _ _ (c .before .enum-told6 .given .1) (c .decode-key .ensures)
 
--- src/lib.rt:395:1
 returns-7 : tie.Need-returns-7
-returns-7 c = ?
+returns-7 c = by-name _ _ (c .before .enum-told7 .given .1) (c .decode-renew .ensures)
 
--- src/lib.rt:395:1
 returns-8 : tie.Need-returns-8
-returns-8 c = ?
+returns-8 c = by-name _ _ (c .before .enum-told8 .given .1) (c .decode-force .ensures)
 
--- src/lib.rt:395:1
 returns-9 : tie.Need-returns-9
-returns-9 c = ?
+returns-9 c = by-name _ _ (c .enum-told9 .given .1) (free _ _)
 
--- src/lib.rt:395:1
 returns-10 : tie.Need-returns-10
-returns-10 c = ?
+returns-10 c = by-name _ _ (c .before .enum-told10 .given .1) (c .decode-tick .ensures)
 
--- src/lib.rt:395:1
 returns-11 : tie.Need-returns-11
-returns-11 c = ?
+returns-11 c = by-name _ _ (c .enum-told11 .given .1) (audit _ _)
 
 pub decode-call-spec : {M : Type 1} → statement M
 decode-call-spec =

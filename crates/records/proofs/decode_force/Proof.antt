@@ -1,3 +1,6 @@
+-- `records::decode_force` meets its contract.
+-- Assumes nothing.
+use Rattle.records.proofs.Bodies.{force}
 use borrow.Author.Needs.{needs}
 use Rattle.records.proofs.decode_force.Statement.{statement}
 use Rattle.records.proofs.decode_force.Tie as tie
@@ -5,13 +8,11 @@ use Rattle.records.proofs.decode_force.Reads as reads
 use Rattle.records.proofs.decode_force.Lts as lts
 use Rattle.records.proofs.two.Reads as two-reads
 
--- src/lib.rt:382:9
 two-requires : tie.Need-two-requires
 two-requires c κs = search needs
 
--- src/lib.rt:378:1
 returns : tie.Need-returns
-returns c = ?
+returns c = force _ _ (c .two .ensures)
 
 pub decode-force-spec : {M : Type 1} → statement M
 decode-force-spec = tie.close (tie.spec two-requires returns)

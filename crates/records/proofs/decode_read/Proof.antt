@@ -1,3 +1,7 @@
+-- `records::decode_read` meets its contract.
+-- Assumes nothing.
+use Rattle.records.specs.Decode.{decodeCall}
+use Rattle.records.proofs.Bodies.{read, refused}
 use borrow.Author.Needs.{needs}
 use Rattle.records.proofs.decode_read.Statement.{statement}
 use Rattle.records.proofs.decode_read.Tie as tie
@@ -7,33 +11,27 @@ use Rattle.records.proofs.credential.Reads as credential-reads
 use Rattle.records.proofs.four.Reads as four-reads
 use Rattle.records.proofs.two.Reads as two-reads
 
--- src/lib.rt:225:9
 two-requires : tie.Need-two-requires
 two-requires c κs = search needs
 
--- src/lib.rt:226:9
 four-requires : tie.Need-four-requires
 four-requires c κs = search needs
 
--- src/lib.rt:227:9
 credential-requires : tie.Need-credential-requires
 credential-requires c κs = search needs
 
--- src/lib.rt:229:25
 enum-known-presented : tie.Need-enum-known-presented
 enum-known-presented c = search needs
 
--- src/lib.rt:237:27
 enum-told : tie.Need-enum-told
 enum-told c = search needs
 
--- src/lib.rt:221:1
 returns : tie.Need-returns
-returns c = ?
+returns c = read _ _ (c .before .before .before .before .before .two .ensures) (c .before .before .before .before .four .ensures) (c .before .before .before .credential .ensures) (c .before .presented .given .1)
 
--- src/lib.rt:221:1
 returns-2 : tie.Need-returns-2
-returns-2 c = ?
+unfolding decodeCall
+returns-2 c = refused _ _ _ (c .before .before .credential .ensures) (c .enum-told .given .1)
 
 pub decode-read-spec : {M : Type 1} → statement M
 decode-read-spec =

@@ -1,3 +1,6 @@
+-- `records::decode_renew` meets its contract.
+-- Assumes nothing.
+use Rattle.records.proofs.Bodies.{renew}
 use borrow.Author.Needs.{needs}
 use Rattle.records.proofs.decode_renew.Statement.{statement}
 use Rattle.records.proofs.decode_renew.Tie as tie
@@ -7,29 +10,23 @@ use Rattle.records.proofs.eight.Reads as eight-reads
 use Rattle.records.proofs.four.Reads as four-reads
 use Rattle.records.proofs.two.Reads as two-reads
 
--- src/lib.rt:361:16
 shared-slice-read-mode : tie.Need-shared-slice-read-mode
 shared-slice-read-mode c = search needs
 
--- src/lib.rt:362:9
 two-requires : tie.Need-two-requires
 two-requires c κs = search needs
 
--- src/lib.rt:363:9
 eight-requires : tie.Need-eight-requires
 eight-requires c κs = search needs
 
--- src/lib.rt:364:9
 eight-requires-2 : tie.Need-eight-requires-2
 eight-requires-2 c κs = search needs
 
--- src/lib.rt:365:9
 four-requires : tie.Need-four-requires
 four-requires c κs = search needs
 
--- src/lib.rt:357:1
 returns : tie.Need-returns
-returns c = ?
+returns c = renew _ _ (c .before .before .before .two .ensures) (c .before .before .eight .ensures) (c .before .eight2 .ensures) (c .four .ensures)
 
 pub decode-renew-spec : {M : Type 1} → statement M
 decode-renew-spec =
