@@ -1,4 +1,3 @@
 pub mod Table
 pub mod Filler
 pub mod Fields
-pub mod Bodies

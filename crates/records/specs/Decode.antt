@@ -12,7 +12,7 @@ use Rattle.card.specs.declared.NewKey.the-variants.{Absent, Present}
 use Rattle.card.specs.declared.Call.{Call}
 use Rattle.card.specs.declared.Call.the-variants.{Read, Write, Alloc, Create, Delete, Key, Renew, Force, Free, Tick, Audit}
 use Rattle.records.specs.Bytes.{number, zeroed}
-use Rattle.records.specs.Kinds.{lengthOf, kindOf}
+use Rattle.records.specs.Kinds.{lengthOf, dataLength, operandsLength, kindOf}
 use Rattle.records.specs.declared.Name.{Name}
 use Rattle.records.specs.declared.Name.the-variants.{Read as READ, Write as WRITE, Alloc as ALLOC, Create as CREATE, Delete as DELETE, Key as KEY, Renew as RENEW, Force as FORCE, Free as FREE, Tick as TICK, Audit as AUDIT}
 use Rattle.records.specs.declared.Kind.{Kind}
@@ -111,19 +111,9 @@ nameOf Free = FREE
 nameOf (Tick o) = TICK
 nameOf Audit = AUDIT
 
--- The bytes that a call finds in its body beside its operands: WRITE's 512, last.
-unfoldable pub dataOf : Call → List ℕ → List ℕ
-dataOf (Read o) xs = []
-dataOf (Write o) xs = take 512 (drop 23 xs)
-dataOf (Alloc o) xs = []
-dataOf (Create o) xs = []
-dataOf (Delete o) xs = []
-dataOf (Key o) xs = []
-dataOf (Renew o) xs = []
-dataOf (Force o) xs = []
-dataOf Free xs = []
-dataOf (Tick o) xs = []
-dataOf Audit xs = []
+-- The bytes of a body beside its operands: WRITE's 512, last.
+unfoldable pub dataOf : Name → List ℕ → List ℕ
+dataOf name xs = take (dataLength name) (drop (operandsLength name) xs)
 
 -- What an input starts with: nothing, a record refused 13, or a call at its port with its data, and the input that is left.
 pub data Next : Type 0 where
@@ -132,7 +122,7 @@ pub data Next : Type 0 where
   sent : Port → Call → List ℕ → List ℕ → Next
 
 unfoldable pub nextOf : List ℕ → Decoding → Next
-nextOf xs (Decoded port call) = sent port call (dataOf call xs) (drop (lengthOf (nameOf call)) xs)
+nextOf xs (Decoded port call) = sent port call (dataOf (nameOf call) xs) (drop (lengthOf (nameOf call)) xs)
 nextOf xs Bad = refused
 
 unfoldable pub decode : List ℕ → Next

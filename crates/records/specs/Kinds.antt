@@ -1,8 +1,9 @@
 -- Document 01, "Call records and the player": the kinds of records, and the lengths of their bodies.
-use Prim.Native.Nat.{ℕ, _+_}
+use Prim.Native.Nat.{ℕ, _+_, _-_}
 use mathlib.Core.Bool.{Bool, true, false, cond}
 use mathlib.Core.List.{List, [], _∷_, _++_, map}
 use lib.Dec.{eqb}
+use Rattle.card.specs.Pointers.{contains}
 use Rattle.card.specs.declared.Port.{Port}
 use Rattle.card.specs.declared.Port.the-variants.{Host, Service}
 use Rattle.records.specs.declared.Name.{Name}
@@ -31,6 +32,20 @@ row FREE = 9 body 0
 row TICK = 10 body 8
 row AUDIT = 11 body 0
 
+-- The last bytes of a body that are no operand.
+unfoldable pub dataLength : Name → ℕ
+dataLength READ = 0
+dataLength WRITE = 512
+dataLength ALLOC = 0
+dataLength CREATE = 0
+dataLength DELETE = 0
+dataLength KEY = 0
+dataLength RENEW = 0
+dataLength FORCE = 0
+dataLength FREE = 0
+dataLength TICK = 0
+dataLength AUDIT = 0
+
 -- The calls that have a kind at each port.
 unfoldable pub names : Port → List Name
 names Host = READ ∷ WRITE ∷ ALLOC ∷ CREATE ∷ DELETE ∷ KEY ∷ RENEW ∷ FORCE ∷ FREE ∷ TICK ∷ AUDIT ∷ []
@@ -49,6 +64,14 @@ kindNumber port name = kindAt port (row name)
 
 unfoldable pub lengthOf : Name → ℕ
 lengthOf name = rowLength (row name)
+
+-- The length of a call's operands, which come first in its body.
+unfoldable pub operandsLength : Name → ℕ
+operandsLength name = lengthOf name - dataLength name
+
+-- The call has a kind at the port.
+unfoldable pub hasKind : Port → Name → Bool
+hasKind port name = contains (kindNumber port name) (map (kindNumber port) (names port))
 
 -- The call among those of a port whose kind is the number, or else another answer.
 unfoldable pub among : ℕ → Port → List Name → Kind → Kind

@@ -3,5 +3,6 @@ pub mod BytesLaws
 pub mod Kinds
 pub mod AllKinds
 pub mod Decode
+pub mod DecodeLaws
 pub mod Encode
 pub mod RoundTrip

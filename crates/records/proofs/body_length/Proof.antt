@@ -1,13 +1,9 @@
 -- `records::body_length` meets its contract: the length of the call that the kind names.
 -- Assumes nothing.
-use Rattle.records.proofs.Table.{known-length, unknown-length}
 use borrow.Author.Needs.{needs}
+use Rattle.records.proofs.Table.{known-length, unknown-length}
 use Rattle.records.proofs.body_length.Statement.{statement}
 use Rattle.records.proofs.body_length.Tie as tie
-use Rattle.records.proofs.body_length.Reads as reads
-use Rattle.records.proofs.body_length.Lts as lts
-use Rattle.records.proofs.kind_of.Reads as kind-of-reads
-use Rattle.records.proofs.length_of.Reads as length-of-reads
 
 kind-of-requires : tie.Need-kind-of-requires
 kind-of-requires c κs = search needs

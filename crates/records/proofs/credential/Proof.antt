@@ -1,14 +1,9 @@
 -- `records::credential` meets its contract: an arm for each first byte.
 -- Assumes nothing.
-use Rattle.records.proofs.Fields.{nothing, not-nothing, reference, not-reference, key, no-credential}
 use borrow.Author.Needs.{needs}
+use Rattle.records.proofs.Fields.{nothing, not-nothing, reference, not-reference, key, no-credential}
 use Rattle.records.proofs.credential.Statement.{statement}
 use Rattle.records.proofs.credential.Tie as tie
-use Rattle.records.proofs.credential.Reads as reads
-use Rattle.records.proofs.credential.Lts as lts
-use Rattle.records.proofs.eight.Reads as eight-reads
-use Rattle.records.proofs.two.Reads as two-reads
-use Rattle.records.proofs.zeroed.Reads as zeroed-reads
 
 shared-slice-read-match : tie.Need-shared-slice-read-match
 shared-slice-read-match c = search needs

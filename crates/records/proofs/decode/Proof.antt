@@ -1,14 +1,9 @@
 -- `records::decode` meets its contract: another kind, a body cut short, or the call.
 -- Assumes nothing.
-use Rattle.records.proofs.Bodies.{whole, cut-short, other-kind}
 use borrow.Author.Needs.{needs}
+use Rattle.records.specs.DecodeLaws.{whole, cut-short, other-kind}
 use Rattle.records.proofs.decode.Statement.{statement}
 use Rattle.records.proofs.decode.Tie as tie
-use Rattle.records.proofs.decode.Reads as reads
-use Rattle.records.proofs.decode.Lts as lts
-use Rattle.records.proofs.decode_call.Reads as decode-call-reads
-use Rattle.records.proofs.kind_of.Reads as kind-of-reads
-use Rattle.records.proofs.length_of.Reads as length-of-reads
 
 kind-of-requires : tie.Need-kind-of-requires
 kind-of-requires c κs = search needs

@@ -1,14 +1,11 @@
 -- `records::decode_alloc` meets its contract.
 -- Assumes nothing.
-use Rattle.records.specs.Decode.{decodeCall}
-use Rattle.records.proofs.Bodies.{alloc, refused}
+use mathlib.Core.Path.{refl}
 use borrow.Author.Needs.{needs}
+use Rattle.records.specs.Decode.{decodeCall}
+use Rattle.records.specs.DecodeLaws.{alloc, refused}
 use Rattle.records.proofs.decode_alloc.Statement.{statement}
 use Rattle.records.proofs.decode_alloc.Tie as tie
-use Rattle.records.proofs.decode_alloc.Reads as reads
-use Rattle.records.proofs.decode_alloc.Lts as lts
-use Rattle.records.proofs.credential.Reads as credential-reads
-use Rattle.records.proofs.two.Reads as two-reads
 
 two-requires : tie.Need-two-requires
 two-requires c κs = search needs
@@ -29,7 +26,7 @@ enum-told : tie.Need-enum-told
 enum-told c = search needs
 
 returns : tie.Need-returns
-returns c = alloc _ _ (c .before .before .before .before .before .before .two .ensures) (c .before .before .before .before .before .two2 .ensures) (c .before .before .before .credential .ensures) (c .before .presented .given .1)
+returns c = alloc _ _ (c .before .before .before .before .before .before .two .ensures) (c .before .before .before .before .before .two2 .ensures) refl (c .before .before .before .credential .ensures) (c .before .presented .given .1)
 
 returns-2 : tie.Need-returns-2
 unfolding decodeCall

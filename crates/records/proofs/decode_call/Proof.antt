@@ -1,21 +1,10 @@
 -- `records::decode_call` meets its contract: an arm for each call.
 -- Assumes nothing.
-use Rattle.records.proofs.Table.{table}
-use Rattle.records.proofs.Bodies.{by-name, room, free, audit}
 use borrow.Author.Needs.{needs}
+use Rattle.records.specs.DecodeLaws.{by-name, room, free, audit}
+use Rattle.records.proofs.Table.{table}
 use Rattle.records.proofs.decode_call.Statement.{statement}
 use Rattle.records.proofs.decode_call.Tie as tie
-use Rattle.records.proofs.decode_call.Reads as reads
-use Rattle.records.proofs.decode_call.Lts as lts
-use Rattle.records.proofs.decode_alloc.Reads as decode-alloc-reads
-use Rattle.records.proofs.decode_create.Reads as decode-create-reads
-use Rattle.records.proofs.decode_delete.Reads as decode-delete-reads
-use Rattle.records.proofs.decode_force.Reads as decode-force-reads
-use Rattle.records.proofs.decode_key.Reads as decode-key-reads
-use Rattle.records.proofs.decode_read.Reads as decode-read-reads
-use Rattle.records.proofs.decode_renew.Reads as decode-renew-reads
-use Rattle.records.proofs.decode_tick.Reads as decode-tick-reads
-use Rattle.records.proofs.decode_write.Reads as decode-write-reads
 
 enum-told : tie.Need-enum-told
 enum-told c = search needs

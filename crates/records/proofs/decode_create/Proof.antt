@@ -1,13 +1,9 @@
 -- `records::decode_create` meets its contract.
 -- Assumes nothing.
-use Rattle.records.proofs.Bodies.{create, create-refused, create-second}
 use borrow.Author.Needs.{needs}
+use Rattle.records.specs.DecodeLaws.{create, create-refused, create-second}
 use Rattle.records.proofs.decode_create.Statement.{statement}
 use Rattle.records.proofs.decode_create.Tie as tie
-use Rattle.records.proofs.decode_create.Reads as reads
-use Rattle.records.proofs.decode_create.Lts as lts
-use Rattle.records.proofs.credential.Reads as credential-reads
-use Rattle.records.proofs.two.Reads as two-reads
 
 two-requires : tie.Need-two-requires
 two-requires c κs = search needs

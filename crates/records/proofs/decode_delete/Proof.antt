@@ -1,14 +1,10 @@
 -- `records::decode_delete` meets its contract.
 -- Assumes nothing.
-use Rattle.records.specs.Decode.{decodeCall}
-use Rattle.records.proofs.Bodies.{delete, refused}
 use borrow.Author.Needs.{needs}
+use Rattle.records.specs.Decode.{decodeCall}
+use Rattle.records.specs.DecodeLaws.{delete, refused}
 use Rattle.records.proofs.decode_delete.Statement.{statement}
 use Rattle.records.proofs.decode_delete.Tie as tie
-use Rattle.records.proofs.decode_delete.Reads as reads
-use Rattle.records.proofs.decode_delete.Lts as lts
-use Rattle.records.proofs.credential.Reads as credential-reads
-use Rattle.records.proofs.two.Reads as two-reads
 
 two-requires : tie.Need-two-requires
 two-requires c κs = search needs

@@ -1,12 +1,9 @@
 -- `records::decode_force` meets its contract.
 -- Assumes nothing.
-use Rattle.records.proofs.Bodies.{force}
 use borrow.Author.Needs.{needs}
+use Rattle.records.specs.DecodeLaws.{force}
 use Rattle.records.proofs.decode_force.Statement.{statement}
 use Rattle.records.proofs.decode_force.Tie as tie
-use Rattle.records.proofs.decode_force.Reads as reads
-use Rattle.records.proofs.decode_force.Lts as lts
-use Rattle.records.proofs.two.Reads as two-reads
 
 two-requires : tie.Need-two-requires
 two-requires c κs = search needs

@@ -1,14 +1,9 @@
 -- `records::decode_key` meets its contract.
 -- Assumes nothing.
-use Rattle.records.proofs.Bodies.{key, key-refused, key-read, key-write}
 use borrow.Author.Needs.{needs}
+use Rattle.records.specs.DecodeLaws.{key, key-refused, key-read, key-write}
 use Rattle.records.proofs.decode_key.Statement.{statement}
 use Rattle.records.proofs.decode_key.Tie as tie
-use Rattle.records.proofs.decode_key.Reads as reads
-use Rattle.records.proofs.decode_key.Lts as lts
-use Rattle.records.proofs.credential.Reads as credential-reads
-use Rattle.records.proofs.new_key.Reads as new-key-reads
-use Rattle.records.proofs.two.Reads as two-reads
 
 two-requires : tie.Need-two-requires
 two-requires c κs = search needs

@@ -1,15 +1,10 @@
 -- `records::decode_read` meets its contract.
 -- Assumes nothing.
-use Rattle.records.specs.Decode.{decodeCall}
-use Rattle.records.proofs.Bodies.{read, refused}
 use borrow.Author.Needs.{needs}
+use Rattle.records.specs.Decode.{decodeCall}
+use Rattle.records.specs.DecodeLaws.{read, refused}
 use Rattle.records.proofs.decode_read.Statement.{statement}
 use Rattle.records.proofs.decode_read.Tie as tie
-use Rattle.records.proofs.decode_read.Reads as reads
-use Rattle.records.proofs.decode_read.Lts as lts
-use Rattle.records.proofs.credential.Reads as credential-reads
-use Rattle.records.proofs.four.Reads as four-reads
-use Rattle.records.proofs.two.Reads as two-reads
 
 two-requires : tie.Need-two-requires
 two-requires c κs = search needs

@@ -1,14 +1,10 @@
 -- `records::decode_renew` meets its contract.
 -- Assumes nothing.
-use Rattle.records.proofs.Bodies.{renew}
+use mathlib.Core.Path.{refl}
 use borrow.Author.Needs.{needs}
+use Rattle.records.specs.DecodeLaws.{renew}
 use Rattle.records.proofs.decode_renew.Statement.{statement}
 use Rattle.records.proofs.decode_renew.Tie as tie
-use Rattle.records.proofs.decode_renew.Reads as reads
-use Rattle.records.proofs.decode_renew.Lts as lts
-use Rattle.records.proofs.eight.Reads as eight-reads
-use Rattle.records.proofs.four.Reads as four-reads
-use Rattle.records.proofs.two.Reads as two-reads
 
 shared-slice-read-mode : tie.Need-shared-slice-read-mode
 shared-slice-read-mode c = search needs
@@ -26,7 +22,7 @@ four-requires : tie.Need-four-requires
 four-requires c κs = search needs
 
 returns : tie.Need-returns
-returns c = renew _ _ (c .before .before .before .two .ensures) (c .before .before .eight .ensures) (c .before .eight2 .ensures) (c .four .ensures)
+returns c = renew _ _ refl (c .before .before .before .two .ensures) (c .before .before .eight .ensures) (c .before .eight2 .ensures) (c .four .ensures)
 
 pub decode-renew-spec : {M : Type 1} → statement M
 decode-renew-spec =

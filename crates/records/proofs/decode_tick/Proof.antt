@@ -1,12 +1,9 @@
 -- `records::decode_tick` meets its contract.
 -- Assumes nothing.
-use Rattle.records.proofs.Bodies.{tick}
 use borrow.Author.Needs.{needs}
+use Rattle.records.specs.DecodeLaws.{tick}
 use Rattle.records.proofs.decode_tick.Statement.{statement}
 use Rattle.records.proofs.decode_tick.Tie as tie
-use Rattle.records.proofs.decode_tick.Reads as reads
-use Rattle.records.proofs.decode_tick.Lts as lts
-use Rattle.records.proofs.eight.Reads as eight-reads
 
 eight-requires : tie.Need-eight-requires
 eight-requires c κs = search needs

@@ -1,15 +1,10 @@
 -- `records::decode_write` meets its contract.
 -- Assumes nothing.
-use Rattle.records.specs.Decode.{decodeCall}
-use Rattle.records.proofs.Bodies.{write, refused}
 use borrow.Author.Needs.{needs}
+use Rattle.records.specs.Decode.{decodeCall}
+use Rattle.records.specs.DecodeLaws.{write, refused}
 use Rattle.records.proofs.decode_write.Statement.{statement}
 use Rattle.records.proofs.decode_write.Tie as tie
-use Rattle.records.proofs.decode_write.Reads as reads
-use Rattle.records.proofs.decode_write.Lts as lts
-use Rattle.records.proofs.credential.Reads as credential-reads
-use Rattle.records.proofs.four.Reads as four-reads
-use Rattle.records.proofs.two.Reads as two-reads
 
 two-requires : tie.Need-two-requires
 two-requires c κs = search needs

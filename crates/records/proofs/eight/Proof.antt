@@ -1,12 +1,9 @@
 -- `records::eight` meets its contract: four bytes, and the next four.
 -- Assumes nothing.
-use Rattle.records.specs.BytesLaws.{number-eight}
 use borrow.Author.Needs.{needs}
+use Rattle.records.specs.BytesLaws.{number-eight}
 use Rattle.records.proofs.eight.Statement.{statement}
 use Rattle.records.proofs.eight.Tie as tie
-use Rattle.records.proofs.eight.Reads as reads
-use Rattle.records.proofs.eight.Lts as lts
-use Rattle.records.proofs.four.Reads as four-reads
 
 four-requires : tie.Need-four-requires
 four-requires c κs = search needs

@@ -1,12 +1,9 @@
 -- `records::four` meets its contract: two bytes, and the next two.
 -- Assumes nothing.
-use Rattle.records.specs.BytesLaws.{number-four}
 use borrow.Author.Needs.{needs}
+use Rattle.records.specs.BytesLaws.{number-four}
 use Rattle.records.proofs.four.Statement.{statement}
 use Rattle.records.proofs.four.Tie as tie
-use Rattle.records.proofs.four.Reads as reads
-use Rattle.records.proofs.four.Lts as lts
-use Rattle.records.proofs.two.Reads as two-reads
 
 two-requires : tie.Need-two-requires
 two-requires c κs = search needs

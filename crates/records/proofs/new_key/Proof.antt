@@ -1,13 +1,9 @@
 -- `records::new_key` meets its contract: an arm for each first byte.
 -- Assumes nothing.
-use Rattle.records.proofs.Fields.{absent, not-absent, present, no-new-key}
 use borrow.Author.Needs.{needs}
+use Rattle.records.proofs.Fields.{absent, not-absent, present, no-new-key}
 use Rattle.records.proofs.new_key.Statement.{statement}
 use Rattle.records.proofs.new_key.Tie as tie
-use Rattle.records.proofs.new_key.Reads as reads
-use Rattle.records.proofs.new_key.Lts as lts
-use Rattle.records.proofs.eight.Reads as eight-reads
-use Rattle.records.proofs.zeroed.Reads as zeroed-reads
 
 shared-slice-read-match : tie.Need-shared-slice-read-match
 shared-slice-read-match c = search needs

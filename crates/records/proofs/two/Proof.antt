@@ -1,12 +1,9 @@
 -- `records::two` meets its contract.
 -- Assumes nothing.
-use Rattle.records.specs.BytesLaws.{number-two}
 use borrow.Author.Needs.{needs}
+use Rattle.records.specs.BytesLaws.{number-two}
 use Rattle.records.proofs.two.Statement.{statement}
 use Rattle.records.proofs.two.Tie as tie
-use Rattle.records.proofs.two.Reads as reads
-use Rattle.records.proofs.two.Lts as lts
-use Rattle.records.proofs.wide.Reads as wide-reads
 
 shared-slice-read-wide : tie.Need-shared-slice-read-wide
 shared-slice-read-wide c = search needs

@@ -5,8 +5,6 @@ use native.Mathlib.Omega.{arith}
 use Rattle.records.proofs.Filler.{Filler, filler-start, filler-more, filler-fault, filler-whole}
 use Rattle.records.proofs.zeroed.Statement.{statement}
 use Rattle.records.proofs.zeroed.Tie as tie
-use Rattle.records.proofs.zeroed.Reads as reads
-use Rattle.records.proofs.zeroed.Lts as lts
 
 abbrev Inv-loop : tie.InvT-loop
 Inv-loop bytes at count i₀ i = Filler bytes at count i

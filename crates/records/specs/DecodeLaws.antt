@@ -1,4 +1,4 @@
--- What the returns of the functions that decode a body cite: from the values of its parts to the definition.
+-- Laws of decoding: from the values of a body's parts to what it decodes to.
 -- Assumes nothing.
 use Prim.Native.Nat.{ℕ, _≤_, _<_}
 use mathlib.Core.Path.{_≡_, refl, sym}
@@ -41,9 +41,9 @@ module _ (port : Port) (xs : List ℕ) where
   unfolding decodeCall withCredential
   write b i p e = rw (← p, e, ← b, ← i)
 
-  pub alloc : {r h : ℕ} {p : Presented} {c : Credential} → r ≡ number 2 xs → h ≡ number 2 (drop 19 xs) → p ≡ credential (drop 2 xs) → p ≡ Presents c → Decoded port (Alloc (record { reference = r; credential = c; hint = h; count = getD xs 21 0 })) ≡ decodeCall port ALLOC xs
+  pub alloc : {r h n : ℕ} {p : Presented} {c : Credential} → r ≡ number 2 xs → h ≡ number 2 (drop 19 xs) → n ≡ getD xs 21 0 → p ≡ credential (drop 2 xs) → p ≡ Presents c → Decoded port (Alloc (record { reference = r; credential = c; hint = h; count = n })) ≡ decodeCall port ALLOC xs
   unfolding decodeCall withCredential
-  alloc r h p e = rw (← p, e, ← r, ← h)
+  alloc r h n p e = rw (← p, e, ← r, ← h, ← n)
 
   pub delete : {s d : ℕ} {p : Presented} {c : Credential} → s ≡ number 2 xs → d ≡ number 2 (drop 19 xs) → p ≡ credential (drop 2 xs) → p ≡ Presents c → Decoded port (Delete (record { source = s; credential = c; destination = d })) ≡ decodeCall port DELETE xs
   unfolding decodeCall withCredential
@@ -81,9 +81,9 @@ module _ (port : Port) (xs : List ℕ) where
 
   -- ---- calls without a credential
 
-  pub renew : {b h l i : ℕ} → b ≡ number 2 (drop 1 xs) → h ≡ number 8 (drop 3 xs) → l ≡ number 8 (drop 11 xs) → i ≡ number 4 (drop 19 xs) → Decoded port (Renew (record { mode = getD xs 0 0; block = b; high = h; low = l; interval = i })) ≡ decodeCall port RENEW xs
+  pub renew : {m b h l i : ℕ} → m ≡ getD xs 0 0 → b ≡ number 2 (drop 1 xs) → h ≡ number 8 (drop 3 xs) → l ≡ number 8 (drop 11 xs) → i ≡ number 4 (drop 19 xs) → Decoded port (Renew (record { mode = m; block = b; high = h; low = l; interval = i })) ≡ decodeCall port RENEW xs
   unfolding decodeCall
-  renew b h l i = rw (← b, ← h, ← l, ← i)
+  renew m b h l i = rw (← m, ← b, ← h, ← l, ← i)
 
   pub force : {b : ℕ} → b ≡ number 2 xs → Decoded port (Force (record { block = b })) ≡ decodeCall port FORCE xs
   unfolding decodeCall
