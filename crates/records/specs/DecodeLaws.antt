@@ -1,11 +1,15 @@
 -- Laws of decoding: from the values of a body's parts to what it decodes to.
 -- Assumes nothing.
 use Prim.Native.Nat.{ℕ, _≤_, _<_}
-use mathlib.Core.Path.{_≡_, refl, sym}
+use mathlib.Core.Path.{_≡_, refl, sym, ap, subst}
+use mathlib.Core.Logic.{⊎-elim}
 use mathlib.Core.Bool.{true, false, cond}
-use mathlib.Core.List.{List}
-use lib.ListN.{length, drop, getD}
-use borrow.Author.Tests.{le-leb, lt-leb}
+use mathlib.Core.List.{List, [], _∷_}
+use native.Mathlib.Omega.{arith}
+use lib.Dec.{leb}
+use lib.ListN.{length, drop, getD, length-drop}
+use borrow.Author.Tests.{le-leb, lt-leb, leb-true}
+use Rattle.card.specs.ListsLaws.{not-cases}
 use Rattle.card.specs.declared.Port.{Port}
 use Rattle.card.specs.declared.Credential.{Credential}
 use Rattle.card.specs.declared.NewKey.{NewKey}
@@ -13,7 +17,7 @@ use Rattle.card.specs.declared.Call.{Call}
 use Rattle.card.specs.declared.Call.the-variants.{Read, Write, Alloc, Create, Delete, Key, Renew, Force, Free, Tick, Audit}
 use Rattle.records.specs.Bytes.{number}
 use Rattle.records.specs.Kinds.{lengthOf, kindOf}
-use Rattle.records.specs.Decode.{credential, newKey, withCredential, createWith, keyWith, decodeCall, decodeKnown, decodeBody}
+use Rattle.records.specs.Decode.{credential, newKey, withCredential, createWith, keyWith, decodeCall, decodeKnown, decodeBody, nameOf, sent, nextOf, decode}
 use Rattle.records.specs.declared.Name.{Name}
 use Rattle.records.specs.declared.Name.the-variants.{Read as READ, Write as WRITE, Alloc as ALLOC, Create as CREATE, Delete as DELETE, Key as KEY, Renew as RENEW, Force as FORCE, Free as FREE, Tick as TICK, Audit as AUDIT}
 use Rattle.records.specs.declared.Kind.{Kind}
@@ -124,3 +128,82 @@ module _ (kind : ℕ) (xs : List ℕ) {known : Kind} (of-kind : known ≡ kindOf
   pub other-kind : known ≡ Unknown → Bad ≡ decodeBody kind xs
   unfolding decodeBody decodeKnown
   other-kind e = rw (← of-kind, e)
+
+-- ---- from what is decoded to its kind
+
+-- What is decoded, if anything, is the named call at the port.
+abbrev Named : Port → Name → Decoding → Type 0
+Named port name (Decoded p call) = (p ≡ port) × (nameOf call ≡ name)
+Named port name Bad = Unit {0}
+
+named-credential : (port : Port) (name : Name) (call : Credential → Call) → ((c : Credential) → nameOf (call c) ≡ name) → (q : Presented) → Named port name (withCredential port call q)
+unfolding withCredential
+named-credential port name call h (Presents c) = (refl, h c)
+named-credential port name call h BadCredential = tt
+
+named-create : (port : Port) (s d : ℕ) (p q : Presented) → Named port CREATE (createWith port s d p q)
+unfolding createWith nameOf
+named-create port s d (Presents c) (Presents e) = (refl, refl)
+named-create port s d (Presents c) BadCredential = tt
+named-create port s d BadCredential q = tt
+
+named-key : (port : Port) (b : ℕ) (p : Presented) (r w : Replacing) → Named port KEY (keyWith port b p r w)
+unfolding keyWith nameOf
+named-key port b (Presents c) (Replaces m) (Replaces n) = (refl, refl)
+named-key port b (Presents c) (Replaces m) BadKey = tt
+named-key port b (Presents c) BadKey w = tt
+named-key port b BadCredential r w = tt
+
+named : (port : Port) (name : Name) (xs : List ℕ) → Named port name (decodeCall port name xs)
+unfolding decodeCall nameOf
+named port READ xs = named-credential port READ _ (λ c. refl) _
+named port WRITE xs = named-credential port WRITE _ (λ c. refl) _
+named port ALLOC xs = named-credential port ALLOC _ (λ c. refl) _
+named port CREATE xs = named-create port _ _ _ _
+named port DELETE xs = named-credential port DELETE _ (λ c. refl) _
+named port KEY xs = named-key port _ _ _ _
+named port RENEW xs = (refl, refl)
+named port FORCE xs = (refl, refl)
+named port FREE xs = (refl, refl)
+named port TICK xs = (refl, refl)
+named port AUDIT xs = (refl, refl)
+
+apart : (p : Port) (call : Call) → Decoded p call ≡ Bad → ⊥
+apart p call e = let z : _≡_ {A = ℕ} 0 1 = cc in omega arith
+
+-- The kind of a decoded call, and that its body is whole.
+pub record OfKind (known : Kind) (xs : List ℕ) (port : Port) (call : Call) : Type 0 where
+  pub kind : known ≡ Known port (nameOf call)
+  pub whole : lengthOf (nameOf call) ≤ length xs
+
+of-decoded : (p port : Port) (name : Name) (call : Call) (xs : List ℕ) → Decoded p call ≡ decodeCall port name xs → lengthOf name ≤ length xs → OfKind (Known port name) xs p call
+of-decoded p port name call xs e h =
+    let n : Named port name (Decoded p call) = subst (λ (d : Decoding). Named port name d) (sym e) (named port name xs) in
+    record { kind = rw (n .0, n .1); whole = rw (n .1) h }
+
+of-known : (k : Kind) (xs : List ℕ) (p : Port) (call : Call) → Decoded p call ≡ decodeKnown k xs → OfKind k xs p call
+unfolding decodeKnown
+of-known (Known port name) xs p call e =
+    ⊎-elim
+    (λ (t : leb (lengthOf name) (length xs) ≡ true). of-decoded p port name call xs (rw t at e) (leb-true _ _ t))
+    (λ (t : leb (lengthOf name) (length xs) ≡ false). absurd (apart p call (rw t at e)))
+    (not-cases (leb (lengthOf name) (length xs)))
+of-known Unknown xs p call e = absurd (apart p call e)
+
+pub decoded-kind : (kind : ℕ) (xs : List ℕ) (p : Port) (call : Call) → Decoded p call ≡ decodeBody kind xs → OfKind (kindOf kind) xs p call
+unfolding decodeBody
+decoded-kind kind xs p call e = of-known (kindOf kind) xs p call e
+
+-- ---- an input gets shorter
+
+next-shorter : (xs : List ℕ) (d : Decoding) {port : Port} {call : Call} {payload rest : List ℕ} → nextOf xs d ≡ sent port call payload rest → length rest ≤ length xs
+unfolding nextOf
+next-shorter xs (Decoded p call) {rest = rest} e =
+    let left : drop (lengthOf (nameOf call)) xs ≡ rest = cc in
+    omega (arith, ap length left, length-drop (lengthOf (nameOf call)) xs)
+next-shorter xs Bad e = let z : _≡_ {A = ℕ} 0 1 = cc in absurd (omega arith)
+
+pub decode-shorter : (xs : List ℕ) {port : Port} {call : Call} {payload rest : List ℕ} → decode xs ≡ sent port call payload rest → length rest < length xs
+unfolding decode
+decode-shorter [] e = let z : _≡_ {A = ℕ} 0 1 = cc in absurd (omega arith)
+decode-shorter (kind ∷ xs) e = let h = next-shorter xs (decodeBody kind xs) e in omega arith
