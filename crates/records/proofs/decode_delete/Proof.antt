@@ -1,0 +1,41 @@
+-- `records::decode_delete` meets its contract.
+-- Assumes nothing.
+use borrow.Author.Needs.{needs}
+use Rattle.records.specs.Decode.{decodeCall}
+use Rattle.records.specs.DecodeLaws.{delete, refused}
+use Rattle.records.proofs.decode_delete.Statement.{statement}
+use Rattle.records.proofs.decode_delete.Tie as tie
+
+two-requires : tie.Need-two-requires
+two-requires c κs = search needs
+
+two-requires-2 : tie.Need-two-requires-2
+two-requires-2 c κs = search needs
+
+credential-requires : tie.Need-credential-requires
+credential-requires c κs = search needs
+
+enum-known-presented : tie.Need-enum-known-presented
+enum-known-presented c = search needs
+
+enum-told : tie.Need-enum-told
+enum-told c = search needs
+
+returns : tie.Need-returns
+returns c = delete _ _ (c .before .before .before .before .before .two .ensures) (c .before .before .before .before .two2 .ensures) (c .before .before .before .credential .ensures) (c .before .presented .given .1)
+
+returns-2 : tie.Need-returns-2
+unfolding decodeCall
+returns-2 c = refused _ _ _ (c .before .before .credential .ensures) (c .enum-told .given .1)
+
+pub decode-delete-spec : {M : Type 1} → statement M
+decode-delete-spec =
+    tie.close
+    (tie.spec
+    two-requires
+    two-requires-2
+    credential-requires
+    enum-known-presented
+    enum-told
+    returns
+    returns-2)

@@ -1,0 +1,130 @@
+-- Document 01, "Call records and the player": from the bytes of an input to a call, its port and its data.
+-- Each operand stands in the body behind those before it. Only the bytes of the body are looked at, whatever follows them.
+use Prim.Native.Nat.{ℕ}
+use mathlib.Core.Bool.{Bool, true, false, cond}
+use mathlib.Core.List.{List, [], _∷_}
+use lib.Dec.{eqb, leb}
+use lib.ListN.{length, take, drop, getD}
+use Rattle.card.specs.declared.Port.{Port}
+use Rattle.card.specs.declared.Credential.{Credential}
+use Rattle.card.specs.declared.Credential.the-variants.{Nothing, Reference, Key as KeyCredential}
+use Rattle.card.specs.declared.NewKey.the-variants.{Absent, Present}
+use Rattle.card.specs.declared.Call.{Call}
+use Rattle.card.specs.declared.Call.the-variants.{Read, Write, Alloc, Create, Delete, Key, Renew, Force, Free, Tick, Audit}
+use Rattle.records.specs.Bytes.{number, zeroed}
+use Rattle.records.specs.Kinds.{lengthOf, dataLength, operandsLength, kindOf}
+use Rattle.records.specs.declared.Name.{Name}
+use Rattle.records.specs.declared.Name.the-variants.{Read as READ, Write as WRITE, Alloc as ALLOC, Create as CREATE, Delete as DELETE, Key as KEY, Renew as RENEW, Force as FORCE, Free as FREE, Tick as TICK, Audit as AUDIT}
+use Rattle.records.specs.declared.Kind.{Kind}
+use Rattle.records.specs.declared.Kind.the-variants.{Known, Unknown}
+use Rattle.records.specs.declared.Presented.{Presented}
+use Rattle.records.specs.declared.Presented.the-variants.{Good as Presents, Bad as BadCredential}
+use Rattle.records.specs.declared.Replacing.{Replacing}
+use Rattle.records.specs.declared.Replacing.the-variants.{Good as Replaces, Bad as BadKey}
+use Rattle.records.specs.declared.Decoding.{Decoding}
+use Rattle.records.specs.declared.Decoding.the-variants.{Decoded, Bad}
+
+-- ---- credentials and new keys
+
+-- "0, 1 or 2 (nothing, reference, key), then 16 bytes: zeros; the number and 14 zeros; the key"
+unfoldable pub credential : List ℕ → Presented
+credential xs =
+    cond (eqb (getD xs 0 0) 0) (cond (zeroed 16 (drop 1 xs)) (Presents Nothing) BadCredential)
+    (cond (eqb (getD xs 0 0) 1) (cond (zeroed 14 (drop 3 xs)) (Presents (Reference (number 2 (drop 1 xs)))) BadCredential)
+    (cond (eqb (getD xs 0 0) 2) (Presents (KeyCredential (number 8 (drop 1 xs)) (number 8 (drop 9 xs)))) BadCredential))
+
+-- "0 and zeros, or 1 and the key"
+unfoldable pub newKey : List ℕ → Replacing
+newKey xs =
+    cond (eqb (getD xs 0 0) 0) (cond (zeroed 16 (drop 1 xs)) (Replaces Absent) BadKey)
+    (cond (eqb (getD xs 0 0) 1) (Replaces (Present (number 8 (drop 1 xs)) (number 8 (drop 9 xs)))) BadKey)
+
+-- ---- each call's body
+
+-- A call that has one credential.
+unfoldable pub withCredential : Port → (Credential → Call) → Presented → Decoding
+withCredential port call (Presents c) = Decoded port (call c)
+withCredential port call BadCredential = Bad
+
+unfoldable pub createWith : Port → ℕ → ℕ → Presented → Presented → Decoding
+createWith port source destination (Presents c) (Presents d) =
+    Decoded port (Create (record { source = source; credential = c; destination = destination; second = d }))
+createWith port source destination (Presents c) BadCredential = Bad
+createWith port source destination BadCredential second = Bad
+
+unfoldable pub keyWith : Port → ℕ → Presented → Replacing → Replacing → Decoding
+keyWith port block (Presents c) (Replaces r) (Replaces w) =
+    Decoded port (Key (record { block = block; credential = c; read = r; write = w }))
+keyWith port block (Presents c) (Replaces r) BadKey = Bad
+keyWith port block (Presents c) BadKey write = Bad
+keyWith port block BadCredential read write = Bad
+
+-- A body of the call's length, or one that starts so.
+unfoldable pub decodeCall : Port → Name → List ℕ → Decoding
+decodeCall port READ xs =
+    withCredential port (λ c. Read (record { block = number 2 xs; credential = c; interval = number 4 (drop 19 xs) })) (credential (drop 2 xs))
+decodeCall port WRITE xs =
+    withCredential port (λ c. Write (record { block = number 2 xs; credential = c; interval = number 4 (drop 19 xs) })) (credential (drop 2 xs))
+decodeCall port ALLOC xs =
+    withCredential port
+    (λ c. Alloc (record { reference = number 2 xs; credential = c; hint = number 2 (drop 19 xs); count = getD xs 21 0 }))
+    (credential (drop 2 xs))
+decodeCall port CREATE xs = createWith port (number 2 xs) (number 2 (drop 19 xs)) (credential (drop 2 xs)) (credential (drop 21 xs))
+decodeCall port DELETE xs =
+    withCredential port (λ c. Delete (record { source = number 2 xs; credential = c; destination = number 2 (drop 19 xs) })) (credential (drop 2 xs))
+decodeCall port KEY xs = keyWith port (number 2 xs) (credential (drop 2 xs)) (newKey (drop 19 xs)) (newKey (drop 36 xs))
+decodeCall port RENEW xs =
+    Decoded port
+    (Renew
+    (record {
+      mode = getD xs 0 0;
+      block = number 2 (drop 1 xs);
+      high = number 8 (drop 3 xs);
+      low = number 8 (drop 11 xs);
+      interval = number 4 (drop 19 xs);
+    }))
+decodeCall port FORCE xs = Decoded port (Force (record { block = number 2 xs }))
+decodeCall port FREE xs = Decoded port Free
+decodeCall port TICK xs = Decoded port (Tick (record { seconds = number 8 xs }))
+decodeCall port AUDIT xs = Decoded port Audit
+
+-- ---- a record
+
+unfoldable pub decodeKnown : Kind → List ℕ → Decoding
+decodeKnown (Known port name) xs = cond (leb (lengthOf name) (length xs)) (decodeCall port name xs) Bad
+decodeKnown Unknown xs = Bad
+
+-- What a kind and the bytes behind it hold. Bad is refusal 13: another kind, a body cut short, a wrong credential or new key.
+unfoldable pub decodeBody : ℕ → List ℕ → Decoding
+decodeBody kind xs = decodeKnown (kindOf kind) xs
+
+unfoldable pub nameOf : Call → Name
+nameOf (Read o) = READ
+nameOf (Write o) = WRITE
+nameOf (Alloc o) = ALLOC
+nameOf (Create o) = CREATE
+nameOf (Delete o) = DELETE
+nameOf (Key o) = KEY
+nameOf (Renew o) = RENEW
+nameOf (Force o) = FORCE
+nameOf Free = FREE
+nameOf (Tick o) = TICK
+nameOf Audit = AUDIT
+
+-- The bytes of a body beside its operands: WRITE's 512, last.
+unfoldable pub dataOf : Name → List ℕ → List ℕ
+dataOf name xs = take (dataLength name) (drop (operandsLength name) xs)
+
+-- What an input starts with: nothing, a record refused 13, or a call at its port with its data, and the input that is left.
+pub data Next : Type 0 where
+  ended : Next
+  refused : Next
+  sent : Port → Call → List ℕ → List ℕ → Next
+
+unfoldable pub nextOf : List ℕ → Decoding → Next
+nextOf xs (Decoded port call) = sent port call (dataOf (nameOf call) xs) (drop (lengthOf (nameOf call)) xs)
+nextOf xs Bad = refused
+
+unfoldable pub decode : List ℕ → Next
+decode [] = ended
+decode (kind ∷ xs) = nextOf xs (decodeBody kind xs)

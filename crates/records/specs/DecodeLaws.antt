@@ -1,0 +1,209 @@
+-- Laws of decoding: from the values of a body's parts to what it decodes to.
+-- Assumes nothing.
+use Prim.Native.Nat.{ℕ, _≤_, _<_}
+use mathlib.Core.Path.{_≡_, refl, sym, ap, subst}
+use mathlib.Core.Logic.{⊎-elim}
+use mathlib.Core.Bool.{true, false, cond}
+use mathlib.Core.List.{List, [], _∷_}
+use native.Mathlib.Omega.{arith}
+use lib.Dec.{leb}
+use lib.ListN.{length, drop, getD, length-drop}
+use borrow.Author.Tests.{le-leb, lt-leb, leb-true}
+use Rattle.card.specs.ListsLaws.{not-cases}
+use Rattle.card.specs.declared.Port.{Port}
+use Rattle.card.specs.declared.Credential.{Credential}
+use Rattle.card.specs.declared.NewKey.{NewKey}
+use Rattle.card.specs.declared.Call.{Call}
+use Rattle.card.specs.declared.Call.the-variants.{Read, Write, Alloc, Create, Delete, Key, Renew, Force, Free, Tick, Audit}
+use Rattle.records.specs.Bytes.{number}
+use Rattle.records.specs.Kinds.{lengthOf, kindOf}
+use Rattle.records.specs.Decode.{credential, newKey, withCredential, createWith, keyWith, decodeCall, decodeKnown, decodeBody, nameOf, sent, nextOf, decode}
+use Rattle.records.specs.declared.Name.{Name}
+use Rattle.records.specs.declared.Name.the-variants.{Read as READ, Write as WRITE, Alloc as ALLOC, Create as CREATE, Delete as DELETE, Key as KEY, Renew as RENEW, Force as FORCE, Free as FREE, Tick as TICK, Audit as AUDIT}
+use Rattle.records.specs.declared.Kind.{Kind}
+use Rattle.records.specs.declared.Kind.the-variants.{Known, Unknown}
+use Rattle.records.specs.declared.Presented.{Presented}
+use Rattle.records.specs.declared.Presented.the-variants.{Good as Presents, Bad as BadCredential}
+use Rattle.records.specs.declared.Replacing.{Replacing}
+use Rattle.records.specs.declared.Replacing.the-variants.{Good as Replaces, Bad as BadKey}
+use Rattle.records.specs.declared.Decoding.{Decoding}
+use Rattle.records.specs.declared.Decoding.the-variants.{Decoded, Bad}
+
+-- A bad credential, where a call has one.
+pub refused : (port : Port) (call : Credential → Call) (ys : List ℕ) {p : Presented} → p ≡ credential ys → p ≡ BadCredential → Bad ≡ withCredential port call (credential ys)
+unfolding withCredential
+refused port call ys p e = rw (← p, e)
+
+module _ (port : Port) (xs : List ℕ) where
+  -- ---- calls with one credential
+
+  pub read : {b i : ℕ} {p : Presented} {c : Credential} → b ≡ number 2 xs → i ≡ number 4 (drop 19 xs) → p ≡ credential (drop 2 xs) → p ≡ Presents c → Decoded port (Read (record { block = b; credential = c; interval = i })) ≡ decodeCall port READ xs
+  unfolding decodeCall withCredential
+  read b i p e = rw (← p, e, ← b, ← i)
+
+  pub write : {b i : ℕ} {p : Presented} {c : Credential} → b ≡ number 2 xs → i ≡ number 4 (drop 19 xs) → p ≡ credential (drop 2 xs) → p ≡ Presents c → Decoded port (Write (record { block = b; credential = c; interval = i })) ≡ decodeCall port WRITE xs
+  unfolding decodeCall withCredential
+  write b i p e = rw (← p, e, ← b, ← i)
+
+  pub alloc : {r h n : ℕ} {p : Presented} {c : Credential} → r ≡ number 2 xs → h ≡ number 2 (drop 19 xs) → n ≡ getD xs 21 0 → p ≡ credential (drop 2 xs) → p ≡ Presents c → Decoded port (Alloc (record { reference = r; credential = c; hint = h; count = n })) ≡ decodeCall port ALLOC xs
+  unfolding decodeCall withCredential
+  alloc r h n p e = rw (← p, e, ← r, ← h, ← n)
+
+  pub delete : {s d : ℕ} {p : Presented} {c : Credential} → s ≡ number 2 xs → d ≡ number 2 (drop 19 xs) → p ≡ credential (drop 2 xs) → p ≡ Presents c → Decoded port (Delete (record { source = s; credential = c; destination = d })) ≡ decodeCall port DELETE xs
+  unfolding decodeCall withCredential
+  delete s d p e = rw (← p, e, ← s, ← d)
+
+  -- ---- calls with more
+
+  pub create : {s d : ℕ} {p q : Presented} {c e : Credential} → s ≡ number 2 xs → d ≡ number 2 (drop 19 xs) → p ≡ credential (drop 2 xs) → q ≡ credential (drop 21 xs) → p ≡ Presents c → q ≡ Presents e → Decoded port (Create (record { source = s; credential = c; destination = d; second = e })) ≡ decodeCall port CREATE xs
+  unfolding decodeCall createWith
+  create s d p q e f = rw (← p, ← q, e, f, ← s, ← d)
+
+  pub create-second : {p q : Presented} {c : Credential} → p ≡ credential (drop 2 xs) → q ≡ credential (drop 21 xs) → p ≡ Presents c → q ≡ BadCredential → Bad ≡ decodeCall port CREATE xs
+  unfolding decodeCall createWith
+  create-second p q e f = rw (← p, ← q, e, f)
+
+  pub key : {b : ℕ} {p : Presented} {r w : Replacing} {c : Credential} {m n : NewKey} → b ≡ number 2 xs → p ≡ credential (drop 2 xs) → r ≡ newKey (drop 19 xs) → w ≡ newKey (drop 36 xs) → p ≡ Presents c → r ≡ Replaces m → w ≡ Replaces n → Decoded port (Key (record { block = b; credential = c; read = m; write = n })) ≡ decodeCall port KEY xs
+  unfolding decodeCall keyWith
+  key b p r w e f g = rw (← p, ← r, ← w, e, f, g, ← b)
+
+  pub key-read : {p : Presented} {r : Replacing} {c : Credential} → p ≡ credential (drop 2 xs) → r ≡ newKey (drop 19 xs) → p ≡ Presents c → r ≡ BadKey → Bad ≡ decodeCall port KEY xs
+  unfolding decodeCall keyWith
+  key-read p r e f = rw (← p, ← r, e, f)
+
+  pub key-write : {p : Presented} {r w : Replacing} {c : Credential} {m : NewKey} → p ≡ credential (drop 2 xs) → r ≡ newKey (drop 19 xs) → w ≡ newKey (drop 36 xs) → p ≡ Presents c → r ≡ Replaces m → w ≡ BadKey → Bad ≡ decodeCall port KEY xs
+  unfolding decodeCall keyWith
+  key-write p r w e f g = rw (← p, ← r, ← w, e, f, g)
+
+  pub create-refused : {p : Presented} → p ≡ credential (drop 2 xs) → p ≡ BadCredential → Bad ≡ decodeCall port CREATE xs
+  unfolding decodeCall createWith
+  create-refused p e = rw (← p, e)
+
+  pub key-refused : {p : Presented} → p ≡ credential (drop 2 xs) → p ≡ BadCredential → Bad ≡ decodeCall port KEY xs
+  unfolding decodeCall keyWith
+  key-refused p e = rw (← p, e)
+
+  -- ---- calls without a credential
+
+  pub renew : {m b h l i : ℕ} → m ≡ getD xs 0 0 → b ≡ number 2 (drop 1 xs) → h ≡ number 8 (drop 3 xs) → l ≡ number 8 (drop 11 xs) → i ≡ number 4 (drop 19 xs) → Decoded port (Renew (record { mode = m; block = b; high = h; low = l; interval = i })) ≡ decodeCall port RENEW xs
+  unfolding decodeCall
+  renew m b h l i = rw (← m, ← b, ← h, ← l, ← i)
+
+  pub force : {b : ℕ} → b ≡ number 2 xs → Decoded port (Force (record { block = b })) ≡ decodeCall port FORCE xs
+  unfolding decodeCall
+  force b = rw (← b) refl
+
+  pub tick : {n : ℕ} → n ≡ number 8 xs → Decoded port (Tick (record { seconds = n })) ≡ decodeCall port TICK xs
+  unfolding decodeCall
+  tick n = rw (← n) refl
+
+  pub free : Decoded port Free ≡ decodeCall port FREE xs
+  unfolding decodeCall
+  free = refl
+
+  pub audit : Decoded port Audit ≡ decodeCall port AUDIT xs
+  unfolding decodeCall
+  audit = refl
+
+  -- ---- by the call's name
+
+  pub by-name : {a b : Name} {d : Decoding} → a ≡ b → d ≡ decodeCall port b xs → d ≡ decodeCall port a xs
+  by-name e h = rw e h
+
+-- A body is long enough for its call.
+pub room : {a b : Name} {n : ℕ} → a ≡ b → lengthOf a ≤ n → lengthOf b ≤ n
+room e h = rw e at h
+
+-- ---- by the kind
+
+module _ (kind : ℕ) (xs : List ℕ) {known : Kind} (of-kind : known ≡ kindOf kind) where
+  pub whole : {port : Port} {name : Name} {l : ℕ} {d : Decoding} → known ≡ Known port name → l ≡ lengthOf name → l ≤ length xs → d ≡ decodeCall port name xs → d ≡ decodeBody kind xs
+  unfolding decodeBody decodeKnown
+  whole {port} {name} e l h d = rw (← of-kind, e, ← l, le-leb _ _ h, d)
+
+  pub cut-short : {port : Port} {name : Name} {l : ℕ} → known ≡ Known port name → l ≡ lengthOf name → length xs < l → Bad ≡ decodeBody kind xs
+  unfolding decodeBody decodeKnown
+  cut-short e l h = rw (← of-kind, e, ← l, lt-leb _ _ h)
+
+  pub other-kind : known ≡ Unknown → Bad ≡ decodeBody kind xs
+  unfolding decodeBody decodeKnown
+  other-kind e = rw (← of-kind, e)
+
+-- ---- from what is decoded to its kind
+
+-- What is decoded, if anything, is the named call at the port.
+abbrev Named : Port → Name → Decoding → Type 0
+Named port name (Decoded p call) = (p ≡ port) × (nameOf call ≡ name)
+Named port name Bad = Unit {0}
+
+named-credential : (port : Port) (name : Name) (call : Credential → Call) → ((c : Credential) → nameOf (call c) ≡ name) → (q : Presented) → Named port name (withCredential port call q)
+unfolding withCredential
+named-credential port name call h (Presents c) = (refl, h c)
+named-credential port name call h BadCredential = tt
+
+named-create : (port : Port) (s d : ℕ) (p q : Presented) → Named port CREATE (createWith port s d p q)
+unfolding createWith nameOf
+named-create port s d (Presents c) (Presents e) = (refl, refl)
+named-create port s d (Presents c) BadCredential = tt
+named-create port s d BadCredential q = tt
+
+named-key : (port : Port) (b : ℕ) (p : Presented) (r w : Replacing) → Named port KEY (keyWith port b p r w)
+unfolding keyWith nameOf
+named-key port b (Presents c) (Replaces m) (Replaces n) = (refl, refl)
+named-key port b (Presents c) (Replaces m) BadKey = tt
+named-key port b (Presents c) BadKey w = tt
+named-key port b BadCredential r w = tt
+
+named : (port : Port) (name : Name) (xs : List ℕ) → Named port name (decodeCall port name xs)
+unfolding decodeCall nameOf
+named port READ xs = named-credential port READ _ (λ c. refl) _
+named port WRITE xs = named-credential port WRITE _ (λ c. refl) _
+named port ALLOC xs = named-credential port ALLOC _ (λ c. refl) _
+named port CREATE xs = named-create port _ _ _ _
+named port DELETE xs = named-credential port DELETE _ (λ c. refl) _
+named port KEY xs = named-key port _ _ _ _
+named port RENEW xs = (refl, refl)
+named port FORCE xs = (refl, refl)
+named port FREE xs = (refl, refl)
+named port TICK xs = (refl, refl)
+named port AUDIT xs = (refl, refl)
+
+apart : (p : Port) (call : Call) → Decoded p call ≡ Bad → ⊥
+apart p call e = let z : _≡_ {A = ℕ} 0 1 = cc in omega arith
+
+-- The kind of a decoded call, and that its body is whole.
+pub record OfKind (known : Kind) (xs : List ℕ) (port : Port) (call : Call) : Type 0 where
+  pub kind : known ≡ Known port (nameOf call)
+  pub whole : lengthOf (nameOf call) ≤ length xs
+
+of-decoded : (p port : Port) (name : Name) (call : Call) (xs : List ℕ) → Decoded p call ≡ decodeCall port name xs → lengthOf name ≤ length xs → OfKind (Known port name) xs p call
+of-decoded p port name call xs e h =
+    let n : Named port name (Decoded p call) = subst (λ (d : Decoding). Named port name d) (sym e) (named port name xs) in
+    record { kind = rw (n .0, n .1); whole = rw (n .1) h }
+
+of-known : (k : Kind) (xs : List ℕ) (p : Port) (call : Call) → Decoded p call ≡ decodeKnown k xs → OfKind k xs p call
+unfolding decodeKnown
+of-known (Known port name) xs p call e =
+    ⊎-elim
+    (λ (t : leb (lengthOf name) (length xs) ≡ true). of-decoded p port name call xs (rw t at e) (leb-true _ _ t))
+    (λ (t : leb (lengthOf name) (length xs) ≡ false). absurd (apart p call (rw t at e)))
+    (not-cases (leb (lengthOf name) (length xs)))
+of-known Unknown xs p call e = absurd (apart p call e)
+
+pub decoded-kind : (kind : ℕ) (xs : List ℕ) (p : Port) (call : Call) → Decoded p call ≡ decodeBody kind xs → OfKind (kindOf kind) xs p call
+unfolding decodeBody
+decoded-kind kind xs p call e = of-known (kindOf kind) xs p call e
+
+-- ---- an input gets shorter
+
+next-shorter : (xs : List ℕ) (d : Decoding) {port : Port} {call : Call} {payload rest : List ℕ} → nextOf xs d ≡ sent port call payload rest → length rest ≤ length xs
+unfolding nextOf
+next-shorter xs (Decoded p call) {rest = rest} e =
+    let left : drop (lengthOf (nameOf call)) xs ≡ rest = cc in
+    omega (arith, ap length left, length-drop (lengthOf (nameOf call)) xs)
+next-shorter xs Bad e = let z : _≡_ {A = ℕ} 0 1 = cc in absurd (omega arith)
+
+pub decode-shorter : (xs : List ℕ) {port : Port} {call : Call} {payload rest : List ℕ} → decode xs ≡ sent port call payload rest → length rest < length xs
+unfolding decode
+decode-shorter [] e = let z : _≡_ {A = ℕ} 0 1 = cc in absurd (omega arith)
+decode-shorter (kind ∷ xs) e = let h = next-shorter xs (decodeBody kind xs) e in omega arith

@@ -1,0 +1,73 @@
+-- The bytes of a call record, as a host writes it.
+use Prim.Native.Nat.{ℕ, _<_, _^_}
+use mathlib.Core.Path.{_≡_}
+use mathlib.Core.List.{List, [], _∷_, _++_}
+use lib.ListN.{length, replicate}
+use Rattle.card.specs.declared.Port.{Port}
+use Rattle.card.specs.declared.Credential.{Credential}
+use Rattle.card.specs.declared.Credential.the-variants.{Nothing, Reference, Key as KeyCredential}
+use Rattle.card.specs.declared.NewKey.{NewKey}
+use Rattle.card.specs.declared.NewKey.the-variants.{Absent, Present}
+use Rattle.card.specs.declared.Call.{Call}
+use Rattle.card.specs.declared.Call.the-variants.{Read, Write, Alloc, Create, Delete, Key, Renew, Force, Free, Tick, Audit}
+use Rattle.records.specs.Bytes.{bytes}
+use Rattle.records.specs.Kinds.{kindNumber, dataLength}
+use Rattle.records.specs.Decode.{nameOf}
+
+unfoldable pub credentialBytes : Credential → List ℕ
+credentialBytes Nothing = 0 ∷ replicate 16 0
+credentialBytes (Reference r) = 1 ∷ (bytes 2 r ++ replicate 14 0)
+credentialBytes (KeyCredential high low) = 2 ∷ (bytes 8 high ++ bytes 8 low)
+
+unfoldable pub newKeyBytes : NewKey → List ℕ
+newKeyBytes Absent = 0 ∷ replicate 16 0
+newKeyBytes (Present high low) = 1 ∷ (bytes 8 high ++ bytes 8 low)
+
+-- A call's operands in order, then what follows them.
+unfoldable pub body : Call → List ℕ → List ℕ
+body (Read o) ys = bytes 2 (o .block) ++ (credentialBytes (o .credential) ++ (bytes 4 (o .interval) ++ ys))
+body (Write o) ys = bytes 2 (o .block) ++ (credentialBytes (o .credential) ++ (bytes 4 (o .interval) ++ ys))
+body (Alloc o) ys = bytes 2 (o .reference) ++ (credentialBytes (o .credential) ++ (bytes 2 (o .hint) ++ (bytes 1 (o .count) ++ ys)))
+body (Create o) ys =
+    bytes 2 (o .source) ++ (credentialBytes (o .credential) ++ (bytes 2 (o .destination) ++ (credentialBytes (o .second) ++ ys)))
+body (Delete o) ys = bytes 2 (o .source) ++ (credentialBytes (o .credential) ++ (bytes 2 (o .destination) ++ ys))
+body (Key o) ys = bytes 2 (o .block) ++ (credentialBytes (o .credential) ++ (newKeyBytes (o .read) ++ (newKeyBytes (o .write) ++ ys)))
+body (Renew o) ys =
+    bytes 1 (o .mode) ++ (bytes 2 (o .block) ++ (bytes 8 (o .high) ++ (bytes 8 (o .low) ++ (bytes 4 (o .interval) ++ ys))))
+body (Force o) ys = bytes 2 (o .block) ++ ys
+body Free ys = ys
+body (Tick o) ys = bytes 8 (o .seconds) ++ ys
+body Audit ys = ys
+
+-- A record: the kind, the operands, the data.
+unfoldable pub encode : Port → Call → List ℕ → List ℕ
+encode port call payload = kindNumber port (nameOf call) ∷ body call payload
+
+-- ---- what can be encoded
+
+-- The number fits so many bytes.
+abbrev pub Fits : ℕ → ℕ → Type 0
+Fits n x = x < 256 ^ n
+
+unfoldable pub FitsCredential : Credential → Type 0
+FitsCredential Nothing = Unit {0}
+FitsCredential (Reference r) = Fits 2 r
+FitsCredential (KeyCredential high low) = Fits 8 high × Fits 8 low
+
+unfoldable pub FitsNewKey : NewKey → Type 0
+FitsNewKey Absent = Unit {0}
+FitsNewKey (Present high low) = Fits 8 high × Fits 8 low
+
+-- Each operand fits its width.
+unfoldable pub FitsCall : Call → Type 0
+FitsCall (Read o) = Fits 2 (o .block) × (FitsCredential (o .credential) × Fits 4 (o .interval))
+FitsCall (Write o) = Fits 2 (o .block) × (FitsCredential (o .credential) × Fits 4 (o .interval))
+FitsCall (Alloc o) = Fits 2 (o .reference) × (FitsCredential (o .credential) × (Fits 2 (o .hint) × Fits 1 (o .count)))
+FitsCall (Create o) = Fits 2 (o .source) × (FitsCredential (o .credential) × (Fits 2 (o .destination) × FitsCredential (o .second)))
+FitsCall (Delete o) = Fits 2 (o .source) × (FitsCredential (o .credential) × Fits 2 (o .destination))
+FitsCall (Key o) = Fits 2 (o .block) × (FitsCredential (o .credential) × (FitsNewKey (o .read) × FitsNewKey (o .write)))
+FitsCall (Renew o) = Fits 1 (o .mode) × (Fits 2 (o .block) × (Fits 8 (o .high) × (Fits 8 (o .low) × Fits 4 (o .interval))))
+FitsCall (Force o) = Fits 2 (o .block)
+FitsCall Free = Unit {0}
+FitsCall (Tick o) = Fits 8 (o .seconds)
+FitsCall Audit = Unit {0}

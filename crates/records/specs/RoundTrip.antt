@@ -1,0 +1,256 @@
+-- Decoding an encoded call, whatever follows it, gives the call, its port, its data and what follows.
+-- Assumes nothing.
+use Prim.Native.Nat.{ℕ, zero, suc, _+_, _-_, _≤_, _<_, _^_, _%_}
+use mathlib.Core.Path.{_≡_, refl, sym, ap, _∙_}
+use mathlib.Core.Bool.{Bool, true, false, false≢true}
+use mathlib.Core.List.{List, [], _∷_, _++_, map, append-assoc}
+use native.Mathlib.Omega.{arith}
+use lib.ListN.{length, take, drop, getD, replicate, length-append}
+use lib.Seq.{getD-drop, drop-drop, drop-at, take-at}
+use Rattle.card.specs.Pointers.{contains}
+use Rattle.card.specs.Lists.{any}
+use Rattle.card.specs.declared.Port.{Port}
+use Rattle.card.specs.declared.Port.the-variants.{Host, Service}
+use Rattle.card.specs.declared.Credential.{Credential}
+use Rattle.card.specs.declared.Credential.the-variants.{Nothing, Reference, Key as KeyCredential}
+use Rattle.card.specs.declared.NewKey.{NewKey}
+use Rattle.card.specs.declared.NewKey.the-variants.{Absent, Present}
+use Rattle.card.specs.declared.Call.{Call}
+use Rattle.card.specs.declared.Call.the-variants.{Read, Write, Alloc, Create, Delete, Key, Renew, Force, Free, Tick, Audit}
+use Rattle.records.specs.Bytes.{number, bytes, zeroed}
+use Rattle.records.specs.BytesLaws.{length-bytes, number-bytes}
+use Rattle.records.specs.Kinds.{row, names, kindNumber, lengthOf, dataLength, operandsLength, hasKind, among, kindOf}
+use Rattle.records.specs.Decode.{credential, newKey, decodeCall, decodeBody, nameOf, dataOf, Next, sent, nextOf, decode}
+use Rattle.records.specs.DecodeLaws as laws
+use Rattle.records.specs.Encode.{credentialBytes, newKeyBytes, body, encode, Fits, FitsCredential, FitsNewKey, FitsCall}
+use Rattle.records.specs.declared.Name.{Name}
+use Rattle.records.specs.declared.Name.the-variants.{Read as READ, Write as WRITE, Alloc as ALLOC, Create as CREATE, Delete as DELETE, Key as KEY, Renew as RENEW, Force as FORCE, Free as FREE, Tick as TICK, Audit as AUDIT}
+use Rattle.records.specs.declared.Kind.the-variants.{Known, Unknown}
+use Rattle.records.specs.declared.Presented.the-variants.{Good as Presents}
+use Rattle.records.specs.declared.Replacing.the-variants.{Good as Replaces}
+use Rattle.records.specs.declared.Decoding.{Decoding}
+use Rattle.records.specs.declared.Decoding.the-variants.{Decoded}
+
+-- ---- a list that is n elements, then others
+
+pub record Then (n : ℕ) (xs ys : List ℕ) : Type 0 where
+  pub skip : drop n xs ≡ ys
+  pub long : length xs ≡ n + length ys
+
+then-list : (n : ℕ) (xs ys : List ℕ) → length xs ≡ n → Then n (xs ++ ys) ys
+then-list n xs ys h = record { skip = drop-at xs ys n h; long = omega (arith, length-append xs ys) }
+
+then-more : {m n : ℕ} {xs ys zs : List ℕ} → Then m xs ys → Then n ys zs → Then (m + n) xs zs
+then-more {m} {n} {xs} s t = record {
+  skip = sym (drop-drop n m xs) ∙ (ap (drop n) (s .skip) ∙ t .skip);
+  long = let a = s .long in let b = t .long in omega arith;
+}
+
+then-bytes : (n x : ℕ) (ys : List ℕ) → Then n (bytes n x ++ ys) ys
+then-bytes n x ys = then-list n (bytes n x) ys (length-bytes n x)
+
+-- ---- credentials and new keys
+
+length-credential : (c : Credential) → length (credentialBytes c) ≡ 17
+unfolding credentialBytes bytes
+length-credential Nothing = refl
+length-credential (Reference r) = refl
+length-credential (KeyCredential high low) = refl
+
+then-credential : (c : Credential) (ys : List ℕ) → Then 17 (credentialBytes c ++ ys) ys
+then-credential c ys = then-list 17 (credentialBytes c) ys (length-credential c)
+
+credential-back : (c : Credential) (ys : List ℕ) → FitsCredential c → credential (credentialBytes c ++ ys) ≡ Presents c
+unfolding credential credentialBytes FitsCredential bytes zeroed
+credential-back Nothing ys h = refl
+credential-back (Reference r) ys h = ap (λ n. Presents (Reference n)) (number-bytes 2 r (replicate 14 0 ++ ys) h)
+credential-back (KeyCredential high low) ys h =
+    ap (λ n. Presents (KeyCredential n (number 8 (bytes 8 low ++ ys)))) (number-bytes 8 high (bytes 8 low ++ ys) (h .0))
+    ∙ ap (λ n. Presents (KeyCredential high n)) (number-bytes 8 low ys (h .1))
+
+length-newKey : (k : NewKey) → length (newKeyBytes k) ≡ 17
+unfolding newKeyBytes bytes
+length-newKey Absent = refl
+length-newKey (Present high low) = refl
+
+then-newKey : (k : NewKey) (ys : List ℕ) → Then 17 (newKeyBytes k ++ ys) ys
+then-newKey k ys = then-list 17 (newKeyBytes k) ys (length-newKey k)
+
+newKey-back : (k : NewKey) (ys : List ℕ) → FitsNewKey k → newKey (newKeyBytes k ++ ys) ≡ Replaces k
+unfolding newKey newKeyBytes FitsNewKey bytes zeroed
+newKey-back Absent ys h = refl
+newKey-back (Present high low) ys h =
+    ap (λ n. Replaces (Present n (number 8 (bytes 8 low ++ ys)))) (number-bytes 8 high (bytes 8 low ++ ys) (h .0))
+    ∙ ap (λ n. Replaces (Present high n)) (number-bytes 8 low ys (h .1))
+
+-- ---- where each part of a body starts
+
+-- A part that starts behind n others.
+at : {A : Type 0} (f : List ℕ → A) {n : ℕ} {xs ys : List ℕ} {a : A} → Then n xs ys → f ys ≡ a → f (drop n xs) ≡ a
+at f t e = ap f (t .skip) ∙ e
+
+-- A byte by itself.
+byte-back : (x : ℕ) (ys : List ℕ) → Fits 1 x → getD (bytes 1 x ++ ys) 0 0 ≡ x
+unfolding bytes
+byte-back x ys h = omega arith
+
+byte-at : (n : ℕ) (xs : List ℕ) (x : ℕ) (ys : List ℕ) → Then n xs (bytes 1 x ++ ys) → Fits 1 x → getD xs (n + 0) 0 ≡ x
+byte-at n xs x ys t h = sym (getD-drop n xs 0 0) ∙ at (λ zs. getD zs 0 0) t (byte-back x ys h)
+
+-- The block and its credential, with which most bodies start.
+opened : (b : ℕ) (c : Credential) (ys : List ℕ) → Then 19 (bytes 2 b ++ (credentialBytes c ++ ys)) ys
+opened b c ys = then-more (then-bytes 2 b _) (then-credential c ys)
+
+behind : (call : Call) (ys : List ℕ) → Then (operandsLength (nameOf call)) (body call ys) ys
+unfolding operandsLength lengthOf dataLength row nameOf body
+behind (Read o) ys = then-more (opened _ _ _) (then-bytes 4 _ ys)
+behind (Write o) ys = then-more (opened _ _ _) (then-bytes 4 _ ys)
+behind (Alloc o) ys = then-more (opened _ _ _) (then-more (then-bytes 2 _ _) (then-bytes 1 _ ys))
+behind (Create o) ys = then-more (opened _ _ _) (then-more (then-bytes 2 _ _) (then-credential _ ys))
+behind (Delete o) ys = then-more (opened _ _ _) (then-bytes 2 _ ys)
+behind (Key o) ys = then-more (opened _ _ _) (then-more (then-newKey _ _) (then-newKey _ ys))
+behind (Renew o) ys =
+    then-more (then-bytes 1 _ _)
+    (then-more (then-bytes 2 _ _) (then-more (then-bytes 8 _ _) (then-more (then-bytes 8 _ _) (then-bytes 4 _ ys))))
+behind (Force o) ys = then-bytes 2 _ ys
+behind Free ys = record { skip = refl; long = omega arith }
+behind (Tick o) ys = then-bytes 8 _ ys
+behind Audit ys = record { skip = refl; long = omega arith }
+
+-- ---- each call
+
+decoded : (port : Port) (call : Call) (ys : List ℕ) → FitsCall call → Decoded port call ≡ decodeCall port (nameOf call) (body call ys)
+unfolding FitsCall nameOf body
+decoded port (Read o) ys h =
+    laws.read port _
+    (sym (number-bytes 2 (o .block) _ (h .0)))
+    (sym (at (number 4) (opened (o .block) (o .credential) _) (number-bytes 4 (o .interval) ys (h .1 .1))))
+    refl
+    (at credential (then-bytes 2 (o .block) _) (credential-back (o .credential) _ (h .1 .0)))
+decoded port (Write o) ys h =
+    laws.write port _
+    (sym (number-bytes 2 (o .block) _ (h .0)))
+    (sym (at (number 4) (opened (o .block) (o .credential) _) (number-bytes 4 (o .interval) ys (h .1 .1))))
+    refl
+    (at credential (then-bytes 2 (o .block) _) (credential-back (o .credential) _ (h .1 .0)))
+decoded port (Alloc o) ys h =
+    let hinted = opened (o .reference) (o .credential) (bytes 2 (o .hint) ++ (bytes 1 (o .count) ++ ys)) in
+    laws.alloc port _
+    (sym (number-bytes 2 (o .reference) _ (h .0)))
+    (sym (at (number 2) hinted (number-bytes 2 (o .hint) _ (h .1 .1 .0))))
+    (sym (byte-at 21 _ (o .count) ys (then-more hinted (then-bytes 2 (o .hint) _)) (h .1 .1 .1)))
+    refl
+    (at credential (then-bytes 2 (o .reference) _) (credential-back (o .credential) _ (h .1 .0)))
+decoded port (Create o) ys h =
+    laws.create port _
+    (sym (number-bytes 2 (o .source) _ (h .0)))
+    (sym (at (number 2) (opened (o .source) (o .credential) _) (number-bytes 2 (o .destination) _ (h .1 .1 .0))))
+    refl
+    refl
+    (at credential (then-bytes 2 (o .source) _) (credential-back (o .credential) _ (h .1 .0)))
+    (at credential (then-more (opened (o .source) (o .credential) _) (then-bytes 2 (o .destination) _)) (credential-back (o .second) ys (h .1 .1 .1)))
+decoded port (Delete o) ys h =
+    laws.delete port _
+    (sym (number-bytes 2 (o .source) _ (h .0)))
+    (sym (at (number 2) (opened (o .source) (o .credential) _) (number-bytes 2 (o .destination) ys (h .1 .1))))
+    refl
+    (at credential (then-bytes 2 (o .source) _) (credential-back (o .credential) _ (h .1 .0)))
+decoded port (Key o) ys h =
+    laws.key port _
+    (sym (number-bytes 2 (o .block) _ (h .0)))
+    refl
+    refl
+    refl
+    (at credential (then-bytes 2 (o .block) _) (credential-back (o .credential) _ (h .1 .0)))
+    (at newKey (opened (o .block) (o .credential) _) (newKey-back (o .read) _ (h .1 .1 .0)))
+    (at newKey (then-more (opened (o .block) (o .credential) _) (then-newKey (o .read) _)) (newKey-back (o .write) ys (h .1 .1 .1)))
+decoded port (Renew o) ys h =
+    let t1 = then-bytes 1 (o .mode) (bytes 2 (o .block) ++ (bytes 8 (o .high) ++ (bytes 8 (o .low) ++ (bytes 4 (o .interval) ++ ys)))) in
+    let t3 = then-more t1 (then-bytes 2 (o .block) _) in
+    let t11 = then-more t3 (then-bytes 8 (o .high) _) in
+    let t19 = then-more t11 (then-bytes 8 (o .low) _) in
+    laws.renew port _
+    (sym (byte-back (o .mode) _ (h .0)))
+    (sym (at (number 2) t1 (number-bytes 2 (o .block) _ (h .1 .0))))
+    (sym (at (number 8) t3 (number-bytes 8 (o .high) _ (h .1 .1 .0))))
+    (sym (at (number 8) t11 (number-bytes 8 (o .low) _ (h .1 .1 .1 .0))))
+    (sym (at (number 4) t19 (number-bytes 4 (o .interval) ys (h .1 .1 .1 .1))))
+decoded port (Force o) ys h = laws.force port _ (sym (number-bytes 2 (o .block) ys h))
+decoded port Free ys h = laws.free port ys
+decoded port (Tick o) ys h = laws.tick port _ (sym (number-bytes 8 (o .seconds) ys h))
+decoded port Audit ys h = laws.audit port ys
+
+-- ---- a record
+
+known-kind : (port : Port) (name : Name) → hasKind port name ≡ true → kindOf (kindNumber port name) ≡ Known port name
+unfolding hasKind contains any kindOf among names kindNumber row
+known-kind Host READ e = refl
+known-kind Host WRITE e = refl
+known-kind Host ALLOC e = refl
+known-kind Host CREATE e = refl
+known-kind Host DELETE e = refl
+known-kind Host KEY e = refl
+known-kind Host RENEW e = refl
+known-kind Host FORCE e = refl
+known-kind Host FREE e = refl
+known-kind Host TICK e = refl
+known-kind Host AUDIT e = refl
+known-kind Service READ e = refl
+known-kind Service WRITE e = refl
+known-kind Service ALLOC e = refl
+known-kind Service CREATE e = refl
+known-kind Service DELETE e = refl
+known-kind Service KEY e = refl
+known-kind Service RENEW e = absurd (false≢true e)
+known-kind Service FORCE e = absurd (false≢true e)
+known-kind Service FREE e = absurd (false≢true e)
+known-kind Service TICK e = absurd (false≢true e)
+known-kind Service AUDIT e = absurd (false≢true e)
+
+-- A body is its operands, then its data.
+parts : (name : Name) → operandsLength name + dataLength name ≡ lengthOf name
+unfolding operandsLength lengthOf dataLength row
+parts READ = refl
+parts WRITE = refl
+parts ALLOC = refl
+parts CREATE = refl
+parts DELETE = refl
+parts KEY = refl
+parts RENEW = refl
+parts FORCE = refl
+parts FREE = refl
+parts TICK = refl
+parts AUDIT = refl
+
+body-append : (call : Call) (ys zs : List ℕ) → body call ys ++ zs ≡ body call (ys ++ zs)
+unfolding body
+body-append (Read o) ys zs = simp append-assoc
+body-append (Write o) ys zs = simp append-assoc
+body-append (Alloc o) ys zs = simp append-assoc
+body-append (Create o) ys zs = simp append-assoc
+body-append (Delete o) ys zs = simp append-assoc
+body-append (Key o) ys zs = simp append-assoc
+body-append (Renew o) ys zs = simp append-assoc
+body-append (Force o) ys zs = simp append-assoc
+body-append Free ys zs = refl
+body-append (Tick o) ys zs = simp append-assoc
+body-append Audit ys zs = refl
+
+module _
+    (port : Port)
+    (call : Call)
+    (payload rest : List ℕ)
+    (has : hasKind port (nameOf call) ≡ true)
+    (fits : FitsCall call)
+    (sized : length payload ≡ dataLength (nameOf call))
+  where
+    all-of-it : Then (lengthOf (nameOf call)) (body call (payload ++ rest)) rest
+    all-of-it = rw parts at (then-more (behind call (payload ++ rest)) (then-list (dataLength (nameOf call)) payload rest sized))
+
+    pub round-trip : decode (encode port call payload ++ rest) ≡ sent port call payload rest
+    unfolding decode encode nextOf dataOf
+    round-trip =
+        let xs = body call (payload ++ rest) in
+        let enough : lengthOf (nameOf call) ≤ length xs = omega (arith, all-of-it .long) in
+        let call-is = laws.whole (kindNumber port (nameOf call)) xs refl (known-kind port (nameOf call) has) refl enough (decoded port call (payload ++ rest) fits) in
+        rw (body-append, ← call-is, all-of-it .skip, behind call (payload ++ rest) .skip, take-at payload rest _ sized)
