@@ -1,7 +1,7 @@
 -- The walk of the pointers in use: what is left to pass, and what the tally has.
 -- Assumes nothing.
 use Prim.Native.Nat.{ℕ, suc, _+_, _≤_, _<_, zero-le}
-use mathlib.Core.Path.{_≡_, refl, sym, ap, _∙_}
+use mathlib.Core.Path.{_≡_, refl, sym, _∙_}
 use mathlib.Core.Logic.{⊎-elim}
 use mathlib.Core.Bool.{Bool, true, false, _&&_, cond}
 use mathlib.Core.List.{List, [], _∷_}
@@ -13,7 +13,7 @@ use lib.Seq.{drop-cons, getD-set-same, getD-set-other, getD-take, length-take-le
 use borrow.Author.Tests.{eq-eqb, ne-eqb, eqb-true, eqb-false}
 use Rattle.card.specs.ListsLaws.{not-cases, and-left, absurd-test}
 use Rattle.card.specs.Pointers.{destination, pointersTo}
-use Rattle.card.specs.Card.{Public, allocated, inUse}
+use Rattle.card.specs.Card.{allocated}
 use Rattle.card.specs.Soundness.{pointerRight}
 use Rattle.card.specs.SoundnessLaws.{allocated-below, pointerRight-true}
 use Rattle.card.specs.declared.Info.{Info}
@@ -27,7 +27,7 @@ pub record Walking (right : ℕ → Bool) (ws tally : List ℕ) (least i : ℕ) 
   pub low : (b : ℕ) → b < 4096 → getD tally b 0 ≤ i
   pub tallied : (b : ℕ) → b < 4096 → getD tally b 0 + pointersTo b (drop i ws) ≡ pointersTo b ws
 
-pub walking-none : (right : ℕ → Bool) (ws : List ℕ) → Walking right ws (replicate 4096 0) 0 0
+walking-none : (right : ℕ → Bool) (ws : List ℕ) → Walking right ws (replicate 4096 0) 0 0
 walking-none right ws =
     record {
       most = zero-le;
@@ -49,7 +49,7 @@ bumped tally d b l =
     (λ (e : eqb d b ≡ false). rw (e, getD-set-other tally d b _ 0 (λ q. eqb-false d b e (sym q))) (omega arith))
     (not-cases (eqb d b))
 
-pub walking-more : {right : ℕ → Bool} {ws tally : List ℕ} {least i : ℕ} (w : ℕ) → Walking right ws tally least i → i < length ws → w ≡ getD ws i 0
+walking-more : {right : ℕ → Bool} {ws tally : List ℕ} {least i : ℕ} (w : ℕ) → Walking right ws tally least i → i < length ws → w ≡ getD ws i 0
     → right w && leb least w ≡ true → destination w < 4096
     → Walking right ws (set tally (destination w) (getD tally (destination w) 0 + 1)) (w + 1) (i + 1)
 unfolding passes pointersTo
@@ -64,16 +64,16 @@ walking-more {right} {ws} {tally} {least} {i} w h l q e d =
       tallied = λ b m. rw (bumped tally (destination w) b long, add-one i) (omega (arith, rw here at (h .tallied b m)));
     }
 
-pub walking-fault : {right : ℕ → Bool} {ws tally : List ℕ} {least i : ℕ} (w : ℕ) → Walking right ws tally least i → i < length ws → w ≡ getD ws i 0
+walking-fault : {right : ℕ → Bool} {ws tally : List ℕ} {least i : ℕ} (w : ℕ) → Walking right ws tally least i → i < length ws → w ≡ getD ws i 0
     → right w && leb least w ≡ false → passes right 0 ws ≡ false
 unfolding passes
 walking-fault {right} {ws} {tally} {least} {i} w h l q e = sym (rw (drop-cons ws i 0 l, ← q, e) at (h .rest))
 
-pub walking-whole : {right : ℕ → Bool} {ws tally : List ℕ} {least i : ℕ} → Walking right ws tally least i → length ws ≤ i → passes right 0 ws ≡ true
+walking-whole : {right : ℕ → Bool} {ws tally : List ℕ} {least i : ℕ} → Walking right ws tally least i → length ws ≤ i → passes right 0 ws ≡ true
 unfolding passes
 walking-whole {right} {ws} {tally} {least} {i} h l = sym (rw (drop-of-length-le ws l) at (h .rest))
 
-pub walking-tallied : {right : ℕ → Bool} {ws tally : List ℕ} {least i : ℕ} → Walking right ws tally least i → length ws ≤ i
+walking-tallied : {right : ℕ → Bool} {ws tally : List ℕ} {least i : ℕ} → Walking right ws tally least i → length ws ≤ i
     → (b : ℕ) → b < 4096 → getD tally b 0 ≡ pointersTo b ws
 unfolding pointersTo
 walking-tallied {right} {ws} {tally} {least} {i} h l b m = omega (arith, rw (drop-of-length-le ws l) at (h .tallied b m))

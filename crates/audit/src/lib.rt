@@ -17,14 +17,17 @@ use card::Verdict;
 fn in_ranges(blocks: usize, roots: usize, bytes: usize) -> bool
     ensures { λ r. ⌜ r ≡ ranges blocks roots bytes ⌝ }
 {
-    // A divisor below.
+    // `bytes` is a divisor below.
     if bytes < 512 {
         return false;
     }
     (16 <= blocks)
-        & ((blocks <= 4096)
-            & ((1 <= roots)
-                & ((roots <= 8) & ((512 <= bytes) & ((bytes <= 65536) & (65536 % bytes == 0))))))
+        & (blocks <= 4096)
+        & (1 <= roots)
+        & (roots <= 8)
+        & (512 <= bytes)
+        & (bytes <= 65536)
+        & (65536 % bytes == 0)
 }
 
 fn has_lengths(
@@ -42,14 +45,14 @@ fn has_lengths(
     let blocks = info.blocks;
     let places = pointers.len();
     (info.time < 1099511627776)
-        & (((flags.len() == blocks)
-            & ((keys.len() == 4 * blocks)
-                & ((counts.len() == blocks)
-                    & ((1 <= places)
-                        & ((places <= 16384)
-                            & ((windows.len() == 2 * blocks)
-                                & (contents.len() == blocks * info.bytes)))))))
-            & (info.used <= places))
+        & (flags.len() == blocks)
+        & (keys.len() == 4 * blocks)
+        & (counts.len() == blocks)
+        & (1 <= places)
+        & (places <= 16384)
+        & (windows.len() == 2 * blocks)
+        & (contents.len() == blocks * info.bytes)
+        & (info.used <= places)
 }
 
 fn shaped(
@@ -90,12 +93,14 @@ fn pointer_right(info: Info, flags: &[u8], w: u32) -> bool
     let source = (w / 65536) as usize;
     let destination = (w % 65536) as usize;
     is_allocated(info, flags, source)
-        & (is_allocated(info, flags, destination)
-            & (!(destination < info.roots) & !(source == destination)))
+        & is_allocated(info, flags, destination)
+        & !(destination < info.roots)
+        & !(source == destination)
 }
 
 // Whether the pointers in use ascend and are right. If so, each block's place of the tally has
-// the number of pointers to it. `least` is the least word that the next pointer may be.
+// the number of pointers to it; else the tally says nothing. `least` is the least word that the
+// next pointer may be.
 fn walk_pointers(info: Info, flags: &[u8], pointers: &[u32], tally: &mut [u16; 4096]) -> bool
     requires { ⌜ PointersFit info (now flags) (now pointers) ⌝ ∗ ⌜ now tally ≡ replicate 4096 0 ⌝ }
     ensures { λ r. ⌜ PointersWalked (pointing info (now (flags .entry)) (now (pointers .entry))) r (now (tally .exit)) ⌝ }
@@ -150,24 +155,31 @@ fn block_sound(
 {
     let flag = flags[b];
     let count = counts[b];
-    let reading = windows[2 * b];
-    let writing = windows[2 * b + 1];
+    let window = 2 * b;
+    let reading = windows[window];
+    let writing = windows[window + 1];
     let root = b < info.roots;
     let held = flag % 2 == 1;
-    let no_read_key = (keys[4 * b] == 0) & (keys[4 * b + 1] == 0);
-    let no_write_key = (keys[4 * b + 2] == 0) & (keys[4 * b + 2 + 1] == 0);
+    let read = 4 * b;
+    let write = 4 * b + 2;
+    let zero_read = (keys[read] == 0) & (keys[read + 1] == 0);
+    let zero_write = (keys[write] == 0) & (keys[write + 1] == 0);
+    let empty = (flag == 0)
+        & zero_read
+        & zero_write
+        & (count == 0)
+        & (reading == 0)
+        & (writing == 0);
     let latest = info.time + 86400;
     (flag < 8)
-        & ((!root | held)
-            & ((held
-                | ((flag == 0)
-                    & (no_read_key
-                        & (no_write_key & ((count == 0) & ((reading == 0) & (writing == 0)))))))
-                & (((flag / 2 % 2 == 1) | no_read_key)
-                    & (((flag / 4 % 2 == 1) | no_write_key)
-                        & ((count == tallied)
-                            & ((root | !held | (1 <= count))
-                                & ((reading <= latest) & (writing <= latest))))))))
+        & (!root | held)
+        & (held | empty)
+        & ((flag / 2 % 2 == 1) | zero_read)
+        & ((flag / 4 % 2 == 1) | zero_write)
+        & (count == tallied)
+        & (root | !held | (1 <= count))
+        & (reading <= latest)
+        & (writing <= latest)
 }
 
 fn walk_blocks(
@@ -221,6 +233,7 @@ fn walk(
     }
 }
 
+// The verdict on a record and tables of any lengths and contents.
 pub fn audit(
     info: Info,
     flags: &[u8],

@@ -14,74 +14,62 @@ mul-count c = search needs
 shared-slice-read-count : tie.Need-shared-slice-read-count
 shared-slice-read-count c = search needs
 
+mul-window : tie.Need-mul-window
+mul-window c = search needs
+
 mul-reading : tie.Need-mul-reading
 mul-reading c = search needs
-
-mul-reading-2 : tie.Need-mul-reading-2
-mul-reading-2 c = search needs
 
 shared-slice-read-reading : tie.Need-shared-slice-read-reading
 shared-slice-read-reading c = search needs
 
-mul-writing : tie.Need-mul-writing
-mul-writing c = search needs
-
 add-writing : tie.Need-add-writing
 add-writing c = search needs
 
-mul-writing-2 : tie.Need-mul-writing-2
-mul-writing-2 c = search needs
+mul-writing : tie.Need-mul-writing
+mul-writing c = search needs
 
 shared-slice-read-writing : tie.Need-shared-slice-read-writing
 shared-slice-read-writing c = search needs
 
-mul-no-read-key : tie.Need-mul-no-read-key
-mul-no-read-key c = search needs
+mul-read : tie.Need-mul-read
+mul-read c = search needs
 
-mul-no-read-key-2 : tie.Need-mul-no-read-key-2
-mul-no-read-key-2 c = search needs
+mul-write : tie.Need-mul-write
+mul-write c = search needs
 
-shared-slice-read-no-read-key : tie.Need-shared-slice-read-no-read-key
-shared-slice-read-no-read-key c = search needs
+add-write : tie.Need-add-write
+add-write c = search needs
 
-mul-no-read-key-3 : tie.Need-mul-no-read-key-3
-mul-no-read-key-3 c = search needs
+mul-zero-read : tie.Need-mul-zero-read
+mul-zero-read c = search needs
 
-add-no-read-key : tie.Need-add-no-read-key
-add-no-read-key c = search needs
+shared-slice-read-zero-read : tie.Need-shared-slice-read-zero-read
+shared-slice-read-zero-read c = search needs
 
-mul-no-read-key-4 : tie.Need-mul-no-read-key-4
-mul-no-read-key-4 c = search needs
+add-zero-read : tie.Need-add-zero-read
+add-zero-read c = search needs
 
-shared-slice-read-no-read-key-2 : tie.Need-shared-slice-read-no-read-key-2
-shared-slice-read-no-read-key-2 c = search needs
+mul-zero-read-2 : tie.Need-mul-zero-read-2
+mul-zero-read-2 c = search needs
 
-mul-no-write-key : tie.Need-mul-no-write-key
-mul-no-write-key c = search needs
+shared-slice-read-zero-read-2 : tie.Need-shared-slice-read-zero-read-2
+shared-slice-read-zero-read-2 c = search needs
 
-add-no-write-key : tie.Need-add-no-write-key
-add-no-write-key c = search needs
+mul-zero-write : tie.Need-mul-zero-write
+mul-zero-write c = search needs
 
-mul-no-write-key-2 : tie.Need-mul-no-write-key-2
-mul-no-write-key-2 c = search needs
+shared-slice-read-zero-write : tie.Need-shared-slice-read-zero-write
+shared-slice-read-zero-write c = search needs
 
-shared-slice-read-no-write-key : tie.Need-shared-slice-read-no-write-key
-shared-slice-read-no-write-key c = search needs
+add-zero-write : tie.Need-add-zero-write
+add-zero-write c = search needs
 
-mul-no-write-key-3 : tie.Need-mul-no-write-key-3
-mul-no-write-key-3 c = search needs
+mul-zero-write-2 : tie.Need-mul-zero-write-2
+mul-zero-write-2 c = search needs
 
-add-no-write-key-2 : tie.Need-add-no-write-key-2
-add-no-write-key-2 c = search needs
-
-add-no-write-key-3 : tie.Need-add-no-write-key-3
-add-no-write-key-3 c = search needs
-
-mul-no-write-key-4 : tie.Need-mul-no-write-key-4
-mul-no-write-key-4 c = search needs
-
-shared-slice-read-no-write-key-2 : tie.Need-shared-slice-read-no-write-key-2
-shared-slice-read-no-write-key-2 c = search needs
+shared-slice-read-zero-write-2 : tie.Need-shared-slice-read-zero-write-2
+shared-slice-read-zero-write-2 c = search needs
 
 add-latest : tie.Need-add-latest
 add-latest c = search needs
@@ -96,28 +84,24 @@ block-sound-spec =
     shared-slice-read-flag
     mul-count
     shared-slice-read-count
+    mul-window
     mul-reading
-    mul-reading-2
     shared-slice-read-reading
-    mul-writing
     add-writing
-    mul-writing-2
+    mul-writing
     shared-slice-read-writing
-    mul-no-read-key
-    mul-no-read-key-2
-    shared-slice-read-no-read-key
-    mul-no-read-key-3
-    add-no-read-key
-    mul-no-read-key-4
-    shared-slice-read-no-read-key-2
-    mul-no-write-key
-    add-no-write-key
-    mul-no-write-key-2
-    shared-slice-read-no-write-key
-    mul-no-write-key-3
-    add-no-write-key-2
-    add-no-write-key-3
-    mul-no-write-key-4
-    shared-slice-read-no-write-key-2
+    mul-read
+    mul-write
+    add-write
+    mul-zero-read
+    shared-slice-read-zero-read
+    add-zero-read
+    mul-zero-read-2
+    shared-slice-read-zero-read-2
+    mul-zero-write
+    shared-slice-read-zero-write
+    add-zero-write
+    mul-zero-write-2
+    shared-slice-read-zero-write-2
     add-latest
     returns)

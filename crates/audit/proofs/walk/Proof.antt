@@ -1,5 +1,5 @@
 -- `audit::walk` judges a card of the right shape. Assumes nothing.
-use borrow.Author.Needs.{needs}
+use mathlib.Core.Path.{refl}
 use mathlib.Core.List.{[]}
 use Rattle.card.specs.Card.{card}
 use Rattle.audit.proofs.Whole.{fault-pointers, fault-unused, whole}
@@ -7,13 +7,13 @@ use Rattle.audit.proofs.walk.Statement.{statement}
 use Rattle.audit.proofs.walk.Tie as tie
 
 walk-pointers-requires : tie.Need-walk-pointers-requires
-walk-pointers-requires c κs = search needs
+walk-pointers-requires c κs = (c .before .before .before .before .before .before .pre .0, refl)
 
 walk-unused-requires : tie.Need-walk-unused-requires
-walk-unused-requires c κs = search needs
+walk-unused-requires c κs = c .before .before .before .before .before .before .before .before .pre .0 .usedHigh
 
 walk-blocks-requires : tie.Need-walk-blocks-requires
-walk-blocks-requires c κs = search needs
+walk-blocks-requires c κs = c .before .before .before .before .before .before .before .before .before .before .before .pre .1
 
 returns : tie.Need-returns
 returns c = let a = c .before .before .before .before .before .before .before .before .before .before .before .before .args in let k = card (a .info) (a .flags .now) (a .keys .now) (a .counts .now) (a .pointers .now) (a .windows .now) ([]) in whole k _ _ _ _ (c .before .before .before .before .before .before .before .before .before .before .before .before .pre .0 .blocksHigh) (c .before .before .before .before .before .walk-pointers .ensures) (c .before .before .before .before .if1 .taken) (c .before .before .before .walk-unused .ensures) (c .before .before .if2 .taken) (c .walk-blocks .ensures)

@@ -38,7 +38,7 @@ element-copy-out-tally : tie.Need-element-copy-out-tally Inv-walk μ-walk
 element-copy-out-tally c = placed (c .before .before .before .before .before .before .before .pre .0) _ _ _ (c .before .pointer-right .ensures) (c .if1 .taken)
 
 add-tally : tie.Need-add-tally Inv-walk μ-walk
-add-tally c = omega (arith, room (c .before .before .before .before .before .before .before .before .pre .0) (c .before .before .before .before .before .walk .inv) _ (placed (c .before .before .before .before .before .before .before .before .pre .0) _ _ _ (c .before .before .pointer-right .ensures) (c .before .if1 .taken)) (c .before .before .before .before .walk-test .taken))
+add-tally c = omega (arith, room (c .before .before .before .before .before .before .before .before .pre .0) (c .before .before .before .before .before .walk .inv) _ (placed (c .before .before .before .before .before .before .before .before .pre .0) _ _ _ (c .before .before .pointer-right .ensures) (c .before .if1 .taken)) (omega arith))
 
 element-write-tally : tie.Need-element-write-tally Inv-walk μ-walk
 element-write-tally c = placed (c .before .before .before .before .before .before .before .before .pre .0) _ _ _ (c .before .before .pointer-right .ensures) (c .before .if1 .taken)
@@ -56,7 +56,7 @@ walk-less : tie.Need-walk-less Inv-walk μ-walk
 walk-less c = search needs
 
 walk-again : tie.Need-walk-again Inv-walk μ-walk
-walk-again c = walk-more (c .before .before .before .before .before .before .before .before .pre .0) (c .before .before .before .before .before .walk .inv) _ (c .before .before .pointer-right .ensures) (c .before .before .before .before .walk-test .taken) (c .before .if1 .taken)
+walk-again c = walk-more (c .before .before .before .before .before .before .before .before .pre .0) (c .before .before .before .before .before .walk .inv) _ (c .before .before .pointer-right .ensures) (omega arith) (c .before .if1 .taken)
 
 returns : tie.Need-returns Inv-walk μ-walk
 returns c = let fit = c .before .before .before .before .pre .0 in let h = c .before .walk .inv in ⊎-elim (λ w. walk-whole fit h (w .left)) (λ w. walk-fault fit h _ (w .2 .ensures) (w .0 .taken) (w .3 .left)) (c .walk-test .came)

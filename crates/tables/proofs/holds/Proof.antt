@@ -2,7 +2,6 @@
 -- Assumes nothing.
 use native.Mathlib.Omega.{arith}
 use lib.Dec.{eqb}
-use borrow.Author.Needs.{needs}
 use Rattle.tables.specs.RankLaws.{contains-rank}
 use Rattle.tables.proofs.Search.{look-found, look-missed}
 use Rattle.tables.proofs.holds.Statement.{statement}
