@@ -34,7 +34,7 @@ use Rattle.card.specs.declared.Answer.the-variants.{Refused, Done, Value
 -- ---- the numbers of refusals and answers
 
 -- Document 01's number of a refusal.
-unfoldable pub refusalNumber : Refusal → ℕ
+abbrev pub refusalNumber : Refusal → ℕ
 refusalNumber Misshapen = 1
 refusalNumber Unsound = 2
 refusalNumber NotAllocated = 3
@@ -50,13 +50,13 @@ refusalNumber TimeEnds = 12
 refusalNumber BadRecord = 13
 
 -- An answer's number, 0 for done.
-unfoldable pub answerNumber : Answer → ℕ
+abbrev pub answerNumber : Answer → ℕ
 answerNumber (Refused r) = refusalNumber r
 answerNumber Done = 0
 answerNumber (Value v) = 0
 
 -- The values that an answer carries by itself.
-unfoldable pub answerValues : Answer → List ℕ
+abbrev pub answerValues : Answer → List ℕ
 answerValues (Refused r) = []
 answerValues Done = []
 answerValues (Value v) = v ∷ []

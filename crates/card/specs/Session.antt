@@ -89,7 +89,7 @@ hostSession qs = map sentByHost qs
 -- ---- what a player reports
 
 -- The values that a done call leaves in a lent buffer and a player reports: READ's first 8 bytes, ALLOC's numbers.
-unfoldable pub shownValues : Call → Reply → List ℕ
+abbrev pub shownValues : Call → Reply → List ℕ
 shownValues (Read o) r = take 8 (r .out)
 shownValues (Write o) r = []
 shownValues (Alloc o) r = take (o .count) (r .places)
