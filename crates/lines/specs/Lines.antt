@@ -3,6 +3,8 @@ use Prim.Native.Nat.{ℕ, zero, suc, _+_, _/_, _%_}
 use mathlib.Core.Bool.{Bool, true, false, cond}
 use mathlib.Core.List.{List, [], _∷_, _++_}
 use lib.Dec.{ltb}
+use Rattle.card.specs.Session.{Reply, reported}
+use Rattle.card.specs.declared.Call.{Call}
 
 abbrev pub space : ℕ
 space = 32
@@ -28,6 +30,14 @@ unfoldable pub spaced : List ℕ → List ℕ
 spaced [] = []
 spaced (n ∷ ns) = space ∷ (decimal n ++ spaced ns)
 
--- Document 01, "A line, single spaces between and a newline after".
-unfoldable pub line : ℕ → List ℕ → List ℕ
-line ordinal values = decimal ordinal ++ (spaced values ++ (newline ∷ []))
+-- Document 01, "A line, single spaces between and a newline after: ordinal, kind, answer (0 done), results if done".
+unfoldable pub line : ℕ → ℕ → Call → Reply → List ℕ
+line ordinal kind call r = decimal ordinal ++ (spaced (kind ∷ reported call r) ++ (newline ∷ []))
+
+-- No line is longer than this.
+abbrev pub lineRoom : ℕ
+lineRoom = 2048
+
+-- Document 01, "Last line: `end`, records before the end or the 13, then 0 or 13."
+unfoldable pub lastLine : ℕ → ℕ → List ℕ
+lastLine records number = (101 ∷ 110 ∷ 100 ∷ []) ++ (spaced (records ∷ number ∷ []) ++ (newline ∷ []))
