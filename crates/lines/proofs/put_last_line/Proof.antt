@@ -1,0 +1,50 @@
+-- `lines::put_last_line` meets its contract. Assumes nothing.
+use Prim.Native.Nat.{_+_, _≤_}
+use native.Mathlib.Omega.{arith}
+use lib.ListN.{length}
+use Rattle.lines.specs.AnswersLaws.{room-behind, room-spaced, last-line-written}
+use borrow.Author.Needs.{needs}
+use Rattle.lines.proofs.put_last_line.Statement.{statement}
+use Rattle.lines.proofs.put_last_line.Tie as tie
+
+slice-aggregate-put-text : tie.Need-slice-aggregate-put-text
+slice-aggregate-put-text c = search needs
+
+put-text-requires : tie.Need-put-text-requires
+put-text-requires c κs = search needs
+
+put-spaced-requires : tie.Need-put-spaced-requires
+put-spaced-requires c κs = search needs
+
+put-spaced-requires-2 : tie.Need-put-spaced-requires-2
+put-spaced-requires-2 c κs =
+    let fits : c .before .before .before .before .before .before .before .before .before .before .before .args .at + 3 + 2045 ≤ length (c .before .before .before .before .before .before .before .before .before .before .before .args .to .now) = omega (arith, c .before .before .before .before .before .before .before .before .before .before .before .pre) in
+    let more : c .before .before .before .before .before .before .before .put-text .result + 21 + 2024 ≤ length (c .before .before .before .before .before .before .before .put-text .last .0) = omega (arith, room-behind 3 2045 (c .before .before .before .before .before .before .before .put-text .ensures) (omega arith) fits) in
+    omega (arith, room-spaced _ 2024 (c .before .before .before .put-spaced .ensures) more)
+
+put-byte-requires : tie.Need-put-byte-requires
+put-byte-requires c κs =
+    let fits : c .before .before .before .before .before .before .before .before .before .before .before .before .before .before .before .args .at + 3 + 2045 ≤ length (c .before .before .before .before .before .before .before .before .before .before .before .before .before .before .before .args .to .now) = omega (arith, c .before .before .before .before .before .before .before .before .before .before .before .before .before .before .before .pre) in
+    let more : c .before .before .before .before .before .before .before .before .before .before .before .put-text .result + 21 + 2024 ≤ length (c .before .before .before .before .before .before .before .before .before .before .before .put-text .last .0) = omega (arith, room-behind 3 2045 (c .before .before .before .before .before .before .before .before .before .before .before .put-text .ensures) (omega arith) fits) in
+    let last : c .before .before .before .before .before .before .before .put-spaced .result + 21 + 2003 ≤ length (c .before .before .before .before .before .before .before .put-spaced .last .0) = omega (arith, room-spaced _ 2024 (c .before .before .before .before .before .before .before .put-spaced .ensures) more) in
+    omega (arith, room-spaced _ 2003 (c .before .before .before .put-spaced2 .ensures) last)
+
+same-length : tie.Need-same-length
+same-length c = search needs
+
+returns : tie.Need-returns
+returns c =
+    last-line-written (c .before .before .before .before .before .before .before .before .before .before .before .before .before .before .before .before .before .before .args .records) (c .before .before .before .before .before .before .before .before .before .before .before .before .before .before .before .before .before .before .args .number) (c .before .before .before .before .before .before .before .before .before .before .before .before .before .before .before .before .before .before .pre)
+    (c .before .before .before .before .before .before .before .before .before .before .before .before .before .before .put-text .ensures) (c .before .before .before .before .before .before .before .before .before .before .put-spaced .ensures) (c .before .before .before .before .before .before .put-spaced2 .ensures) (c .before .before .put-byte .ensures)
+
+pub put-last-line-spec : {M : Type 1} → statement M
+put-last-line-spec =
+    tie.close
+    (tie.spec
+    slice-aggregate-put-text
+    put-text-requires
+    put-spaced-requires
+    put-spaced-requires-2
+    put-byte-requires
+    same-length
+    returns)

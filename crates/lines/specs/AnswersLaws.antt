@@ -1,0 +1,156 @@
+-- Laws of a line that is written piece by piece.
+-- Assumes nothing.
+use Prim.Native.Nat.{ℕ, zero, suc, _+_, _*_, _≤_, _<_}
+use mathlib.Core.Path.{_≡_, refl, sym, ap, _∙_, subst}
+use mathlib.Core.Bool.{Bool, true, false, cond}
+use mathlib.Core.List.{List, [], _∷_, _++_, append-assoc, append-nil}
+use native.Mathlib.Omega.{arith}
+use lib.Dec.{eqb}
+use lib.ListN.{length, length-append, take, length-take}
+use Rattle.card.specs.Calls.{refusalNumber, answerNumber, answerValues}
+use Rattle.card.specs.Session.{Reply, reported, shownValues}
+use Rattle.card.specs.declared.Refusal.{Refusal}
+use Rattle.card.specs.declared.Refusal.the-variants.{Misshapen, Unsound, NotAllocated, BadOperand, NotOpened, IsRoot, PointerExists, NoPointer, HasPointers, TooFewBlocks, TooFewPlaces, TimeEnds, BadRecord}
+use Rattle.card.specs.declared.Answer.{Answer}
+use Rattle.card.specs.declared.Answer.the-variants.{Refused, Done, Value}
+use Rattle.card.specs.declared.Call.{Call}
+use Rattle.lines.specs.declared.Shown.{Shown}
+use Rattle.lines.specs.declared.Shown.the-variants.{Nothing, Bytes, Blocks}
+use Rattle.lines.specs.Lines.{space, newline, decimal, spaced, line, lastLine}
+use Rattle.lines.specs.LinesLaws.{decimal-length, spaced-one, spaced-length, spaced-append}
+use Rattle.lines.specs.Replied.{Lent, shownBy, valuesOf, replied, values-shown}
+use Rattle.lines.specs.Written.{Written, written-join, written-length}
+
+-- ---- room
+
+-- Behind what was written there is room for what else there was room for.
+pub room-behind : {before after : List ℕ} {at behind : ℕ} {ys : List ℕ} (most k : ℕ) → Written before at ys after behind → length ys ≤ most → at + most + k ≤ length before
+    → behind + k ≤ length after
+room-behind most k w short h = omega (arith, w .ends, written-length w (omega arith))
+
+pub room-spaced : {before after : List ℕ} {at behind : ℕ} (n k : ℕ) → Written before at (space ∷ decimal n) after behind → at + 21 + k ≤ length before → behind + k ≤ length after
+room-spaced n k w h = room-behind 21 k w (spaced-one n) h
+
+-- Four pieces written one behind the other, of at most so many bytes each.
+four-written : {before one two three after : List ℕ} {at next behind last end : ℕ} {ws xs ys zs : List ℕ} (k l m n : ℕ)
+    → Written before at ws one next → Written one next xs two behind → Written two behind ys three last → Written three last zs after end
+    → length ws ≤ k → length xs ≤ l → length ys ≤ m → length zs ≤ n → at + k + l + m + n ≤ length before
+    → Written before at (ws ++ (xs ++ (ys ++ zs))) after end
+four-written {before} {one} {two} {at = at} {next = next} {behind = behind} {ws = ws} {xs = xs} {ys = ys} {zs = zs} k l m n a b c d hw hx hy hz h =
+    let room-1 : next + (l + m + n) ≤ length one = room-behind k (l + m + n) a hw (omega arith) in
+    let room-2 : behind + (m + n) ≤ length two = room-behind l (m + n) b hx (omega arith) in
+    let inner : length (ys ++ zs) ≤ m + n = omega (arith, length-append ys zs) in
+    let outer : length (xs ++ (ys ++ zs)) ≤ l + m + n = omega (arith, length-append xs (ys ++ zs)) in
+    written-join a (written-join b (written-join c d (omega arith)) (omega arith)) (omega arith)
+
+-- No more than 64 numbers are shown.
+values-few : (shown : Shown) {out places : List ℕ} → Lent out places → length (valuesOf shown out places) ≤ 64
+values-few Nothing lent = omega arith
+values-few Bytes {out} lent = omega (arith, length-take 8 out)
+values-few (Blocks n) {places = places} lent = omega (arith, length-take n places, lent .numbers)
+
+pub values-length : (shown : Shown) {out places : List ℕ} → Lent out places → length (spaced (valuesOf shown out places)) ≤ 1344
+values-length shown {out} {places} lent = omega (arith, spaced-length (valuesOf shown out places), values-few shown lent)
+
+-- ---- what is reported
+
+pub reported-refused : (call : Call) (r : Refusal) (out places : List ℕ) → reported call (replied (Refused r) out places) ≡ refusalNumber r ∷ []
+unfolding reported
+reported-refused call Misshapen out places = refl
+reported-refused call Unsound out places = refl
+reported-refused call NotAllocated out places = refl
+reported-refused call BadOperand out places = refl
+reported-refused call NotOpened out places = refl
+reported-refused call IsRoot out places = refl
+reported-refused call PointerExists out places = refl
+reported-refused call NoPointer out places = refl
+reported-refused call HasPointers out places = refl
+reported-refused call TooFewBlocks out places = refl
+reported-refused call TooFewPlaces out places = refl
+reported-refused call TimeEnds out places = refl
+reported-refused call BadRecord out places = refl
+
+pub reported-done : (call : Call) (out places : List ℕ) → reported call (replied Done out places) ≡ 0 ∷ valuesOf (shownBy call) out places
+unfolding reported
+reported-done call out places = ap (λ (xs : List ℕ). 0 ∷ xs) (values-shown call (replied Done out places))
+
+pub reported-value : (call : Call) (v : ℕ) (out places : List ℕ) → reported call (replied (Value v) out places) ≡ 0 ∷ (v ∷ valuesOf (shownBy call) out places)
+unfolding reported
+reported-value call v out places = ap (λ (xs : List ℕ). 0 ∷ (v ∷ xs)) (values-shown call (replied (Value v) out places))
+
+spaced-cons : (n : ℕ) (ns : List ℕ) → spaced (n ∷ ns) ≡ (space ∷ decimal n) ++ spaced ns
+unfolding spaced
+spaced-cons n ns = refl
+
+spaced-single : (n : ℕ) → spaced (n ∷ []) ≡ space ∷ decimal n
+unfolding spaced
+spaced-single n = ap (λ (xs : List ℕ). space ∷ xs) (append-nil (decimal n))
+
+-- ---- an answer
+
+module _ (call : Call) (answer : Answer) (out places : List ℕ) where
+  pub answered-refused : {before after : List ℕ} {at behind n : ℕ} (r : Refusal) → answer ≡ Refused r → n ≡ refusalNumber r → Written before at (space ∷ decimal n) after behind
+      → Written before at (spaced (reported call (replied answer out places))) after behind
+  answered-refused r e q w = rw (e, reported-refused call r out places, ← q, spaced-single) w
+
+  pub answered-done : {before middle after : List ℕ} {at next behind : ℕ} {shown : Shown} → Lent out places → answer ≡ Done → shown ≡ shownBy call
+      → at + 1386 ≤ length before → Written before at (space ∷ decimal 0) middle next → Written middle next (spaced (valuesOf shown out places)) after behind
+      → Written before at (spaced (reported call (replied answer out places))) after behind
+  answered-done {shown = shown} lent e q h a b =
+      rw (e, reported-done call out places, ← q, spaced-cons) (written-join a b (omega (arith, spaced-one 0, values-length shown lent)))
+
+  pub answered-value : {before middle further after : List ℕ} {at next last behind v : ℕ} {shown : Shown} → Lent out places → answer ≡ Value v → shown ≡ shownBy call
+      → at + 1386 ≤ length before → Written before at (space ∷ decimal 0) middle next → Written middle next (space ∷ decimal v) further last
+      → Written further last (spaced (valuesOf shown out places)) after behind
+      → Written before at (spaced (reported call (replied answer out places))) after behind
+  answered-value {before} {at = at} {v = v} {shown = shown} lent e q h a b d =
+      let fits : at + 21 + 1365 ≤ length before = omega arith in
+      rw (e, reported-value call v out places, ← q, spaced-cons, spaced-cons)
+      (written-join a (written-join b d (omega (arith, room-spaced 0 1365 a fits, spaced-one v, values-length shown lent)))
+      (omega (arith, spaced-one 0, spaced-one v, values-length shown lent, length-append (space ∷ decimal v) (spaced (valuesOf shown out places)))))
+
+-- ---- a line
+
+answer-length : (call : Call) (r : Reply) → Lent (r .out) (r .places) → (answer : Answer) → r .answer ≡ answer → length (spaced (reported call r)) ≤ 1386
+answer-length call r lent (Refused x) e =
+    rw (ap (λ (a : Answer). length (spaced (reported call (replied a (r .out) (r .places))))) e, reported-refused call x (r .out) (r .places), spaced-single)
+    (omega (arith, spaced-one (refusalNumber x)))
+answer-length call r lent Done e =
+    rw (ap (λ (a : Answer). length (spaced (reported call (replied a (r .out) (r .places))))) e, reported-done call (r .out) (r .places), spaced-cons)
+    (omega (arith, length-append (space ∷ decimal 0) (spaced (valuesOf (shownBy call) (r .out) (r .places))), spaced-one 0, values-length (shownBy call) lent))
+answer-length call r lent (Value v) e =
+    let values : List ℕ = valuesOf (shownBy call) (r .out) (r .places) in
+    rw (ap (λ (a : Answer). length (spaced (reported call (replied a (r .out) (r .places))))) e, reported-value call v (r .out) (r .places), spaced-cons, spaced-cons)
+    (omega
+    (arith, length-append (space ∷ decimal 0) ((space ∷ decimal v) ++ spaced values), length-append (space ∷ decimal v) (spaced values), spaced-one 0, spaced-one v, values-length (shownBy call) lent))
+
+module _ (ordinal kind : ℕ) (call : Call) (answer : Answer) (out places : List ℕ) (lent : Lent out places) where
+  abbrev answer-bytes : List ℕ
+  answer-bytes = spaced (reported call (replied answer out places))
+
+  answer-short : length answer-bytes ≤ 1386
+  answer-short = answer-length call (replied answer out places) lent answer refl
+
+  -- Room for the newline.
+  pub room-last : {before after : List ℕ} {at behind : ℕ} → Written before at answer-bytes after behind → at + 1386 + 1 ≤ length before → behind + 1 ≤ length after
+  room-last w h = room-behind 1386 1 w answer-short h
+
+  pub line-written : {before one two three after : List ℕ} {at next behind last end : ℕ} → at + 2048 ≤ length before → Written before at (decimal ordinal) one next
+      → Written one next (space ∷ decimal kind) two behind → Written two behind answer-bytes three last → Written three last (newline ∷ []) after end
+      → Written before at (line ordinal kind call (replied answer out places)) after end
+  unfolding line
+  line-written {before} {after = after} {at = at} {end = end} h a b c d =
+      rw spaced-cons
+      (subst (λ (bytes : List ℕ). Written before at (decimal ordinal ++ bytes) after end) (sym (append-assoc (space ∷ decimal kind) answer-bytes (newline ∷ [])))
+      (four-written 20 21 1386 1 a b c d (decimal-length ordinal) (spaced-one kind) answer-short (omega arith) (omega arith)))
+
+-- ---- the last line
+
+pub last-line-written : (records number : ℕ) {before one two three after : List ℕ} {at next behind last end : ℕ} → at + 2048 ≤ length before
+    → Written before at (101 ∷ 110 ∷ 100 ∷ []) one next → Written one next (space ∷ decimal records) two behind → Written two behind (space ∷ decimal number) three last
+    → Written three last (newline ∷ []) after end → Written before at (lastLine records number) after end
+unfolding lastLine
+last-line-written records number {before} {after = after} {at = at} {end = end} h a b c d =
+    rw (spaced-cons, spaced-single)
+    (subst (λ (bytes : List ℕ). Written before at ((101 ∷ 110 ∷ 100 ∷ []) ++ bytes) after end) (sym (append-assoc (space ∷ decimal records) (space ∷ decimal number) (newline ∷ [])))
+    (four-written 3 21 21 1 a b c d (omega arith) (spaced-one records) (spaced-one number) (omega arith) (omega arith)))

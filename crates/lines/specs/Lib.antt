@@ -1,0 +1,5 @@
+pub mod Lines
+pub mod Replied
+pub mod LinesLaws
+pub mod Written
+pub mod AnswersLaws

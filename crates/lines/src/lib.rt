@@ -1,0 +1,227 @@
+// Lines of text in a lent buffer: numbers in decimal with single spaces between.
+// Each function writes from a place on and returns the place behind what it wrote.
+ghost use mathlib.Core.Path.{_≡_};
+ghost use mathlib.Core.List.{[], _∷_};
+ghost use Prim.Native.Nat.{_+_, _*_, _≤_};
+ghost use lib.ListN.{length, take};
+ghost use Rattle.card.specs.Session.{reported};
+ghost use Rattle.card.specs.Calls.{refusalNumber};
+ghost use Rattle.lines.specs.Lines.{space, decimal, spaced, line, lineRoom, lastLine};
+ghost use Rattle.lines.specs.Replied.{Lent, shownBy, valuesOf, replied};
+ghost use Rattle.lines.specs.Written.{Written};
+use card::Answer;
+use card::Call;
+use card::Refusal;
+
+pub fn put_byte(to: &mut [u8], at: usize, byte: u8) -> usize
+    requires { ⌜ at + 1 ≤ length (now to) ⌝ }
+    ensures { λ r. ⌜ Written (now (to .entry)) at (byte ∷ []) (now (to .exit)) r ⌝ }
+{
+    to[at] = byte;
+    at + 1
+}
+
+pub fn put_number(to: &mut [u8], at: usize, n: u64) -> usize
+    requires { ⌜ at + length (decimal n) ≤ length (now to) ⌝ }
+    ensures { λ r. ⌜ Written (now (to .entry)) at (decimal n) (now (to .exit)) r ⌝ }
+{
+    if n < 10 {
+        put_byte(to, at, (48 + n) as u8)
+    } else {
+        let next = put_number(to, at, n / 10);
+        put_byte(to, next, (48 + n % 10) as u8)
+    }
+}
+
+// A space and a number.
+pub fn put_spaced(to: &mut [u8], at: usize, n: u64) -> usize
+    requires { ⌜ at + 21 ≤ length (now to) ⌝ }
+    ensures { λ r. ⌜ Written (now (to .entry)) at (space ∷ decimal n) (now (to .exit)) r ⌝ }
+{
+    let next = put_byte(to, at, 32);
+    put_number(to, next, n)
+}
+
+fn of_byte(x: u8) -> u64
+    ensures { λ r. ⌜ r ≡ x ⌝ }
+{
+    x as u64
+}
+
+fn of_block(x: u16) -> u64
+    ensures { λ r. ⌜ r ≡ x ⌝ }
+{
+    x as u64
+}
+
+// Each byte of a table as a number behind a space.
+pub fn put_bytes(to: &mut [u8], at: usize, values: &[u8]) -> usize
+    requires { ⌜ at + 21 * length (now values) ≤ length (now to) ⌝ }
+    ensures { λ r. ⌜ Written (now (to .entry)) at (spaced (now (values .entry))) (now (to .exit)) r ⌝ }
+{
+    let mut next = at;
+    let mut i = 0;
+    while i < values.len() {
+        next = put_spaced(to, next, of_byte(values[i]));
+        i += 1;
+    }
+    next
+}
+
+// Each block number of a table behind a space.
+pub fn put_blocks(to: &mut [u8], at: usize, values: &[u16]) -> usize
+    requires { ⌜ at + 21 * length (now values) ≤ length (now to) ⌝ }
+    ensures { λ r. ⌜ Written (now (to .entry)) at (spaced (now (values .entry))) (now (to .exit)) r ⌝ }
+{
+    let mut next = at;
+    let mut i = 0;
+    while i < values.len() {
+        next = put_spaced(to, next, of_block(values[i]));
+        i += 1;
+    }
+    next
+}
+
+// A text as it stands.
+pub fn put_text(to: &mut [u8], at: usize, text: &[u8]) -> usize
+    requires { ⌜ at + length (now text) ≤ length (now to) ⌝ }
+    ensures { λ r. ⌜ Written (now (to .entry)) at (now (text .entry)) (now (to .exit)) r ⌝ }
+{
+    let mut next = at;
+    let mut i = 0;
+    while i < text.len() {
+        next = put_byte(to, next, text[i]);
+        i += 1;
+    }
+    next
+}
+
+// ---- the lines of a player
+
+// Document 01's number of a refusal.
+pub fn refusal_number(r: Refusal) -> u64
+    ensures { λ n. ⌜ n ≡ refusalNumber r ⌝ }
+{
+    match r {
+        Refusal::Misshapen => 1,
+        Refusal::Unsound => 2,
+        Refusal::NotAllocated => 3,
+        Refusal::BadOperand => 4,
+        Refusal::NotOpened => 5,
+        Refusal::IsRoot => 6,
+        Refusal::PointerExists => 7,
+        Refusal::NoPointer => 8,
+        Refusal::HasPointers => 9,
+        Refusal::TooFewBlocks => 10,
+        Refusal::TooFewPlaces => 11,
+        Refusal::TimeEnds => 12,
+        Refusal::BadRecord => 13,
+    }
+}
+
+// Where a done call leaves values that a player reports.
+pub enum Shown {
+    Nothing,
+    Bytes,
+    Blocks(u8),
+}
+
+// READ leaves bytes, ALLOC so many numbers, and no other call leaves any.
+pub fn shown_by(call: Call) -> Shown
+    ensures { λ r. ⌜ r ≡ shownBy call ⌝ }
+{
+    match call {
+        Call::Read(_) => Shown::Bytes,
+        Call::Alloc(o) => Shown::Blocks(o.count),
+        Call::Write(_) => Shown::Nothing,
+        Call::Create(_) => Shown::Nothing,
+        Call::Delete(_) => Shown::Nothing,
+        Call::Key(_) => Shown::Nothing,
+        Call::Renew(_) => Shown::Nothing,
+        Call::Force(_) => Shown::Nothing,
+        Call::Free => Shown::Nothing,
+        Call::Tick(_) => Shown::Nothing,
+        Call::Audit => Shown::Nothing,
+    }
+}
+
+// The first so many block numbers of a table, or all.
+fn put_first(to: &mut [u8], at: usize, values: &[u16], count: usize) -> usize
+    requires { ⌜ at + 21 * length (now values) ≤ length (now to) ⌝ }
+    ensures { λ r. ⌜ Written (now (to .entry)) at (spaced (take count (now (values .entry)))) (now (to .exit)) r ⌝ }
+{
+    if count < values.len() {
+        put_blocks(to, at, &values[..count])
+    } else {
+        put_blocks(to, at, values)
+    }
+}
+
+// The values that a done call left: READ's first 8 bytes, ALLOC's numbers.
+fn put_shown(to: &mut [u8], at: usize, shown: Shown, out: &[u8], places: &[u16]) -> usize
+    requires { ⌜ Lent (now out) (now places) ⌝ ∗ ⌜ at + 1344 ≤ length (now to) ⌝ }
+    ensures { λ r. ⌜ Written (now (to .entry)) at (spaced (valuesOf shown (now (out .entry)) (now (places .entry)))) (now (to .exit)) r ⌝ }
+{
+    match shown {
+        Shown::Nothing => at,
+        Shown::Bytes => put_bytes(to, at, &out[..8]),
+        Shown::Blocks(n) => put_first(to, at, places, n as usize),
+    }
+}
+
+// The answer's number and, if done, its values.
+fn put_answer(
+    to: &mut [u8],
+    at: usize,
+    call: Call,
+    answer: Answer,
+    out: &[u8],
+    places: &[u16],
+) -> usize
+    requires { ⌜ Lent (now out) (now places) ⌝ ∗ ⌜ at + 1386 ≤ length (now to) ⌝ }
+    ensures { λ r. ⌜ Written (now (to .entry)) at (spaced (reported call (replied answer (now (out .entry)) (now (places .entry))))) (now (to .exit)) r ⌝ }
+{
+    match answer {
+        Answer::Refused(r) => put_spaced(to, at, refusal_number(r)),
+        Answer::Done => {
+            let next = put_spaced(to, at, 0);
+            put_shown(to, next, shown_by(call), out, places)
+        }
+        Answer::Value(v) => {
+            let next = put_spaced(to, at, 0);
+            let last = put_spaced(to, next, v);
+            put_shown(to, last, shown_by(call), out, places)
+        }
+    }
+}
+
+// The line of one record: its ordinal and kind, and what was answered.
+pub fn put_line(
+    to: &mut [u8],
+    at: usize,
+    ordinal: u64,
+    kind: u8,
+    call: Call,
+    answer: Answer,
+    out: &[u8],
+    places: &[u16],
+) -> usize
+    requires { ⌜ Lent (now out) (now places) ⌝ ∗ ⌜ at + lineRoom ≤ length (now to) ⌝ }
+    ensures { λ r. ⌜ Written (now (to .entry)) at (line ordinal kind call (replied answer (now (out .entry)) (now (places .entry)))) (now (to .exit)) r ⌝ }
+{
+    let next = put_number(to, at, ordinal);
+    let behind = put_spaced(to, next, kind as u64);
+    let last = put_answer(to, behind, call, answer, out, places);
+    put_byte(to, last, 10)
+}
+
+// The last line: the records before the end or the refused one, then 0 or 13.
+pub fn put_last_line(to: &mut [u8], at: usize, records: u64, number: u64) -> usize
+    requires { ⌜ at + lineRoom ≤ length (now to) ⌝ }
+    ensures { λ r. ⌜ Written (now (to .entry)) at (lastLine records number) (now (to .exit)) r ⌝ }
+{
+    let next = put_text(to, at, b"end");
+    let behind = put_spaced(to, next, records);
+    let last = put_spaced(to, behind, number);
+    put_byte(to, last, 10)
+}
