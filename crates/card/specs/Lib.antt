@@ -16,5 +16,6 @@ pub mod PicksLaws
 pub mod Promises
 pub mod Session
 pub mod SessionLaws
+pub mod BuffersLaws
 pub mod Reach
 pub mod Trials
