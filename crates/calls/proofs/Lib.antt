@@ -1,0 +1,4 @@
+pub mod Returned
+pub mod Blocks
+pub mod Forced
+pub mod Ticked
