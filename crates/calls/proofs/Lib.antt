@@ -1,4 +1,7 @@
 pub mod Returned
 pub mod Blocks
+pub mod Windows
+pub mod Keys
+pub mod Parts
 pub mod Forced
 pub mod Ticked

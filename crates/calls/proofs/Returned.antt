@@ -19,7 +19,7 @@ use Rattle.card.specs.declared.Refusal.{Refusal}
 use Rattle.card.specs.declared.Refusal.the-variants.{Misshapen as MisshapenRefusal, Unsound as UnsoundRefusal}
 use Rattle.card.specs.declared.Verdict.{Verdict}
 use Rattle.card.specs.declared.Verdict.the-variants.{Misshapen, Unsound, Sound}
-use Rattle.calls.specs.Outcomes.{refusing}
+use Rattle.calls.specs.Outcomes.{refusing, outcome}
 
 -- The card with another record.
 abbrev pub withInfo : Card → Info → Card
@@ -31,6 +31,14 @@ module _ (c : Card) (lent : Buffers) (plan : Plan) where
   pub refuses : {r : Outcome} {x : Refusal} → r ≡ refusing x (c .public .info) → FirstHolds (plan .checks) x
       → Is (judgeSound c lent plan) (r .answer) (withInfo c (r .info)) (lent .out) (lent .places)
   refuses e h = rw e (is-refused c lent plan h)
+
+  pub finishes : {r : Outcome} {info : Info} {flags keys counts pointers windows contents out places : List ℕ} → r ≡ outcome (plan .answer) info
+      → NoneHolds (plan .checks)
+      → card info flags keys counts pointers windows contents ≡ changes c (plan .steps)
+      → out ≡ outAfter c (plan .shown) (lent .out)
+      → places ≡ placesAfter (plan .shown) (lent .places)
+      → Is (judgeSound c lent plan) (r .answer) (card (r .info) flags keys counts pointers windows contents) out places
+  finishes e h s o p = rw e (is-done c lent plan h s o p)
 
 -- ---- on any card, by the verdict
 
