@@ -3,5 +3,5 @@ pub mod Blocks
 pub mod Windows
 pub mod Keys
 pub mod Parts
-pub mod Forced
+pub mod Changed
 pub mod Ticked

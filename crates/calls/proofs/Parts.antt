@@ -9,12 +9,13 @@ use native.Mathlib.Omega.{arith}
 use lib.ListN.{length, take, drop}
 use lib.Dec.{eqb, ltb}
 use borrow.Author.Tests.{eqb-true}
+use borrow.Rule.Slice.PartMut.{putMid, post-is}
 use Rattle.card.specs.Contents.{part, fill, overwrite}
 use Rattle.card.specs.ContentsLaws.{block-fits, part-length}
 use Rattle.card.specs.ListsLaws.{or-false-left}
 use Rattle.card.specs.Card.{Card, allocated}
 use Rattle.card.specs.SoundnessLaws.{SoundCard}
-use Rattle.calls.proofs.Blocks.{flagged, there}
+use Rattle.calls.proofs.Blocks.{unnot, flagged, there}
 
 -- A block that is there: its part lies within the contents, of at most 2^28 bytes.
 pub record Lies (c : Card) (b : ℕ) : Type 0 where
@@ -40,13 +41,25 @@ lent-part n xs b e =
 -- A buffer that is not refused has B bytes.
 pub right-size : (size bytes : ℕ) (late : Bool) → not (eqb size bytes) || late ≡ false → size ≡ bytes
 right-size size bytes late e = eqb-true size bytes (unnot (eqb size bytes) (or-false-left _ late e))
-  where
-    unnot : (t : Bool) → not t ≡ false → t ≡ true
-    unnot true q = refl
-    unnot false q = sym q
 
 pub lent-size : {c : Card} (b : ℕ) (out : List ℕ) (late : Bool) → Lies c b → not (eqb (length out) (c .public .info .bytes)) || late ≡ false
     → length (take (b * c .public .info .bytes + c .public .info .bytes - b * c .public .info .bytes) (drop (b * c .public .info .bytes) (c .contents))) ≡ length out
 lent-size {c} b out late l e =
     let bytes : ℕ = c .public .info .bytes in
     ap length (lent-part bytes (c .contents) b refl) ∙ part-length bytes (c .contents) b (l .within) ∙ sym (right-size (length out) bytes late e)
+
+-- What a part of a list is written to, it is overwritten with.
+pub put-part : (xs : List ℕ) (at end : ℕ) {ys zs : List ℕ} → ys ≡ zs → at + length zs ≡ end → putMid at (end - at) xs ys ≡ overwrite xs at zs
+unfolding overwrite
+put-part xs at end {ys} {zs} e l = rw (e, l, post-is at end xs (omega arith))
+
+pub put-block : (n : ℕ) (xs : List ℕ) (b : ℕ) {ys : List ℕ} (zs : List ℕ) (late : Bool) → ys ≡ zs → not (eqb (length zs) n) || late ≡ false
+    → putMid (b * n) (b * n + n - b * n) xs ys ≡ fill n xs b zs
+unfolding fill
+put-block n xs b zs late e l =
+    put-part xs (b * n) (b * n + n) e (ap (λ (k : ℕ). b * n + k) (right-size (length zs) n late l))
+
+-- As many bytes are lent as there are to write.
+pub taken-size : {c : Card} (b : ℕ) (input : List ℕ) (late : Bool) → Lies c b → not (eqb (length input) (c .public .info .bytes)) || late ≡ false
+    → length input ≡ length (take (b * c .public .info .bytes + c .public .info .bytes - b * c .public .info .bytes) (drop (b * c .public .info .bytes) (c .contents)))
+taken-size b input late l e = sym (lent-size b input late l e)

@@ -1,7 +1,13 @@
 -- `calls::force_sound` is FORCE on an audited card.
 -- Assumes nothing.
-use Rattle.calls.proofs.Blocks.{windows-there}
-use Rattle.calls.proofs.Forced.{force-missing, force-done}
+use mathlib.Core.Path.{refl}
+use Rattle.card.specs.Plan.{outAfter, placesAfter}
+use Rattle.card.specs.PlanLaws.{here}
+use Rattle.card.specs.Calls.{forcePlan}
+use Rattle.card.specs.Session.{plan, performSound}
+use Rattle.calls.proofs.Returned.{refuses, finishes}
+use Rattle.calls.proofs.Changed.{closed}
+use Rattle.calls.proofs.Blocks.{missing-holds, missing-fails, windows-there}
 use borrow.Author.Needs.{needs}
 use Rattle.calls.proofs.force_sound.Statement.{statement}
 use Rattle.calls.proofs.force_sound.Tie as tie
@@ -16,7 +22,8 @@ refused-requires : tie.Need-refused-requires
 refused-requires c κs = search needs
 
 returns : tie.Need-returns
-returns c = λ port. force-missing _ _ (c .before .before .missing .ensures) port (c .before .if1 .taken) (c .refused .ensures)
+unfolding performSound plan forcePlan
+returns c = λ port. refuses _ _ _ (c .refused .ensures) (here (missing-holds _ _ (c .before .before .missing .ensures) (c .before .if1 .taken)))
 
 close-windows-requires : tie.Need-close-windows-requires
 close-windows-requires c κs = windows-there _ (c .before .before .before .before .before .before .before .before .before .before .pre) (c .before .before .missing .ensures) (c .before .if1 .left)
@@ -28,7 +35,8 @@ same-length : tie.Need-same-length
 same-length c = search needs
 
 returns-2 : tie.Need-returns-2
-returns-2 c = λ port. force-done _ _ (c .before .before .before .before .before .before .missing .ensures) port (c .before .before .before .before .before .if1 .left) (c .done .ensures) (c .before .before .before .close-windows .ensures)
+unfolding performSound plan forcePlan outAfter placesAfter
+returns-2 c = λ port. finishes _ _ _ (c .done .ensures) (missing-fails _ _ (c .before .before .before .before .before .before .missing .ensures) (c .before .before .before .before .before .if1 .left), tt) (closed _ _ (c .before .before .before .close-windows .ensures)) refl refl
 
 pub force-sound-spec : {M : Type 1} → statement M
 force-sound-spec =

@@ -1,87 +1,66 @@
+-- `calls::key` is KEY on any card.
+-- Assumes nothing.
+use Rattle.calls.proofs.Returned.{when-misshapen, when-unsound, when-sound, found-sound}
 use borrow.Author.Needs.{needs}
 use Rattle.calls.proofs.key.Statement.{statement}
 use Rattle.calls.proofs.key.Tie as tie
-use Rattle.calls.proofs.key.Reads as reads
-use Rattle.calls.proofs.key.Lts as lts
-use Rattle.audit.proofs.audit.Reads as audit-reads
-use Rattle.calls.proofs.key_sound.Reads as key-sound-reads
-use Rattle.calls.proofs.refused.Reads as refused-reads
 
--- src/lib.rt:354:9
 audit-requires : tie.Need-audit-requires
 audit-requires c κs = search needs
 
--- src/lib.rt:356:45
 enum-told : tie.Need-enum-told
 enum-told c = search needs
 
--- src/lib.rt:356:31
 refused-requires : tie.Need-refused-requires
 refused-requires c κs = search needs
 
--- src/lib.rt:357:43
 enum-told-2 : tie.Need-enum-told-2
 enum-told-2 c = search needs
 
--- src/lib.rt:357:29
 refused-requires-2 : tie.Need-refused-requires-2
 refused-requires-2 c κs = search needs
 
--- src/lib.rt:358:43
 enum-told-3 : tie.Need-enum-told-3
 enum-told-3 c = search needs
 
--- src/lib.rt:358:27
 key-sound-requires : tie.Need-key-sound-requires
-key-sound-requires c κs = ?
+key-sound-requires c κs = found-sound _ (c .before .before .before .before .before .audit .ensures) (c .before .before .before .enum-told3 .given .1)
 
--- src/lib.rt:341:1
 same-length : tie.Need-same-length
 same-length c = search needs
 
--- src/lib.rt:341:1
 same-length-2 : tie.Need-same-length-2
 same-length-2 c = search needs
 
--- src/lib.rt:341:1
 same-length-3 : tie.Need-same-length-3
 same-length-3 c = search needs
 
--- src/lib.rt:341:1
 returns : tie.Need-returns
-returns c = ?
+returns c = when-misshapen _ _ _ (c .before .before .before .audit .ensures) (c .before .enum-told .given .1) (c .refused .ensures)
 
--- src/lib.rt:341:1
 same-length-4 : tie.Need-same-length-4
 same-length-4 c = search needs
 
--- src/lib.rt:341:1
 same-length-5 : tie.Need-same-length-5
 same-length-5 c = search needs
 
--- src/lib.rt:341:1
 same-length-6 : tie.Need-same-length-6
 same-length-6 c = search needs
 
--- src/lib.rt:341:1
 returns-2 : tie.Need-returns-2
-returns-2 c = ?
+returns-2 c = when-unsound _ _ _ (c .before .before .before .audit .ensures) (c .before .enum-told2 .given .1) (c .refused2 .ensures)
 
--- src/lib.rt:341:1
 same-length-7 : tie.Need-same-length-7
 same-length-7 c = search needs
 
--- src/lib.rt:341:1
 same-length-8 : tie.Need-same-length-8
 same-length-8 c = search needs
 
--- src/lib.rt:341:1
 same-length-9 : tie.Need-same-length-9
 same-length-9 c = search needs
 
--- src/lib.rt:341:1
 returns-3 : tie.Need-returns-3
-returns-3 c = ?
+returns-3 c = when-sound _ _ _ (c .before .before .before .before .before .before .before .before .before .before .before .before .audit .ensures) (c .before .before .before .before .before .before .before .before .before .before .enum-told3 .given .1) (c .before .before .before .before .before .before .key-sound .ensures)
 
 pub key-spec : {M : Type 1} → statement M
 key-spec =

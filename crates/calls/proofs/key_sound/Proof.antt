@@ -1,124 +1,104 @@
+-- `calls::key_sound` is KEY on an audited card.
+-- Assumes nothing.
+use native.Mathlib.Omega.{arith}
+use mathlib.Core.Path.{refl}
+use Rattle.card.specs.declared.Mode.the-variants.{Reading, Writing}
+use Rattle.card.specs.Plan.{outAfter, placesAfter}
+use Rattle.card.specs.PlanLaws.{here, later}
+use Rattle.card.specs.Calls.{keyPlan}
+use Rattle.card.specs.Session.{plan, performSound}
+use Rattle.calls.proofs.Returned.{refuses, finishes}
+use Rattle.calls.proofs.Blocks.{missing-holds, missing-fails, root-told, access-there, closed-holds, closed-fails, flag-there, keys-there, windows-there}
+use Rattle.calls.proofs.Keys.{bit-low}
+use Rattle.calls.proofs.Changed.{keyed}
 use borrow.Author.Needs.{needs}
 use Rattle.calls.proofs.key_sound.Statement.{statement}
 use Rattle.calls.proofs.key_sound.Tie as tie
-use Rattle.calls.proofs.key_sound.Reads as reads
-use Rattle.calls.proofs.key_sound.Lts as lts
-use Rattle.access.proofs.admits.Reads as admits-reads
-use Rattle.calls.proofs.close_windows.Reads as close-windows-reads
-use Rattle.calls.proofs.done.Reads as done-reads
-use Rattle.calls.proofs.key_bit.Reads as key-bit-reads
-use Rattle.calls.proofs.missing.Reads as missing-reads
-use Rattle.calls.proofs.refused.Reads as refused-reads
-use Rattle.calls.proofs.replace_keys.Reads as replace-keys-reads
-use Rattle.calls.proofs.root_at_host.Reads as root-at-host-reads
 
--- src/lib.rt:318:17
 cast-block : tie.Need-cast-block
 cast-block c = search needs
 
--- src/lib.rt:319:8
 missing-requires : tie.Need-missing-requires
 missing-requires c κs = search needs
 
--- src/lib.rt:320:9
 refused-requires : tie.Need-refused-requires
 refused-requires c κs = search needs
 
--- src/lib.rt:320:9
 same-length : tie.Need-same-length
 same-length c = search needs
 
--- src/lib.rt:320:9
 returns : tie.Need-returns
-returns c = ?
+unfolding performSound plan keyPlan
+returns c = refuses _ _ _ (c .refused .ensures) (here (missing-holds _ _ (c .before .before .missing .ensures) (c .before .if1 .taken)))
 
--- src/lib.rt:322:8
 root-at-host-requires : tie.Need-root-at-host-requires
 root-at-host-requires c κs = search needs
 
--- src/lib.rt:323:9
 refused-requires-2 : tie.Need-refused-requires-2
 refused-requires-2 c κs = search needs
 
--- src/lib.rt:323:9
 same-length-2 : tie.Need-same-length-2
 same-length-2 c = search needs
 
--- src/lib.rt:323:9
 returns-2 : tie.Need-returns-2
-returns-2 c = ?
+unfolding performSound plan keyPlan
+returns-2 c = refuses _ _ _ (c .refused2 .ensures) (later (missing-fails _ _ (c .before .before .before .before .missing .ensures) (c .before .before .before .if1 .left)) (here (root-told _ _ _ (c .before .before .root-at-host .ensures) (c .before .if2 .taken))))
 
--- src/lib.rt:326:9
 admits-requires : tie.Need-admits-requires
-admits-requires c κs = ?
+admits-requires c κs = access-there _ (c .before .before .before .before .before .before .before .before .before .before .before .before .before .before .before .pre) (c .before .before .before .before .before .before .missing .ensures) (c .before .before .before .before .before .if1 .left)
 
--- src/lib.rt:328:9
 refused-requires-3 : tie.Need-refused-requires-3
 refused-requires-3 c κs = search needs
 
--- src/lib.rt:328:9
 same-length-3 : tie.Need-same-length-3
 same-length-3 c = search needs
 
--- src/lib.rt:328:9
 same-length-4 : tie.Need-same-length-4
 same-length-4 c = search needs
 
--- src/lib.rt:328:9
 same-length-5 : tie.Need-same-length-5
 same-length-5 c = search needs
 
--- src/lib.rt:328:9
 returns-3 : tie.Need-returns-3
-returns-3 c = ?
+unfolding performSound plan keyPlan
+returns-3 c = refuses _ _ _ (c .refused3 .ensures) (later (missing-fails _ _ (c .before .before .before .before .before .before .before .before .before .missing .ensures) (c .before .before .before .before .before .before .before .before .if1 .left)) (later (root-told _ _ _ (c .before .before .before .before .before .before .before .root-at-host .ensures) (c .before .before .before .before .before .before .if2 .left)) (here (closed-holds _ _ _ _ _ (c .before .before .admits .ensures) (c .before .if3 .taken)))))
 
--- src/lib.rt:332:9
 key-bit-requires : tie.Need-key-bit-requires
 key-bit-requires c κs = search needs
 
--- src/lib.rt:333:9
 key-bit-requires-2 : tie.Need-key-bit-requires-2
 key-bit-requires-2 c κs = search needs
 
--- src/lib.rt:334:20
 add-flags : tie.Need-add-flags
-add-flags c = ?
+add-flags c = omega (arith, c .before .key-bit .ensures, bit-low Reading (c .before .before .before .before .before .before .before .before .before .before .before .before .before .before .before .before .before .before .before .args .o .read))
 
--- src/lib.rt:334:20
 add-flags-2 : tie.Need-add-flags-2
-add-flags-2 c = ?
+add-flags-2 c = omega (arith, c .before .key-bit .ensures, c .key-bit2 .ensures, bit-low Reading (c .before .before .before .before .before .before .before .before .before .before .before .before .before .before .before .before .before .before .before .args .o .read), bit-low Writing (c .before .before .before .before .before .before .before .before .before .before .before .before .before .before .before .before .before .before .before .args .o .write))
 
--- src/lib.rt:334:5
 slice-write-flags : tie.Need-slice-write-flags
-slice-write-flags c = ?
+slice-write-flags c = flag-there _ (c .before .before .before .before .before .before .before .before .before .before .before .before .before .before .before .before .before .before .before .pre) (c .before .before .before .before .before .before .before .before .before .before .missing .ensures) (c .before .before .before .before .before .before .before .before .before .if1 .left)
 
--- src/lib.rt:335:5
 replace-keys-requires : tie.Need-replace-keys-requires
-replace-keys-requires c κs = ?
+replace-keys-requires c κs = keys-there _ (c .before .before .before .before .before .before .before .before .before .before .before .before .before .before .before .before .before .before .before .before .pre) (c .before .before .before .before .before .before .before .before .before .before .before .missing .ensures) (c .before .before .before .before .before .before .before .before .before .before .if1 .left)
 
--- src/lib.rt:336:5
 close-windows-requires : tie.Need-close-windows-requires
-close-windows-requires c κs = ?
+close-windows-requires c κs = windows-there _ (c .before .before .before .before .before .before .before .before .before .before .before .before .before .before .before .before .before .before .before .before .before .before .before .before .pre) (c .before .before .before .before .before .before .before .before .before .before .before .before .before .before .before .missing .ensures) (c .before .before .before .before .before .before .before .before .before .before .before .before .before .before .if1 .left)
 
--- src/lib.rt:337:5
 done-requires : tie.Need-done-requires
 done-requires c κs = search needs
 
--- src/lib.rt:304:1
 same-length-6 : tie.Need-same-length-6
 same-length-6 c = search needs
 
--- src/lib.rt:304:1
 same-length-7 : tie.Need-same-length-7
 same-length-7 c = search needs
 
--- src/lib.rt:304:1
 same-length-8 : tie.Need-same-length-8
 same-length-8 c = search needs
 
--- src/lib.rt:304:1
 returns-4 : tie.Need-returns-4
-returns-4 c = ?
+unfolding performSound plan keyPlan outAfter placesAfter
+returns-4 c = finishes _ _ _ (c .done .ensures) (missing-fails _ _ (c .before .before .before .before .before .before .before .before .before .before .before .before .before .before .before .before .before .before .before .missing .ensures) (c .before .before .before .before .before .before .before .before .before .before .before .before .before .before .before .before .before .before .if1 .left), (root-told _ _ _ (c .before .before .before .before .before .before .before .before .before .before .before .before .before .before .before .before .before .root-at-host .ensures) (c .before .before .before .before .before .before .before .before .before .before .before .before .before .before .before .before .if2 .left), (closed-fails _ _ _ _ _ (c .before .before .before .before .before .before .before .before .before .before .before .before .admits .ensures) (c .before .before .before .before .before .before .before .before .before .before .before .if3 .left), tt))) (keyed _ _ _ _ (c .before .before .before .before .before .before .before .before .before .before .key-bit .ensures) (c .before .before .before .before .before .before .before .before .before .key-bit2 .ensures) (c .before .before .before .before .before .before .before .replace-keys .ensures) (c .before .before .before .close-windows .ensures)) refl refl
 
 pub key-sound-spec : {M : Type 1} → statement M
 key-sound-spec =

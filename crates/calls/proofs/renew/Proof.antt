@@ -1,63 +1,48 @@
+-- `calls::renew` is RENEW on any card.
+-- Assumes nothing.
+use Rattle.calls.proofs.Returned.{when-misshapen, when-unsound, when-sound, found-sound}
 use borrow.Author.Needs.{needs}
 use Rattle.calls.proofs.renew.Statement.{statement}
 use Rattle.calls.proofs.renew.Tie as tie
-use Rattle.calls.proofs.renew.Reads as reads
-use Rattle.calls.proofs.renew.Lts as lts
-use Rattle.audit.proofs.audit.Reads as audit-reads
-use Rattle.calls.proofs.refused.Reads as refused-reads
-use Rattle.calls.proofs.renew_sound.Reads as renew-sound-reads
 
--- src/lib.rt:406:9
 audit-requires : tie.Need-audit-requires
 audit-requires c κs = search needs
 
--- src/lib.rt:408:45
 enum-told : tie.Need-enum-told
 enum-told c = search needs
 
--- src/lib.rt:408:31
 refused-requires : tie.Need-refused-requires
 refused-requires c κs = search needs
 
--- src/lib.rt:409:43
 enum-told-2 : tie.Need-enum-told-2
 enum-told-2 c = search needs
 
--- src/lib.rt:409:29
 refused-requires-2 : tie.Need-refused-requires-2
 refused-requires-2 c κs = search needs
 
--- src/lib.rt:410:76
 enum-told-3 : tie.Need-enum-told-3
 enum-told-3 c = search needs
 
--- src/lib.rt:410:27
 renew-sound-requires : tie.Need-renew-sound-requires
-renew-sound-requires c κs = ?
+renew-sound-requires c κs = found-sound _ (c .before .before .before .audit .ensures) (c .before .enum-told3 .given .1)
 
--- src/lib.rt:394:1
 same-length : tie.Need-same-length
 same-length c = search needs
 
--- src/lib.rt:394:1
 returns : tie.Need-returns
-returns c = ?
+returns c = λ port. when-misshapen port _ _ (c .before .before .before .audit .ensures) (c .before .enum-told .given .1) (c .refused .ensures)
 
--- src/lib.rt:394:1
 same-length-2 : tie.Need-same-length-2
 same-length-2 c = search needs
 
--- src/lib.rt:394:1
 returns-2 : tie.Need-returns-2
-returns-2 c = ?
+returns-2 c = λ port. when-unsound port _ _ (c .before .before .before .audit .ensures) (c .before .enum-told2 .given .1) (c .refused2 .ensures)
 
--- src/lib.rt:394:1
 same-length-3 : tie.Need-same-length-3
 same-length-3 c = search needs
 
--- src/lib.rt:394:1
 returns-3 : tie.Need-returns-3
-returns-3 c = ?
+returns-3 c = λ port. when-sound port _ _ (c .before .before .before .before .before .before .audit .ensures) (c .before .before .before .before .enum-told3 .given .1) (c .before .before .renew-sound .ensures port)
 
 pub renew-spec : {M : Type 1} → statement M
 renew-spec =
