@@ -5,3 +5,4 @@ pub mod Keys
 pub mod Parts
 pub mod Changed
 pub mod Ticked
+pub mod Fresh

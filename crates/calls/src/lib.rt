@@ -18,14 +18,15 @@ use card::Verdict;
 use card::WriteOperands;
 ghost use mathlib.Core.Path.{_≡_};
 ghost use mathlib.Core.Bool.{not};
-ghost use mathlib.Core.List.{[]};
-ghost use Prim.Native.Nat.{_+_, _*_, _≤_, _<_};
-ghost use lib.ListN.{length, set};
+ghost use mathlib.Core.List.{[], _++_};
+ghost use Prim.Native.Nat.{_+_, _-_, _*_, _≤_, _<_};
+ghost use lib.ListN.{length, set, replicate};
 ghost use Rattle.card.specs.Card.{Card, card, allocated, longestInterval, windowAt};
-ghost use Rattle.card.specs.Soundness.{timeLimit};
+ghost use Rattle.card.specs.Contents.{zeros};
+ghost use Rattle.card.specs.Soundness.{timeLimit, shape};
 ghost use Rattle.card.specs.SoundnessLaws.{SoundCard};
 ghost use Rattle.card.specs.Plan.{changes, keyBit, highWord, lowWord, replaceKeys};
-ghost use Rattle.card.specs.Calls.{rootAtHost, opensWindow, modeOf};
+ghost use Rattle.card.specs.Calls.{rootAtHost, opensWindow, modeOf, format};
 ghost use Rattle.card.specs.Promises.{Is};
 ghost use Rattle.card.specs.Session.{request, perform, performSound};
 ghost use Rattle.calls.specs.Outcomes.{refusing, outcome};
@@ -629,4 +630,110 @@ pub fn audit(
         Verdict::Unsound => refused(info, Refusal::Unsound),
         Verdict::Sound => done(info),
     }
+}
+
+// ---- FORMAT
+
+fn clear_words(to: &mut [u64])
+    ensures { λ _. ⌜ now (to .exit) ≡ zeros (length (now (to .entry))) ⌝ }
+{
+    let mut at = 0;
+    while at < to.len() {
+        to[at] = 0;
+        at += 1;
+    }
+}
+
+fn clear_counts(to: &mut [u16])
+    ensures { λ _. ⌜ now (to .exit) ≡ zeros (length (now (to .entry))) ⌝ }
+{
+    let mut at = 0;
+    while at < to.len() {
+        to[at] = 0;
+        at += 1;
+    }
+}
+
+fn clear_places(to: &mut [u32])
+    ensures { λ _. ⌜ now (to .exit) ≡ zeros (length (now (to .entry))) ⌝ }
+{
+    let mut at = 0;
+    while at < to.len() {
+        to[at] = 0;
+        at += 1;
+    }
+}
+
+fn mark(to: &mut [u8])
+    ensures { λ _. ⌜ now (to .exit) ≡ replicate (length (now (to .entry))) 1 ⌝ }
+{
+    let mut at = 0;
+    while at < to.len() {
+        to[at] = 1;
+        at += 1;
+    }
+}
+
+// The card of the tables and the record is of the right shape.
+fn shaped(
+    info: Info,
+    flags: &[u8],
+    keys: &[u64],
+    counts: &[u16],
+    pointers: &[u32],
+    windows: &[u64],
+    contents: &[u8],
+) -> bool
+    ensures { λ r. ⌜ r ≡ shape (card info (now (flags .entry)) (now (keys .entry)) (now (counts .entry)) (now (pointers .entry)) (now (windows .entry)) (now (contents .entry))) ⌝ }
+{
+    let verdict = audit::audit(info, flags, keys, counts, pointers, windows, contents);
+    match verdict {
+        Verdict::Misshapen => false,
+        Verdict::Unsound => true,
+        Verdict::Sound => true,
+    }
+}
+
+// The roots are allocated, and no other block is.
+fn mark_roots(flags: &mut [u8], roots: usize)
+    requires { ⌜ roots ≤ length (now flags) ⌝ }
+    ensures { λ _. ⌜ now (flags .exit) ≡ replicate roots 1 ++ zeros (length (now (flags .entry)) - roots) ⌝ }
+{
+    tables::clear(flags);
+    mark(&mut flags[..roots]);
+}
+
+// "FORMAT(N, R, B)": refused 1, or a fresh card on the lent tables.
+pub fn format(
+    info: Info,
+    blocks: usize,
+    roots: usize,
+    bytes: usize,
+    flags: &mut [u8],
+    keys: &mut [u64],
+    counts: &mut [u16],
+    pointers: &mut [u32],
+    windows: &mut [u64],
+    contents: &mut [u8],
+) -> Outcome
+    ensures { λ r. ⌜ Is (format blocks roots bytes (card info (now (flags .entry)) (now (keys .entry)) (now (counts .entry)) (now (pointers .entry)) (now (windows .entry)) (now (contents .entry)))) (r .answer) (card (r .info) (now (flags .exit)) (now (keys .exit)) (now (counts .exit)) (now (pointers .exit)) (now (windows .exit)) (now (contents .exit))) [] [] ⌝ }
+{
+    let fresh = Info {
+        blocks,
+        roots,
+        bytes,
+        used: 0,
+        time: 0,
+    };
+    if shaped(fresh, flags, keys, counts, pointers, windows, contents) {
+        mark_roots(flags, roots);
+        clear_words(keys);
+        clear_counts(counts);
+        clear_places(pointers);
+        clear_words(windows);
+        let size = roots * bytes;
+        tables::clear(&mut contents[..size]);
+        return done(fresh);
+    }
+    refused(info, Refusal::Misshapen)
 }
