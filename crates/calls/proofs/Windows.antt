@@ -1,0 +1,71 @@
+-- Windows set and opened, on the card and on the list of windows alone.
+-- Assumes nothing.
+use Prim.Native.Nat.{ℕ, _+_, _*_, _<_, _≤_}
+use mathlib.Core.Path.{_≡_, refl, sym, ap, _∙_}
+use mathlib.Core.Bool.{Bool, true, false, cond}
+use mathlib.Core.List.{List, [], _∷_}
+use native.Mathlib.Omega.{arith}
+use lib.ListN.{length, set}
+use lib.Dec.{eqb}
+use borrow.Author.Tests.{eq-eqb, ne-eqb}
+use Rattle.card.specs.Card.{Card, card, windowAt}
+use Rattle.card.specs.Plan.{setWindow, changes, change, changePublic, changeKeys, changeContents}
+use Rattle.card.specs.Calls.{windowAfter, opensWindow}
+use Rattle.card.specs.declared.Info.{Info}
+use Rattle.card.specs.declared.Mode.{Mode}
+use Rattle.card.specs.declared.Mode.the-variants.{Reading, Writing}
+use Rattle.card.specs.declared.Port.{Port}
+use Rattle.card.specs.declared.Port.the-variants.{Host, Service}
+
+pub at-reading : (b : ℕ) {m : Mode} → m ≡ Reading → 2 * b ≡ windowAt m b
+at-reading b e = rw e
+
+pub at-writing : (b : ℕ) {m : Mode} → m ≡ Writing → 2 * b + 1 ≡ windowAt m b
+at-writing b e = rw e
+
+pub at-within : (m : Mode) (b n : ℕ) {at : ℕ} → at ≡ windowAt m b → 2 * b + 2 ≤ n → at < n
+at-within Reading b n e h = omega arith
+at-within Writing b n e h = omega arith
+
+-- The card by its record and windows alone.
+abbrev pub windowed : Info → List ℕ → Card
+windowed info windows = card info [] [] [] [] windows []
+
+module _ (info : Info) (windows : List ℕ) (mode : Mode) (b interval : ℕ) {port : Port} where
+  pub opened-service : port ≡ Service → windowed info windows ≡ changes (windowed info windows) (opensWindow port (windowed info windows .public) mode b interval)
+  unfolding changes opensWindow
+  opened-service e = rw e
+
+  pub opened-none : port ≡ Host → interval ≡ 0 → windowed info windows ≡ changes (windowed info windows) (opensWindow port (windowed info windows .public) mode b interval)
+  unfolding changes opensWindow
+  opened-none e z = rw (e, eq-eqb interval 0 z)
+
+  pub opened-host : port ≡ Host → (interval ≡ 0 → ⊥) → {after : List ℕ} → after ≡ set windows (windowAt mode b) (info .time + interval)
+      → windowed info after ≡ changes (windowed info windows) (opensWindow port (windowed info windows .public) mode b interval)
+  unfolding changes change changePublic changeKeys changeContents opensWindow windowAfter
+  opened-host e z w = rw (e, ne-eqb interval 0 z, w)
+
+-- What opening does to the windows, it does on the whole card.
+module _ (c : Card) (mode : Mode) (b interval : ℕ) where
+  abbrev after : Card → List ℕ → Card
+  after c windows = card (c .public .info) (c .public .flags) (c .keys) (c .public .counts) (c .public .pointers) windows (c .contents)
+
+  by-test : (t : Bool) {windows : List ℕ}
+      → windowed (c .public .info) windows ≡ changes (windowed (c .public .info) (c .public .windows)) (cond t [] (setWindow mode b (windowAfter (windowed (c .public .info) (c .public .windows) .public) mode b interval) ∷ []))
+      → after c windows ≡ changes c (cond t [] (setWindow mode b (windowAfter (c .public) mode b interval) ∷ []))
+  unfolding changes change changePublic changeKeys changeContents windowAfter
+  by-test true e = ap (λ (k : Card). after c (k .public .windows)) e
+  by-test false e = ap (λ (k : Card). after c (k .public .windows)) e
+
+  pub opened-whole : (port : Port) {windows : List ℕ}
+      → windowed (c .public .info) windows ≡ changes (windowed (c .public .info) (c .public .windows)) (opensWindow port (windowed (c .public .info) (c .public .windows) .public) mode b interval)
+      → after c windows ≡ changes c (opensWindow port (c .public) mode b interval)
+  unfolding opensWindow changes
+  opened-whole Host e = by-test (eqb interval 0) e
+  opened-whole Service e = opened-service-whole e
+    where
+      opened-service-whole : {windows : List ℕ} → windowed (c .public .info) windows ≡ changes (windowed (c .public .info) (c .public .windows)) [] → after c windows ≡ changes c []
+      opened-service-whole e = ap (λ (k : Card). after c (k .public .windows)) e
+
+pub set-at : (windows : List ℕ) (end : ℕ) {at place : ℕ} → at ≡ place → set windows at end ≡ set windows place end
+set-at windows end e = rw e
