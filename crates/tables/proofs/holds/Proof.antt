@@ -1,9 +1,9 @@
 -- `tables::holds` meets its contract: the pointer at the rank decides.
 -- Assumes nothing.
 use lib.Dec.{eqb}
+use borrow.Author.Needs.{needs}
 use Rattle.tables.specs.RankLaws.{contains-rank}
 use Rattle.tables.proofs.Search.{look-found, look-missed}
-use borrow.Author.Needs.{needs}
 use Rattle.tables.proofs.holds.Statement.{statement}
 use Rattle.tables.proofs.holds.Tie as tie
 

@@ -1,10 +1,10 @@
 -- `tables::points_from` meets its contract: the pointer at the rank decides.
 -- Assumes nothing.
 use lib.Dec.{eqb}
+use borrow.Author.Needs.{needs}
 use Rattle.card.specs.Pointers.{source}
 use Rattle.tables.specs.RankLaws.{points-rank}
 use Rattle.tables.proofs.Search.{look-found, look-missed}
-use borrow.Author.Needs.{needs}
 use Rattle.tables.proofs.points_from.Statement.{statement}
 use Rattle.tables.proofs.points_from.Tie as tie
 

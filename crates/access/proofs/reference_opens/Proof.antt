@@ -1,0 +1,52 @@
+-- `access::reference_opens` meets its contract: no where the reference is outside or not allocated, else by its pointer and its window.
+-- Assumes nothing.
+use mathlib.Core.List.{[]}
+use borrow.Author.Needs.{needs}
+use Rattle.card.specs.Card.{card}
+use Rattle.access.proofs.Answers.{reference-outside, reference-unallocated, reference-followed}
+use Rattle.access.proofs.reference_opens.Statement.{statement}
+use Rattle.access.proofs.reference_opens.Tie as tie
+
+returns : tie.Need-returns
+returns c = reference-outside _ _ _ _ (c .if1 .taken)
+
+shared-slice-read-if2 : tie.Need-shared-slice-read-if2
+shared-slice-read-if2 c = search needs
+
+returns-2 : tie.Need-returns-2
+returns-2 c = reference-unallocated _ _ _ _ (c .if2 .taken)
+
+mul-pointer : tie.Need-mul-pointer
+mul-pointer c = search needs
+
+cast-pointer : tie.Need-cast-pointer
+cast-pointer c = search needs
+
+add-pointer : tie.Need-add-pointer
+add-pointer c = search needs
+
+holds-requires : tie.Need-holds-requires
+holds-requires c κs = search needs
+
+window-open-requires : tie.Need-window-open-requires
+window-open-requires c κs = search needs
+
+returns-3 : tie.Need-returns-3
+returns-3 c =
+    let at = c .before .before .before .before .before .before .before .before .before .args in
+    reference-followed (card (at .info) (at .flags .now) [] [] (at .pointers .now) (at .windows .now) [] .public) (at .mode) (at .block) (at .reference)
+    (c .before .before .before .before .if1 .left) (c .before .before .if2 .left) (c .before .holds .ensures) (c .window-open .ensures)
+
+pub reference-opens-spec : {M : Type 1} → statement M
+reference-opens-spec =
+    tie.close
+    (tie.spec
+    returns
+    shared-slice-read-if2
+    returns-2
+    mul-pointer
+    cast-pointer
+    add-pointer
+    holds-requires
+    window-open-requires
+    returns-3)

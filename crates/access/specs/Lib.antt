@@ -1,0 +1,2 @@
+pub mod Accessible
+pub mod AccessibleLaws
