@@ -11,6 +11,7 @@ use Rattle.card.specs.declared.Port.{Port}
 use Rattle.card.specs.declared.Port.the-variants.{Host, Service}
 use Rattle.card.specs.declared.Credential.{Credential}
 use Rattle.card.specs.declared.Credential.the-variants.{Nothing, Reference, Key}
+use Rattle.tables.specs.InUseLaws.{sound-sorted}
 use Rattle.access.specs.Accessible.{Accessible, bare}
 
 pub sound-accessible : {c : Card} {b : ℕ} → SoundCard c → b < c .public .info .blocks → Accessible (bare c) b
@@ -19,7 +20,7 @@ sound-accessible s l = record {
     blocksHigh = s .shaped .inRanges .blocksHigh;
     flags = s .shaped .hasLengths .flags;
     windows = s .shaped .hasLengths .windows;
-    sorted = record { within = s .shaped .usedHigh; ascends = s .isSound .ascends };
+    sorted = sound-sorted s;
     below = l;
   };
   keys = s .shaped .hasLengths .keys;

@@ -1,5 +1,6 @@
 pub mod Rank
 pub mod RankLaws
 pub mod InUse
+pub mod InUseLaws
 pub mod Free
 pub mod FreeLaws

@@ -1,7 +1,7 @@
 -- Laws of the rank in an ascending list: what stands before it and from it on, and what search, insertion and removal are by it.
 -- Assumes nothing.
 use Prim.Native.Nat.{ℕ, zero, suc, _+_, _*_, _≤_, _<_, compare·suc-suc}
-use mathlib.Core.Path.{_≡_, refl, ap, subst}
+use mathlib.Core.Path.{_≡_, refl, sym, ap, _∙_, subst}
 use mathlib.Core.Logic.{_⊎_, ⊎-elim}
 use mathlib.Core.Bool.{Bool, true, false, _&&_, _||_, cond}
 use mathlib.Core.List.{List, [], _∷_, _++_}
@@ -11,7 +11,7 @@ use lib.Dec.{eqb, ltb, isLe}
 use lib.ListN.{length, take, drop, getD}
 use borrow.Author.Tests.{lt-ltb, le-ltb, ne-eqb, eqb-false}
 use Rattle.card.specs.Lists.{any}
-use Rattle.card.specs.ListsLaws.{or-false, or-false-left, or-false-right, not-cases, absurd-test, below-or-not}
+use Rattle.card.specs.ListsLaws.{and-right, or-false, or-false-left, or-false-right, absurd-test, below-or-not}
 use Rattle.card.specs.Pointers.{source, ascending, contains, pointsFrom, insert, remove}
 use Rattle.card.specs.PointersLaws.{ascending-below, ascending-tail}
 use Rattle.tables.specs.Rank.{rank}
@@ -102,8 +102,7 @@ from-rank w ws e i h l =
 ltb-suc : (a b : ℕ) → ltb (suc a) (suc b) ≡ ltb a b
 ltb-suc a b = ap isLe (compare·suc-suc (suc a) b)
 
--- A test that fails below w and, behind an element not below w where it fails, fails for good: the element at the rank alone decides
--- whether it holds somewhere.
+-- A test that fails below w and that, once it fails from w on, fails for good: the element at the rank decides whether it holds of some element.
 module _ (test : ℕ → Bool) (w : ℕ) (low : (x : ℕ) → x < w → test x ≡ false) (high : (x y : ℕ) → w ≤ x → x < y → test x ≡ false → test y ≡ false) where
   any-rest : (x : ℕ) (xs : List ℕ) → ascending (x ∷ xs) ≡ true → w ≤ x → test x ≡ false → any test xs ≡ false
   unfolding any
@@ -131,6 +130,11 @@ pub contains-rank : (w : ℕ) (ws : List ℕ) → ascending ws ≡ true → cont
 unfolding contains
 contains-rank w ws e =
     any-rank (λ x. eqb x w) w (λ x b. ne-eqb x w (λ q. omega arith)) (λ x y h l f. ne-eqb y w (λ q. omega arith)) ws e
+
+-- A list that contains w starts with it, if it starts from w on.
+first-is : (w x : ℕ) (xs : List ℕ) → ascending (x ∷ xs) ≡ true → w ≤ x → contains w (x ∷ xs) ≡ true → eqb x w ≡ true
+first-is w x xs e b h =
+    and-right (ltb 0 (suc (length xs))) (eqb x w) (rw (rank-cons-above w x xs e b) at (sym (contains-rank w (x ∷ xs) e) ∙ h))
 
 -- A block has pointers of its own exactly where the first pointer from its number × 65,536 on starts there.
 pub points-rank : (b : ℕ) (ws : List ℕ) → ascending ws ≡ true
@@ -169,6 +173,5 @@ remove-rank w (x ∷ xs) e h =
     rw (rank-cons-below w x xs b, other)
     (ap (λ (l : List ℕ). x ∷ l) (remove-rank w xs (ascending-tail x xs e) (subst (λ (t : Bool). t || contains w xs ≡ true) other h))))
     (λ (b : w ≤ x).
-    let here : eqb x w ≡ true = ⊎-elim (λ q. q) (λ q. absurd-test h (or-false (eqb x w) _ q (any-rest (λ y. eqb y w) w (λ y l. ne-eqb y w (λ r. omega arith)) (λ y z g l f. ne-eqb z w (λ r. omega arith)) x xs e b q))) (not-cases (eqb x w)) in
-    rw (rank-cons-above w x xs e b, here))
+    rw (rank-cons-above w x xs e b, first-is w x xs e b h))
     (below-or-not x w)

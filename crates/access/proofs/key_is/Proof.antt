@@ -1,5 +1,6 @@
 -- `access::key_is` meets its contract: the two words compared are those of the mode.
 -- Assumes nothing.
+use native.Mathlib.Omega.{arith}
 use borrow.Author.Needs.{needs}
 use Rattle.access.proofs.Answers.{key-reading, key-writing}
 use Rattle.access.proofs.key_is.Statement.{statement}
@@ -9,22 +10,22 @@ enum-told : tie.Need-enum-told
 enum-told c = search needs
 
 mul-same-words : tie.Need-mul-same-words
-mul-same-words c = search needs
+mul-same-words c = omega arith
 
 same-words-requires : tie.Need-same-words-requires
-same-words-requires c κs = search needs
+same-words-requires c κs = omega arith
 
 enum-told-2 : tie.Need-enum-told-2
 enum-told-2 c = search needs
 
 mul-same-words-2 : tie.Need-mul-same-words-2
-mul-same-words-2 c = search needs
+mul-same-words-2 c = omega arith
 
 add-same-words : tie.Need-add-same-words
-add-same-words c = search needs
+add-same-words c = omega arith
 
 same-words-requires-2 : tie.Need-same-words-requires-2
-same-words-requires-2 c κs = search needs
+same-words-requires-2 c κs = omega arith
 
 returns : tie.Need-returns
 returns c = key-reading _ _ _ _ (c .before .enum-told .given .1) (c .same-words .ensures)

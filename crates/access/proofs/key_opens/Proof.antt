@@ -1,5 +1,6 @@
 -- `access::key_opens` meets its contract: for reading either key opens, for writing the write key.
 -- Assumes nothing.
+use native.Mathlib.Omega.{arith}
 use borrow.Author.Needs.{needs}
 use Rattle.access.proofs.Answers.{opens-reading, opens-writing}
 use Rattle.access.proofs.key_opens.Statement.{statement}
@@ -9,10 +10,10 @@ enum-told : tie.Need-enum-told
 enum-told c = search needs
 
 key-is-requires : tie.Need-key-is-requires
-key-is-requires c κs = search needs
+key-is-requires c κs = omega arith
 
 key-is-requires-2 : tie.Need-key-is-requires-2
-key-is-requires-2 c κs = search needs
+key-is-requires-2 c κs = omega arith
 
 has-key-requires : tie.Need-has-key-requires
 has-key-requires c κs = search needs
@@ -21,7 +22,7 @@ enum-told-2 : tie.Need-enum-told-2
 enum-told-2 c = search needs
 
 key-is-requires-3 : tie.Need-key-is-requires-3
-key-is-requires-3 c κs = search needs
+key-is-requires-3 c κs = omega arith
 
 returns : tie.Need-returns
 returns c = λ card k g. opens-reading card _ _ _ (c .before .before .before .enum-told .given .1) (c .before .before .key-is .ensures) (c .before .key-is2 .ensures) (c .has-key .ensures) k g

@@ -1,13 +1,14 @@
 -- `access::opens` meets its contract, one way out for each credential and paragraph.
 -- Assumes nothing.
 use mathlib.Core.Path.{refl}
+use native.Mathlib.Omega.{arith}
 use borrow.Author.Needs.{needs}
 use Rattle.access.proofs.Answers.{nothing-opens, reference-refused, reference-opens, key-opens, key-refused}
 use Rattle.access.proofs.opens.Statement.{statement}
 use Rattle.access.proofs.opens.Tie as tie
 
 shared-slice-read-flag : tie.Need-shared-slice-read-flag
-shared-slice-read-flag c = search needs
+shared-slice-read-flag c = omega arith
 
 has-key-requires : tie.Need-has-key-requires
 has-key-requires c κs = search needs
@@ -22,13 +23,13 @@ returns : tie.Need-returns
 returns c = reference-refused _ _ _ (c .before .before .before .before .before .has-key .ensures) (c .before .before .credential .given .1) (c .if1 .taken)
 
 reference-opens-requires : tie.Need-reference-opens-requires
-reference-opens-requires c κs = search needs
+reference-opens-requires c κs = c .before .before .before .before .before .before .before .before .before .before .before .pre .referable
 
 enum-known-credential-2 : tie.Need-enum-known-credential-2
 enum-known-credential-2 c = search needs
 
 key-opens-requires : tie.Need-key-opens-requires
-key-opens-requires c κs = search needs
+key-opens-requires c κs = omega arith
 
 returns-2 : tie.Need-returns-2
 returns-2 c = key-opens _ _ _ (c .before .before .before .before .before .before .has-key .ensures) (c .before .before .before .credential2 .given .1) (c .before .if2 .taken) (c .key-opens .ensures _ refl refl)

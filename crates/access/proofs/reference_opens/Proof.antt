@@ -1,7 +1,7 @@
 -- `access::reference_opens` meets its contract: no where the reference is outside or not allocated, else by its pointer and its window.
 -- Assumes nothing.
 use mathlib.Core.List.{[]}
-use borrow.Author.Needs.{needs}
+use native.Mathlib.Omega.{arith}
 use Rattle.card.specs.Card.{card}
 use Rattle.access.proofs.Answers.{reference-outside, reference-unallocated, reference-followed}
 use Rattle.access.proofs.reference_opens.Statement.{statement}
@@ -11,25 +11,25 @@ returns : tie.Need-returns
 returns c = reference-outside _ _ _ _ (c .if1 .taken)
 
 shared-slice-read-if2 : tie.Need-shared-slice-read-if2
-shared-slice-read-if2 c = search needs
+shared-slice-read-if2 c = omega arith
 
 returns-2 : tie.Need-returns-2
 returns-2 c = reference-unallocated _ _ _ _ (c .if2 .taken)
 
 mul-pointer : tie.Need-mul-pointer
-mul-pointer c = search needs
+mul-pointer c = omega arith
 
 cast-pointer : tie.Need-cast-pointer
-cast-pointer c = search needs
+cast-pointer c = omega arith
 
 add-pointer : tie.Need-add-pointer
-add-pointer c = search needs
+add-pointer c = omega arith
 
 holds-requires : tie.Need-holds-requires
-holds-requires c κs = search needs
+holds-requires c κs = c .before .before .before .before .before .before .before .pre .sorted
 
 window-open-requires : tie.Need-window-open-requires
-window-open-requires c κs = search needs
+window-open-requires c κs = omega arith
 
 returns-3 : tie.Need-returns-3
 returns-3 c =

@@ -1,27 +1,28 @@
 -- `access::window_open` meets its contract: the end compared is that of the mode.
 -- Assumes nothing.
+use native.Mathlib.Omega.{arith}
 use borrow.Author.Needs.{needs}
 use Rattle.access.proofs.Answers.{window-reading, window-writing}
 use Rattle.access.proofs.window_open.Statement.{statement}
 use Rattle.access.proofs.window_open.Tie as tie
 
 mul-at : tie.Need-mul-at
-mul-at c = search needs
+mul-at c = omega arith
 
 mul-read : tie.Need-mul-read
-mul-read c = search needs
+mul-read c = omega arith
 
 shared-slice-read-read : tie.Need-shared-slice-read-read
-shared-slice-read-read c = search needs
+shared-slice-read-read c = omega arith
 
 add-write : tie.Need-add-write
-add-write c = search needs
+add-write c = omega arith
 
 mul-write : tie.Need-mul-write
-mul-write c = search needs
+mul-write c = omega arith
 
 shared-slice-read-write : tie.Need-shared-slice-read-write
-shared-slice-read-write c = search needs
+shared-slice-read-write c = omega arith
 
 enum-told : tie.Need-enum-told
 enum-told c = search needs

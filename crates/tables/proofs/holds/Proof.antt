@@ -1,20 +1,20 @@
 -- `tables::holds` meets its contract: the pointer at the rank decides.
 -- Assumes nothing.
+use native.Mathlib.Omega.{arith}
 use lib.Dec.{eqb}
-use borrow.Author.Needs.{needs}
 use Rattle.tables.specs.RankLaws.{contains-rank}
 use Rattle.tables.proofs.Search.{look-found, look-missed}
 use Rattle.tables.proofs.holds.Statement.{statement}
 use Rattle.tables.proofs.holds.Tie as tie
 
 place-requires : tie.Need-place-requires
-place-requires c κs = search needs
+place-requires c κs = c .before .pre
 
 mul-result : tie.Need-mul-result
-mul-result c = search needs
+mul-result c = omega arith
 
 shared-slice-read-result : tie.Need-shared-slice-read-result
-shared-slice-read-result c = search needs
+shared-slice-read-result c = omega arith
 
 returns : tie.Need-returns
 returns c = let start = c .before .before .before .before in look-found (start .pre) (λ x. eqb x (start .args .wanted)) (contains-rank (start .args .wanted) _ (start .pre .ascends)) (c .before .before .place .ensures) (c .before .if1 .taken)

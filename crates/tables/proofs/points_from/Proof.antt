@@ -1,7 +1,7 @@
 -- `tables::points_from` meets its contract: the pointer at the rank decides.
 -- Assumes nothing.
+use native.Mathlib.Omega.{arith}
 use lib.Dec.{eqb}
-use borrow.Author.Needs.{needs}
 use Rattle.card.specs.Pointers.{source}
 use Rattle.tables.specs.RankLaws.{points-rank}
 use Rattle.tables.proofs.Search.{look-found, look-missed}
@@ -9,16 +9,16 @@ use Rattle.tables.proofs.points_from.Statement.{statement}
 use Rattle.tables.proofs.points_from.Tie as tie
 
 mul-place : tie.Need-mul-place
-mul-place c = search needs
+mul-place c = omega arith
 
 place-requires : tie.Need-place-requires
-place-requires c κs = search needs
+place-requires c κs = c .before .pre
 
 mul-result : tie.Need-mul-result
-mul-result c = search needs
+mul-result c = omega arith
 
 shared-slice-read-result : tie.Need-shared-slice-read-result
-shared-slice-read-result c = search needs
+shared-slice-read-result c = omega arith
 
 returns : tie.Need-returns
 returns c = let start = c .before .before .before .before in look-found (start .pre) (λ x. eqb (source x) (start .args .block)) (points-rank (start .args .block) _ (start .pre .ascends)) (c .before .before .place .ensures) (c .before .if1 .taken)
