@@ -1,2 +1,4 @@
 pub mod Tests
 pub mod Changes
+pub mod Judging
+pub mod Creating

@@ -13,7 +13,7 @@ ghost use mathlib.Core.List.{List, [], _∷_};
 ghost use Prim.Native.Nat.{ℕ, _+_, _*_, _<_, _≤_};
 ghost use lib.ListN.{length, getD};
 ghost use Rattle.card.specs.Pointers.{pointer};
-ghost use Rattle.card.specs.Card.{card};
+ghost use Rattle.card.specs.Card.{card, pointsTo};
 ghost use Rattle.card.specs.SoundnessLaws.{SoundCard};
 ghost use Rattle.card.specs.Plan.{addPointer, dropPointer, freeBlock, withUsed, replaceKeys, change};
 ghost use Rattle.card.specs.declared.NewKey.the-variants.{Absent};
@@ -22,7 +22,8 @@ ghost use Rattle.card.specs.Promises.{Is};
 ghost use Rattle.card.specs.Session.{request, perform, performSound};
 ghost use Rattle.card.specs.declared.Call.the-variants.{Create, Delete};
 ghost use Rattle.card.specs.declared.Info.{Info};
-ghost use Rattle.tables.specs.InUse.{Addable, Removable};
+ghost use Rattle.allocation.specs.Refusals.{refusal};
+ghost use Rattle.tables.specs.InUse.{Sorted, Addable, Removable};
 
 // ---- tests
 
@@ -45,6 +46,25 @@ fn root_at_host(port: Port, info: Info, block: u16) -> bool
     match port {
         Port::Host => (block as usize) < info.roots,
         Port::Service => false,
+    }
+}
+
+// The source points to the destination.
+fn points_to(info: Info, pointers: &[u32], source: u16, destination: u16) -> bool
+    requires { ⌜ Sorted (now pointers) (info .used) ⌝ }
+    ensures { λ r. ⌜ r ≡ pointsTo (card info [] [] [] (now (pointers .entry)) [] [] .public) source destination ⌝ }
+{
+    let pointer = (source as u32) * 65536 + (destination as u32);
+    tables::holds(pointers, info.used, pointer)
+}
+
+// A call that is refused leaves the record as it was.
+fn refuse(info: Info, why: Refusal) -> Outcome
+    ensures { λ r. ⌜ r ≡ refusal info why ⌝ }
+{
+    Outcome {
+        answer: Answer::Refused(why),
+        info,
     }
 }
 
@@ -129,3 +149,4 @@ fn free_block(flags: &mut [u8], keys: &mut [u64], windows: &mut [u64], block: u1
     windows[window + 1] = 0;
     clear_keys(keys, block);
 }
+
