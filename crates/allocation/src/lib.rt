@@ -150,3 +150,54 @@ fn free_block(flags: &mut [u8], keys: &mut [u64], windows: &mut [u64], block: u1
     clear_keys(keys, block);
 }
 
+// ---- CREATE
+
+// CREATE on a card that has been audited.
+pub fn create_sound(
+    info: Info,
+    flags: &[u8],
+    keys: &[u64],
+    counts: &mut [u16],
+    pointers: &mut [u32],
+    windows: &[u64],
+    contents: &[u8],
+    port: Port,
+    o: CreateOperands,
+) -> Outcome
+    requires { ⌜ SoundCard (card info (now flags) (now keys) (now counts) (now pointers) (now windows) (now contents)) ⌝ }
+    ensures { λ r. ⌜ Is (performSound port (card info (now (flags .entry)) (now (keys .entry)) (now (counts .entry)) (now (pointers .entry)) (now (windows .entry)) (now (contents .entry))) (request (Create o) [] [] [])) (r .answer) (card (r .info) (now (flags .entry)) (now (keys .entry)) (now (counts .exit)) (now (pointers .exit)) (now (windows .entry)) (now (contents .entry))) [] [] ⌝ }
+{
+    let source = o.source;
+    let destination = o.destination;
+    let first = o.credential;
+    let second = o.second;
+    let from = source as usize;
+    let to = destination as usize;
+    if missing(info, flags, source) {
+        return refuse(info, Refusal::NotAllocated);
+    }
+    if missing(info, flags, destination) {
+        return refuse(info, Refusal::NotAllocated);
+    }
+    if (to < info.roots) | root_at_host(port, info, source) {
+        return refuse(info, Refusal::IsRoot);
+    }
+    if !access::admits(port, info, flags, keys, pointers, windows, Mode::Writing, from, first) {
+        return refuse(info, Refusal::NotOpened);
+    }
+    if !access::admits(port, info, flags, keys, pointers, windows, Mode::Writing, to, second) {
+        return refuse(info, Refusal::NotOpened);
+    }
+    if (source == destination) | points_to(info, pointers, source, destination) {
+        return refuse(info, Refusal::PointerExists);
+    }
+    if info.used == pointers.len() {
+        return refuse(info, Refusal::TooFewPlaces);
+    }
+    let left = add_pointer(info, counts, pointers, source, destination);
+    Outcome {
+        answer: Answer::Done,
+        info: left,
+    }
+}
+
