@@ -2,3 +2,4 @@ pub mod Tests
 pub mod Changes
 pub mod Judging
 pub mod Creating
+pub mod Deleting

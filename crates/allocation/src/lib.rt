@@ -201,3 +201,57 @@ pub fn create_sound(
     }
 }
 
+// ---- DELETE
+
+// DELETE on a card that has been audited.
+pub fn delete_sound(
+    info: Info,
+    flags: &mut [u8],
+    keys: &mut [u64],
+    counts: &mut [u16],
+    pointers: &mut [u32],
+    windows: &mut [u64],
+    contents: &[u8],
+    port: Port,
+    o: DeleteOperands,
+) -> Outcome
+    requires { ⌜ SoundCard (card info (now flags) (now keys) (now counts) (now pointers) (now windows) (now contents)) ⌝ }
+    ensures { λ r. ⌜ Is (performSound port (card info (now (flags .entry)) (now (keys .entry)) (now (counts .entry)) (now (pointers .entry)) (now (windows .entry)) (now (contents .entry))) (request (Delete o) [] [] [])) (r .answer) (card (r .info) (now (flags .exit)) (now (keys .exit)) (now (counts .exit)) (now (pointers .exit)) (now (windows .exit)) (now (contents .entry))) [] [] ⌝ }
+{
+    let source = o.source;
+    let destination = o.destination;
+    let credential = o.credential;
+    let from = source as usize;
+    let to = destination as usize;
+    if missing(info, flags, source) {
+        return refuse(info, Refusal::NotAllocated);
+    }
+    if missing(info, flags, destination) {
+        return refuse(info, Refusal::NotAllocated);
+    }
+    if root_at_host(port, info, source) {
+        return refuse(info, Refusal::IsRoot);
+    }
+    if !access::admits(port, info, flags, keys, pointers, windows, Mode::Writing, from, credential) {
+        return refuse(info, Refusal::NotOpened);
+    }
+    if !points_to(info, pointers, source, destination) {
+        return refuse(info, Refusal::NoPointer);
+    }
+    if counts[to] != 1 {
+        let left = drop_pointer(info, counts, pointers, source, destination);
+        return Outcome {
+            answer: Answer::Value(0),
+            info: left,
+        };
+    }
+    if tables::points_from(pointers, info.used, destination) {
+        return refuse(info, Refusal::HasPointers);
+    }
+    let left = drop_pointer(info, counts, pointers, source, destination);
+    free_block(flags, keys, windows, destination);
+    Outcome {
+        answer: Answer::Value(1),
+        info: left,
+    }
+}
