@@ -3,3 +3,4 @@ pub mod Changes
 pub mod Judging
 pub mod Creating
 pub mod Deleting
+pub mod Nearest
