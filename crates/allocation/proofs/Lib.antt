@@ -4,3 +4,4 @@ pub mod Judging
 pub mod Creating
 pub mod Deleting
 pub mod Nearest
+pub mod Walking
