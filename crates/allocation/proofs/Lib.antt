@@ -5,3 +5,5 @@ pub mod Creating
 pub mod Deleting
 pub mod Nearest
 pub mod Walking
+pub mod Taking
+pub mod Allocating

@@ -1,6 +1,6 @@
 -- The outward walk takes ALLOC's picks in order, over plain values.
 -- Assumes nothing.
-use Prim.Native.Nat.{ℕ, zero, suc, _+_, _-_, _≤_, _<_}
+use Prim.Native.Nat.{ℕ, zero, suc, _+_, _-_, _%_, _≤_, _<_}
 use mathlib.Core.Path.{_≡_, refl, sym, ap, _∙_, subst}
 use mathlib.Core.Logic.{_⊎_, inl, inr, ⊎-elim}
 use mathlib.Core.Bool.{Bool, true, false, not, cond}
@@ -10,7 +10,7 @@ use native.Mathlib.Omega.{arith}
 use lib.Dec.{eqb, ltb}
 use lib.ListN.{length, drop, getD, set, length-append, length-set}
 use lib.Seq.{drop-cons, set-append-seam, append-snoc, getD-set-same}
-use borrow.Author.Tests.{lt-ltb, le-ltb, eq-eqb, not-true}
+use borrow.Author.Tests.{lt-ltb, le-ltb, eq-eqb, ne-eqb, not-true}
 use Rattle.card.specs.Lists.{any}
 use Rattle.card.specs.ListsLaws.{or-left, absurd-test, false-unless, below-or-not, same-or-other}
 use Rattle.card.specs.Pointers.{pointer, contains, remove}
@@ -89,12 +89,18 @@ around {low = low} {high} {b} n l h w =
 
 -- One block fewer is left to pass.
 pub fewer : {want blocks low high b : ℕ} → Next want blocks low high b → low ≤ want → want ≤ high → high ≤ blocks
-    → lowAfter low b + (blocks - highAfter high b) < low + (blocks - high)
+    → {l h : ℕ} → l ≡ lowAfter low b → h ≡ highAfter high b → l + (blocks - h) < low + (blocks - high)
 unfolding lowAfter highAfter
-fewer {low = low} {high} {b} n l h w =
+fewer {low = low} {high} {b} n o u w {l} {h} d e =
     ⊎-elim
-    (λ (e : b + 1 ≡ low). rw (lt-ltb b low (omega arith), lt-ltb b high (omega arith)) (omega arith))
-    (λ (e : b ≡ high). rw (le-ltb b low (omega arith), le-ltb b high (omega arith)) (omega (arith, n .below)))
+    (λ (q : b + 1 ≡ low).
+    let down : l ≡ b = rw (lt-ltb b low (omega arith)) at d in
+    let up : h ≡ high = rw (lt-ltb b high (omega arith)) at e in
+    omega arith)
+    (λ (q : b ≡ high).
+    let down : l ≡ low = rw (le-ltb b low (omega arith)) at d in
+    let up : h ≡ b + 1 = rw (le-ltb b high (omega arith)) at e in
+    omega (arith, n .below))
     (n .beside)
 
 -- ---- the free blocks
@@ -180,6 +186,10 @@ pub record Walked (c₀ : Card) (reference want count : ℕ) (places₀ : List �
   pub samePlaces : length places ≡ length places₀
   pub fits : count ≤ length places₀
 
+-- No more blocks are taken than there are places for pointers.
+pub ready-low : {c : Card} {reference want count : ℕ} → Ready c reference want count → count ≤ 16384
+ready-low r = omega (arith, r .room, r .sound .shaped .hasLengths .placesHigh)
+
 pub walked-start : {c₀ : Card} {reference want count : ℕ} (places₀ : List ℕ) → Ready c₀ reference want count → count ≤ length places₀
     → Walked c₀ reference want count places₀ c₀ places₀ want want 0
 unfolding changes takeAll overwrite
@@ -227,9 +237,17 @@ module _ {c₀ : Card} {reference want count : ℕ} {places₀ : List ℕ} {c : 
     here : Next want (c .public .info .blocks) low high b
     here = subst (λ (k : ℕ). Next want k low high b) (sym (w .sameBlocks)) n
 
-    -- An allocated block is passed.
-    pub walked-passed : allocatedFlag (flag (c .public) b) ≡ true → Walked c₀ reference want count places₀ c places (lowAfter low b) (highAfter high b) taken
-    walked-passed odd =
+    pub next-below : b < length (c .public .flags)
+    next-below = omega (arith, here .below, w .ready .sound .shaped .hasLengths .flags)
+
+    pub next-narrow : b < 4096
+    next-narrow = omega (arith, here .below, w .ready .sound .shaped .inRanges .blocksHigh)
+
+    pub walked-fewer : {l h : ℕ} → l ≡ lowAfter low b → h ≡ highAfter high b → l + (c₀ .public .info .blocks - h) < low + (c₀ .public .info .blocks - high)
+    walked-fewer d e = fewer n (w .lowest) (w .highest) (w .within) d e
+
+    passed-by : flag (c .public) b % 2 ≡ 1 → Walked c₀ reference want count places₀ c places (lowAfter low b) (highAfter high b) taken
+    passed-by odd =
         let ends = around n (w .lowest) (w .highest) (w .within) in
         record {
           ready = w .ready;
@@ -239,7 +257,7 @@ module _ {c₀ : Card} {reference want count : ℕ} {places₀ : List ℕ} {c : 
           within = ends .1 .1;
           passed = λ y l u.
               ⊎-elim
-              (λ (e : y ≡ b). subst (λ (k : ℕ). allocated (c .public) k ≡ true) (sym e) (flag-allocated (c .public) b (here .below) odd))
+              (λ (e : y ≡ b). subst (λ (k : ℕ). allocated (c .public) k ≡ true) (sym e) (flag-allocated (c .public) b (here .below) (eq-eqb _ _ odd)))
               (λ r. w .passed y (r .0) (r .1))
               (between n (omega (arith, w .lowest, w .highest)) y l u);
           numbers = w .numbers;
@@ -254,7 +272,14 @@ module _ {c₀ : Card} {reference want count : ℕ} {places₀ : List ℕ} {c : 
           fits = w .fits;
         }
 
-    module _ (l : taken < count) (even : allocatedFlag (flag (c .public) b) ≡ false) where
+    -- An allocated block is passed.
+    pub walked-passed : flag (c .public) b % 2 ≡ 1 → {l h : ℕ} → l ≡ lowAfter low b → h ≡ highAfter high b → Walked c₀ reference want count places₀ c places l h taken
+    walked-passed odd d e = rw (d, e) (passed-by odd)
+
+    module _ (l : taken < count) (odd : flag (c .public) b % 2 ≡ 1 → ⊥) where
+      even : allocatedFlag (flag (c .public) b) ≡ false
+      even = ne-eqb _ _ odd
+
       pub can-take : CanTake c reference b
       can-take = record {
         sound = w .ready .sound;
@@ -321,9 +346,20 @@ module _ {c₀ : Card} {reference want count : ℕ} {places₀ : List ℕ} {c : 
             fits = w .fits;
           }
 
-      pub walked-taken : {d : Card} → d ≡ changes c (takeAll reference (b ∷ []))
-          → Walked c₀ reference want count places₀ d (set places taken b) (lowAfter low b) (highAfter high b) (taken + 1)
-      walked-taken e = subst (λ (d : Card). Walked c₀ reference want count places₀ d (set places taken b) (lowAfter low b) (highAfter high b) (taken + 1)) (sym e) after
+      pub walked-taken : {d : Card} {m h : ℕ} → d ≡ changes c (takeAll reference (b ∷ [])) → m ≡ lowAfter low b → h ≡ highAfter high b
+          → Walked c₀ reference want count places₀ d (set places taken b) m h (taken + 1)
+      walked-taken e f g = rw (e, f, g) after
+
+  -- The tables are as long as before.
+  module _ (s : SoundCard c₀) where
+    pub flags-same : length (c .public .flags) ≡ length (c₀ .public .flags)
+    flags-same = w .ready .sound .shaped .hasLengths .flags ∙ w .sameBlocks ∙ sym (s .shaped .hasLengths .flags)
+
+    pub counts-same : length (c .public .counts) ≡ length (c₀ .public .counts)
+    counts-same = w .ready .sound .shaped .hasLengths .counts ∙ w .sameBlocks ∙ sym (s .shaped .hasLengths .counts)
+
+    pub contents-same : length (c .contents) ≡ length (c₀ .contents)
+    contents-same = w .ready .sound .shaped .hasLengths .contents ∙ rw (w .sameBlocks, w .sameBytes) (sym (s .shaped .hasLengths .contents))
 
   -- All are taken.
   pub walked-whole : count ≤ taken → Took c₀ reference (picks want count (freeBlocks (c₀ .public))) places₀ c places

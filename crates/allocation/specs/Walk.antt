@@ -2,15 +2,15 @@
 use Prim.Native.Nat.{ℕ, _+_, _≤_, _<_}
 use mathlib.Core.Path.{_≡_}
 use mathlib.Core.Logic.{_⊎_}
-use mathlib.Core.Bool.{true, false, cond}
+use mathlib.Core.Bool.{Bool, true, false, _&&_, _||_, not, cond}
 use mathlib.Core.List.{List}
-use lib.Dec.{ltb}
+use lib.Dec.{eqb, ltb}
 use lib.ListN.{length}
 use Rattle.card.specs.Contents.{overwrite}
 use Rattle.card.specs.Card.{Card, flag, allocatedFlag, allocated, freeBlocks}
 use Rattle.card.specs.SoundnessLaws.{SoundCard}
 use Rattle.card.specs.Plan.{changes}
-use Rattle.card.specs.Calls.{distance, takeAll}
+use Rattle.card.specs.Calls.{noHint, distance, takeAll}
 
 -- ---- the walk: the blocks from `low` on and below `high` are passed
 
@@ -56,3 +56,7 @@ pub record Ready (c : Card) (reference want count : ℕ) : Type 0 where
 pub record Took (c : Card) (reference : ℕ) (numbers places : List ℕ) (after : Card) (left : List ℕ) : Type 0 where
   pub leaves : after ≡ changes c (takeAll reference numbers)
   pub shows : left ≡ overwrite places 0 numbers
+
+-- Document 01's refusal 4 of ALLOC, by N, the hint, the count and the number of places.
+abbrev pub badOperands : ℕ → ℕ → ℕ → ℕ → Bool
+badOperands blocks hint count places = eqb count 0 || ltb 64 count || (not (ltb hint blocks) && not (eqb hint noHint)) || ltb places count
