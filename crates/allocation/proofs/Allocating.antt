@@ -1,0 +1,142 @@
+-- What ALLOC answers at each way out, over plain values.
+-- Assumes nothing.
+use Prim.Native.Nat.{ℕ, _+_, _≤_, _<_}
+use mathlib.Core.Path.{_≡_, refl, sym, ap, _∙_, subst}
+use mathlib.Core.Logic.{_⊎_, inl, inr, ⊎-elim}
+use mathlib.Core.Bool.{Bool, true, false, _&&_, _||_, not, cond}
+use mathlib.Core.List.{List, [], _∷_}
+use native.Mathlib.Omega.{arith}
+use lib.Dec.{eqb, ltb}
+use lib.ListN.{length}
+use borrow.Author.Tests.{lt-ltb, le-ltb, eq-eqb, ne-eqb, ltb-true, ltb-false, eqb-true, not-false}
+use Rattle.card.specs.ListsLaws.{or-false-left, or-false-right, and-true, absurd-test, not-cases}
+use Rattle.card.specs.Card.{Public, Card, card, freeBlocks}
+use Rattle.card.specs.SoundnessLaws.{SoundCard}
+use Rattle.card.specs.Plan.{changes, outAfter, placesAfter}
+use Rattle.card.specs.PlanLaws.{FirstHolds, here, later, NoneHolds}
+use Rattle.card.specs.Calls.{noHint, wanted, picks, allocPlan}
+use Rattle.card.specs.Promises.{Is, is-done}
+use Rattle.card.specs.Session.{Request, request, plan, performSound}
+use Rattle.card.specs.declared.Port.{Port}
+use Rattle.card.specs.declared.Call.the-variants.{Alloc}
+use Rattle.card.specs.declared.AllocOperands.{AllocOperands}
+use Rattle.card.specs.declared.Refusal.{Refusal}
+use Rattle.card.specs.declared.Refusal.the-variants.{BadOperand, NotAllocated, IsRoot, NotOpened, TooFewBlocks, TooFewPlaces}
+use Rattle.card.specs.declared.Answer.the-variants.{Done}
+use Rattle.tables.specs.Free.{unallocatedBelow}
+use Rattle.tables.specs.FreeLaws.{unallocated-free}
+use Rattle.allocation.specs.Walk.{Ready, Took, badOperands}
+use Rattle.allocation.proofs.Judging.{told, told-not, Missing, RootAtHost, Admits, missing-whole, root-whole, admits-whole}
+
+-- The wanted block, where a hint is none or a block's number.
+pub wanted-none : {hint : ℕ} → hint ≡ noHint → 0 ≡ wanted hint
+unfolding wanted
+wanted-none {hint} e = rw (eq-eqb hint noHint e)
+
+pub wanted-hint : {hint : ℕ} → (hint ≡ noHint → ⊥) → hint ≡ wanted hint
+unfolding wanted
+wanted-hint {hint} f = rw (ne-eqb hint noHint f)
+
+wanted-below : (blocks hint : ℕ) → 0 < blocks → not (ltb hint blocks) && not (eqb hint noHint) ≡ false → wanted hint < blocks
+unfolding wanted
+wanted-below blocks hint some h =
+    ⊎-elim
+    (λ (e : eqb hint noHint ≡ true). rw e some)
+    (λ (e : eqb hint noHint ≡ false).
+    rw e
+    (⊎-elim
+    (λ (l : ltb hint blocks ≡ true). ltb-true hint blocks l)
+    (λ (l : ltb hint blocks ≡ false). absurd-test (and-true (not (ltb hint blocks)) (not (eqb hint noHint)) (ap not l) (ap not e)) h)
+    (not-cases (ltb hint blocks))))
+    (not-cases (eqb hint noHint))
+
+module _ (port : Port) (c : Card) (o : AllocOperands) (places : List ℕ) where
+  abbrev asked : Request
+  asked = request (Alloc o) [] [] places
+
+  abbrev Refuses : Refusal → Type 0
+  Refuses why = FirstHolds (plan port c (asked .call) (asked .lent) .checks) why
+
+  abbrev Passes : Type 0
+  Passes = NoneHolds (plan port c (asked .call) (asked .lent) .checks)
+
+  module _ {t1 : Bool} (e1 : t1 ≡ badOperands (c .public .info .blocks) (o .hint) (o .count) (length places)) where
+    pub bad-operand : t1 ≡ true → Refuses BadOperand
+    unfolding plan allocPlan
+    bad-operand h = here (told e1 h)
+
+    module _ (h1 : t1 ≡ false) {t2 : Bool} (e2 : Missing c t2 (o .reference)) where
+      pub reference-missing : t2 ≡ true → Refuses NotAllocated
+      unfolding plan allocPlan
+      reference-missing h = later (told e1 h1) (here (told (missing-whole c _ e2) h))
+
+      module _ (h2 : t2 ≡ false) {t3 : Bool} (e3 : RootAtHost c t3 port (o .reference)) where
+        pub root-reference : t3 ≡ true → Refuses IsRoot
+        unfolding plan allocPlan
+        root-reference h = later (told e1 h1) (later (told (missing-whole c _ e2) h2) (here (told (root-whole c port _ e3) h)))
+
+        module _ (h3 : t3 ≡ false) {t4 : Bool} (e4 : Admits c t4 port (o .reference) (o .credential)) where
+          pub reference-shut : not t4 ≡ true → Refuses NotOpened
+          unfolding plan allocPlan
+          reference-shut h =
+              later (told e1 h1) (later (told (missing-whole c _ e2) h2)
+              (later (told (root-whole c port _ e3) h3)
+              (here (told-not (admits-whole c port _ _ e4) h))))
+
+          module _ (h4 : not t4 ≡ false) (s : SoundCard c) {n : ℕ} (e5 : n ≡ length (unallocatedBelow (c .public .flags) (length (c .public .flags)))) where
+            free-counted : n ≡ length (freeBlocks (c .public))
+            free-counted = e5 ∙ ap (λ (xs : List ℕ). length xs) (unallocated-free (c .public) (s .shaped .hasLengths .flags))
+
+            pub too-few-blocks : n < o .count → Refuses TooFewBlocks
+            unfolding plan allocPlan
+            too-few-blocks h =
+                later (told e1 h1) (later (told (missing-whole c _ e2) h2)
+                (later (told (root-whole c port _ e3) h3)
+                (later (told-not (admits-whole c port _ _ e4) h4)
+                (here (lt-ltb (length (freeBlocks (c .public))) (o .count) (omega (arith, free-counted)))))))
+
+            module _ (h5 : o .count ≤ n) where
+              pub too-few-places : length (c .public .pointers) < c .public .info .used + o .count → Refuses TooFewPlaces
+              unfolding plan allocPlan
+              too-few-places h =
+                  later (told e1 h1) (later (told (missing-whole c _ e2) h2)
+                  (later (told (root-whole c port _ e3) h3)
+                  (later (told-not (admits-whole c port _ _ e4) h4)
+                  (later (le-ltb (length (freeBlocks (c .public))) (o .count) (omega (arith, free-counted)))
+                  (here (lt-ltb _ _ h))))))
+
+              pub passes : c .public .info .used + o .count ≤ length (c .public .pointers) → Passes
+              unfolding plan allocPlan
+              passes h =
+                  (told e1 h1,
+                  (told (missing-whole c _ e2) h2,
+                  (told (root-whole c port _ e3) h3,
+                  (told-not (admits-whole c port _ _ e4) h4,
+                  (le-ltb (length (freeBlocks (c .public))) (o .count) (omega (arith, free-counted)),
+                  (le-ltb _ _ h, tt))))))
+
+  -- What taking the blocks asks.
+  pub ready : SoundCard c → Passes → {want : ℕ} → want ≡ wanted (o .hint) → Ready c (o .reference) want (o .count) × (o .count ≤ length places)
+  unfolding plan allocPlan
+  ready s h e =
+      let front : Bool = eqb (o .count) 0 || ltb 64 (o .count) in
+      let hinted : Bool = not (ltb (o .hint) (c .public .info .blocks)) && not (eqb (o .hint) noHint) in
+      let near : hinted ≡ false = or-false-right front hinted (or-false-left (front || hinted) _ (h .0)) in
+      (record {
+        sound = s;
+        referenceAllocated = not-false _ (h .1 .0);
+        wantedBelow =
+            subst (λ (n : ℕ). n < c .public .info .blocks) (sym e)
+            (wanted-below (c .public .info .blocks) (o .hint) (omega (arith, s .shaped .inRanges .blocksLow)) near);
+        enough = ltb-false _ _ (h .1 .1 .1 .1 .0);
+        room = ltb-false _ _ (h .1 .1 .1 .1 .1 .0);
+      },
+      ltb-false _ _ (or-false-right (front || hinted) _ (h .0)))
+
+  pub took : {after : Card} {left : List ℕ} {want : ℕ} → Passes → want ≡ wanted (o .hint)
+      → Took c (o .reference) (picks want (o .count) (freeBlocks (c .public))) places after left → Is (performSound port c asked) Done after [] left
+  unfolding performSound plan allocPlan outAfter placesAfter
+  took {after} {left} h e t =
+      let right : Took c (o .reference) (picks (wanted (o .hint)) (o .count) (freeBlocks (c .public))) places after left =
+      subst (λ (n : ℕ). Took c (o .reference) (picks n (o .count) (freeBlocks (c .public))) places after left) e t in
+      is-done c (asked .lent) (plan port c (asked .call) (asked .lent)) h (right .leaves) refl (right .shows)

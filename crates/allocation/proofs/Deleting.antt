@@ -1,0 +1,163 @@
+-- What DELETE answers at each way out, over plain values.
+-- Assumes nothing.
+use Prim.Native.Nat.{ℕ, suc, _+_, _*_, _≤_, _<_}
+use mathlib.Core.Path.{_≡_, refl, sym, ap, _∙_, subst}
+use mathlib.Core.Bool.{Bool, true, false, not, _&&_, cond}
+use mathlib.Core.List.{List, [], _∷_}
+use native.Mathlib.Omega.{arith}
+use lib.Dec.{eqb, ltb}
+use lib.ListN.{length, take, getD, length-take}
+use lib.Seq.{length-take-le}
+use borrow.Author.Tests.{eq-eqb, ne-eqb, not-false}
+use Rattle.card.specs.ListsLaws.{and-true, and-false-left, and-false-right}
+use Rattle.card.specs.Pointers.{pointer, pointsFrom}
+use Rattle.card.specs.PointersLaws.{contains-counted, destination-pointer, remove-length}
+use Rattle.card.specs.Card.{Public, Card, card, count, inUse, pointsTo, hasPointers}
+use Rattle.card.specs.SoundnessLaws.{SoundCard, allocated-below}
+use Rattle.card.specs.Plan.{dropPointer, freeBlock, change, changes, outAfter, placesAfter}
+use Rattle.card.specs.PlanLaws.{FirstHolds, here, later, NoneHolds}
+use Rattle.card.specs.Calls.{deletePlan}
+use Rattle.card.specs.Promises.{Is, is-done}
+use Rattle.card.specs.Session.{Request, request, plan, performSound}
+use Rattle.card.specs.declared.Info.{Info}
+use Rattle.card.specs.declared.Port.{Port}
+use Rattle.card.specs.declared.Call.the-variants.{Delete}
+use Rattle.card.specs.declared.DeleteOperands.{DeleteOperands}
+use Rattle.card.specs.declared.Refusal.{Refusal}
+use Rattle.card.specs.declared.Refusal.the-variants.{NotAllocated, IsRoot, NotOpened, NoPointer, HasPointers}
+use Rattle.card.specs.declared.Answer.the-variants.{Value}
+use Rattle.guarantees.specs.PointerSteps.{block-narrow}
+use Rattle.tables.specs.InUse.{Removable}
+use Rattle.tables.specs.InUseLaws.{sound-removable}
+use Rattle.allocation.proofs.Judging.{told, told-not, Missing, RootAtHost, Admits, PointsTo, missing-whole, root-whole, admits-whole, points-whole}
+
+module _ (port : Port) (c : Card) (o : DeleteOperands) where
+  abbrev asked : Request
+  asked = request (Delete o) [] [] []
+
+  abbrev Refuses : Refusal → Type 0
+  Refuses why = FirstHolds (plan port c (asked .call) (asked .lent) .checks) why
+
+  abbrev Passes : Type 0
+  Passes = NoneHolds (plan port c (asked .call) (asked .lent) .checks)
+
+  -- The destination's count.
+  abbrev counted : ℕ
+  counted = getD (c .public .counts) (o .destination) 0
+
+  module _ {t1 : Bool} (e1 : Missing c t1 (o .source)) where
+    pub source-missing : t1 ≡ true → Refuses NotAllocated
+    unfolding plan deletePlan
+    source-missing h = here (told (missing-whole c _ e1) h)
+
+    module _ (h1 : t1 ≡ false) {t2 : Bool} (e2 : Missing c t2 (o .destination)) where
+      pub destination-missing : t2 ≡ true → Refuses NotAllocated
+      unfolding plan deletePlan
+      destination-missing h = later (told (missing-whole c _ e1) h1) (here (told (missing-whole c _ e2) h))
+
+      module _ (h2 : t2 ≡ false) {t3 : Bool} (e3 : RootAtHost c t3 port (o .source)) where
+        pub root-source : t3 ≡ true → Refuses IsRoot
+        unfolding plan deletePlan
+        root-source h = later (told (missing-whole c _ e1) h1) (later (told (missing-whole c _ e2) h2) (here (told (root-whole c port _ e3) h)))
+
+        module _ (h3 : t3 ≡ false) {t4 : Bool} (e4 : Admits c t4 port (o .source) (o .credential)) where
+          pub source-shut : not t4 ≡ true → Refuses NotOpened
+          unfolding plan deletePlan
+          source-shut h =
+              later (told (missing-whole c _ e1) h1) (later (told (missing-whole c _ e2) h2)
+              (later (told (root-whole c port _ e3) h3)
+              (here (told-not (admits-whole c port _ _ e4) h))))
+
+          module _ (h4 : not t4 ≡ false) {t5 : Bool} (e5 : PointsTo c t5 (o .source) (o .destination)) where
+            pub no-pointer : not t5 ≡ true → Refuses NoPointer
+            unfolding plan deletePlan
+            no-pointer h =
+                later (told (missing-whole c _ e1) h1) (later (told (missing-whole c _ e2) h2)
+                (later (told (root-whole c port _ e3) h3)
+                (later (told-not (admits-whole c port _ _ e4) h4)
+                (here (told-not (points-whole c _ _ e5) h)))))
+
+            module _ (h5 : not t5 ≡ false) where
+              -- The block has another pointer to it, so its own do not matter.
+              pub passes-more : (counted ≡ 1 → ⊥) → Passes
+              unfolding plan deletePlan
+              passes-more h =
+                  (told (missing-whole c _ e1) h1,
+                  (told (missing-whole c _ e2) h2,
+                  (told (root-whole c port _ e3) h3,
+                  (told-not (admits-whole c port _ _ e4) h4,
+                  (told-not (points-whole c _ _ e5) h5,
+                  (and-false-left _ _ (ne-eqb _ _ h), tt))))))
+
+              module _ (last : counted ≡ 1) {t6 : Bool} (e6 : t6 ≡ pointsFrom (o .destination) (inUse (c .public))) where
+                pub has-pointers : t6 ≡ true → Refuses HasPointers
+                unfolding plan deletePlan hasPointers
+                has-pointers h =
+                    later (told (missing-whole c _ e1) h1) (later (told (missing-whole c _ e2) h2)
+                    (later (told (root-whole c port _ e3) h3)
+                    (later (told-not (admits-whole c port _ _ e4) h4)
+                    (later (told-not (points-whole c _ _ e5) h5)
+                    (here (and-true (eqb counted 1) _ (eq-eqb _ _ last) (told e6 h)))))))
+
+                pub passes-last : t6 ≡ false → Passes
+                unfolding plan deletePlan hasPointers
+                passes-last h =
+                    (told (missing-whole c _ e1) h1,
+                    (told (missing-whole c _ e2) h2,
+                    (told (root-whole c port _ e3) h3,
+                    (told-not (admits-whole c port _ _ e4) h4,
+                    (told-not (points-whole c _ _ e5) h5,
+                    (and-false-right (eqb counted 1) _ (told e6 h), tt))))))
+
+  module _ (s : SoundCard c) (h : Passes) where
+    below : o .destination < c .public .info .blocks
+    unfolding plan deletePlan
+    below = allocated-below (c .public) (o .destination) (not-false _ (h .1 .0))
+
+    there : pointsTo (c .public) (o .source) (o .destination) ≡ true
+    unfolding plan deletePlan
+    there = not-false _ (h .1 .1 .1 .1 .0)
+
+    -- What dropping the pointer asks.
+    pub droppable : Removable (c .public .pointers) (c .public .info .used) (pointer (o .source) (o .destination))
+        × ((o .destination < length (c .public .counts)) × ((1 ≤ counted) × (1 ≤ c .public .info .used)))
+    unfolding pointsTo
+    droppable =
+        let w : ℕ = pointer (o .source) (o .destination) in
+        let some : 1 ≤ counted =
+        subst (λ (n : ℕ). 1 ≤ n) (sym (s .isSound .counts (o .destination) below))
+        (contains-counted (o .destination) w (inUse (c .public)) there (destination-pointer (o .source) (o .destination) (block-narrow s below))) in
+        (sound-removable s (o .source) (o .destination) there,
+        (omega (arith, below, s .shaped .hasLengths .counts),
+        (some,
+        omega (arith, remove-length w (inUse (c .public)) there, length-take-le (c .public .info .used) (c .public .pointers) (s .shaped .usedHigh)))))
+
+    -- What freeing the block asks.
+    pub freeable : (o .destination < length (c .public .flags))
+        × ((4 * o .destination + 4 ≤ length (c .keys)) × (2 * o .destination + 2 ≤ length (c .public .windows)))
+    freeable =
+        (omega (arith, below, s .shaped .hasLengths .flags),
+        (omega (arith, below, s .shaped .hasLengths .keys),
+        omega (arith, below, s .shaped .hasLengths .windows)))
+
+  deleted : {after : Card} (t : Bool) → eqb counted 1 ≡ t → Passes
+      → after ≡ changes (change c (dropPointer (o .source) (o .destination))) (cond t (freeBlock (o .destination) ∷ []) [])
+      → Is (performSound port c asked) (Value (cond t 1 0)) after [] []
+  unfolding performSound plan deletePlan changes outAfter placesAfter
+  deleted {after} t q h =
+      subst
+      (λ (t : Bool).
+      after ≡ changes (change c (dropPointer (o .source) (o .destination))) (cond t (freeBlock (o .destination) ∷ []) [])
+      → Is (performSound port c asked) (Value (cond t 1 0)) after [] [])
+      q
+      (λ e. is-done c (asked .lent) (plan port c (asked .call) (asked .lent)) h e refl refl)
+
+  pub deleted-more : {after : Card} → Passes → (counted ≡ 1 → ⊥) → after ≡ change c (dropPointer (o .source) (o .destination)) → Is (performSound port c asked) (Value 0) after [] []
+  unfolding changes
+  deleted-more h more e = deleted false (ne-eqb _ _ more) h e
+
+  -- The block is freed on the card that the dropped pointer leaves.
+  pub deleted-last : {between after : Card} → Passes → counted ≡ 1 → between ≡ change c (dropPointer (o .source) (o .destination))
+      → after ≡ change between (freeBlock (o .destination)) → Is (performSound port c asked) (Value 1) after [] []
+  unfolding changes
+  deleted-last h last e f = deleted true (eq-eqb _ _ last) h (f ∙ ap (λ (d : Card). change d (freeBlock (o .destination))) e)

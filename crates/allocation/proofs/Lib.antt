@@ -1,0 +1,9 @@
+pub mod Tests
+pub mod Changes
+pub mod Judging
+pub mod Creating
+pub mod Deleting
+pub mod Nearest
+pub mod Walking
+pub mod Taking
+pub mod Allocating
