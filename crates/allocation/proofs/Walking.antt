@@ -20,8 +20,9 @@ use Rattle.card.specs.Card.{Public, Card, flag, allocatedFlag, allocated, freeB
 use Rattle.card.specs.SoundnessLaws.{SoundCard, flag-allocated, allocated-flag}
 use Rattle.card.specs.Plan.{Change, takeBlock, addPointer, withFlags, changePublic, change, changes}
 use Rattle.card.specs.Calls.{distance, picks, takeAll}
-use Rattle.guarantees.specs.Steps.{allocated-set, allocated-other}
-use Rattle.guarantees.specs.PointerSteps.{inserted-length, takeAdd-sound}
+use Rattle.card.proofs.Guarantees.Steps.{allocated-set, allocated-other}
+use Rattle.card.specs.ChangesLaws.{inserted-length}
+use Rattle.card.proofs.Guarantees.PointerSteps.{takeAdd-sound}
 use Rattle.allocation.specs.Walk.{Spread, Next, lowAfter, highAfter, CanTake, Ready, Took}
 use Rattle.allocation.proofs.Nearest.{picks-nearest, numbers-hold, hold-numbers, numbers-ascend, remove-numbers}
 
@@ -309,7 +310,7 @@ module _ {c₀ : Card} {reference want count : ℕ} {places₀ : List ℕ} {c : 
               wantedBelow = w .ready .wantedBelow;
               enough = subst (λ (xs : List ℕ). count - (taken + 1) ≤ length xs) left
                   (omega (arith, w .ready .enough, remove-length b (freeBlocks p) (hold-free p b (here .below) unallocated)));
-              room = omega (arith, w .ready .room, inserted-length (pointer reference b) (p .info .used) (p .pointers) place);
+              room = omega (arith, w .ready .room, inserted-length (pointer reference b) (p .info .used) (p .pointers) (omega arith) place);
             };
             most = omega arith;
             lowest = ends .0;
@@ -341,7 +342,7 @@ module _ {c₀ : Card} {reference want count : ℕ} {places₀ : List ℕ} {c : 
                 ∙ overwrite-more places₀ (w .numbers) b (omega (arith, w .long, w .fits));
             sameBlocks = w .sameBlocks;
             sameBytes = w .sameBytes;
-            sameSlots = inserted-length (pointer reference b) (p .info .used) (p .pointers) place ∙ w .sameSlots;
+            sameSlots = inserted-length (pointer reference b) (p .info .used) (p .pointers) (omega arith) place ∙ w .sameSlots;
             samePlaces = length-set places taken b ∙ w .samePlaces;
             fits = w .fits;
           }

@@ -262,10 +262,7 @@ fn bad_operands(info: Info, hint: u16, count: u8, places: usize) -> bool
 {
     let near = hint as usize;
     let number = count as usize;
-    (count == 0)
-        | (64 < count)
-        | (!(near < info.blocks) & !(hint == 65535))
-        | (places < number)
+    (count == 0) | (64 < count) | (!(near < info.blocks) & !(hint == 65535)) | (places < number)
 }
 
 // Without a hint the lowest block is wanted.
@@ -304,7 +301,17 @@ pub fn alloc_sound(
     if root_at_host(port, info, reference) {
         return refuse(info, Refusal::IsRoot);
     }
-    if !access::admits(port, info, flags, keys, pointers, windows, Mode::Writing, from, credential) {
+    if !access::admits(
+        port,
+        info,
+        flags,
+        keys,
+        pointers,
+        windows,
+        Mode::Writing,
+        from,
+        credential,
+    ) {
         return refuse(info, Refusal::NotOpened);
     }
     if tables::count_free(flags) < count {
@@ -365,10 +372,30 @@ pub fn create_sound(
     if (to < info.roots) | root_at_host(port, info, source) {
         return refuse(info, Refusal::IsRoot);
     }
-    if !access::admits(port, info, flags, keys, pointers, windows, Mode::Writing, from, first) {
+    if !access::admits(
+        port,
+        info,
+        flags,
+        keys,
+        pointers,
+        windows,
+        Mode::Writing,
+        from,
+        first,
+    ) {
         return refuse(info, Refusal::NotOpened);
     }
-    if !access::admits(port, info, flags, keys, pointers, windows, Mode::Writing, to, second) {
+    if !access::admits(
+        port,
+        info,
+        flags,
+        keys,
+        pointers,
+        windows,
+        Mode::Writing,
+        to,
+        second,
+    ) {
         return refuse(info, Refusal::NotOpened);
     }
     if (source == destination) | points_to(info, pointers, source, destination) {
@@ -415,7 +442,17 @@ pub fn delete_sound(
     if root_at_host(port, info, source) {
         return refuse(info, Refusal::IsRoot);
     }
-    if !access::admits(port, info, flags, keys, pointers, windows, Mode::Writing, from, credential) {
+    if !access::admits(
+        port,
+        info,
+        flags,
+        keys,
+        pointers,
+        windows,
+        Mode::Writing,
+        from,
+        credential,
+    ) {
         return refuse(info, Refusal::NotOpened);
     }
     if !points_to(info, pointers, source, destination) {
