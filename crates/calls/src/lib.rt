@@ -20,7 +20,7 @@ ghost use mathlib.Core.Path.{_≡_};
 ghost use mathlib.Core.Bool.{not};
 ghost use mathlib.Core.List.{[], _++_};
 ghost use Prim.Native.Nat.{_+_, _-_, _*_, _≤_, _<_};
-ghost use lib.ListN.{length, set, replicate};
+ghost use lib.ListN.{length, take, drop, set, replicate};
 ghost use Rattle.card.specs.Card.{Card, card, allocated, longestInterval, windowAt};
 ghost use Rattle.card.specs.Contents.{zeros};
 ghost use Rattle.card.specs.Soundness.{timeLimit, shape};
@@ -175,6 +175,14 @@ fn mode_of(number: u8) -> Mode
 
 // ---- READ and WRITE
 
+// "Else out is that block's part of the contents": the part from `at` to `end` is handed on to the copying function.
+fn show(contents: &[u8], at: usize, end: usize, out: &mut [u8])
+    requires { ⌜ (at ≤ end) × ((end ≤ length (now contents)) × (length (take (end - at) (drop at (now contents))) ≡ length (now out))) ⌝ }
+    ensures { λ _. ⌜ now (out .exit) ≡ take (end - at) (drop at (now (contents .entry))) ⌝ }
+{
+    tables::copy(&contents[at..end], out);
+}
+
 pub fn read_sound(
     info: Info,
     flags: &[u8],
@@ -216,7 +224,7 @@ pub fn read_sound(
     }
     let at = block * bytes;
     let end = at + bytes;
-    tables::copy(&contents[at..end], out);
+    show(contents, at, end, out);
     open_window(port, info, windows, Mode::Reading, block, o.interval);
     done(info)
 }
@@ -674,7 +682,7 @@ fn mark(to: &mut [u8])
     }
 }
 
-// The card of the tables and the record is of the right shape.
+// The tables are of the right shape for the record: the audit tells it before it walks them.
 fn shaped(
     info: Info,
     flags: &[u8],

@@ -53,20 +53,11 @@ mul-at c = omega (arith, lies _ (c .before .before .before .before .before .befo
 add-end : tie.Need-add-end
 add-end c = omega (arith, lies _ (c .before .before .before .before .before .before .before .before .before .before .before .before .before .before .before .pre) (c .before .before .before .before .missing .ensures) (c .before .before .before .if2 .left))
 
-sub-copy : tie.Need-sub-copy
-sub-copy c = search needs
-
-part-copy-start : tie.Need-part-copy-start
-part-copy-start c = search needs
-
-part-copy-end : tie.Need-part-copy-end
-part-copy-end c = omega (arith, lies _ (c .before .before .before .before .before .before .before .before .before .before .before .before .before .before .before .pre) (c .before .before .before .before .missing .ensures) (c .before .before .before .if2 .left))
-
-copy-requires : tie.Need-copy-requires
-copy-requires c κs = lent-size _ (c .before .before .before .before .before .before .before .before .before .before .before .before .before .before .before .before .before .args .out .now) _ (lies _ (c .before .before .before .before .before .before .before .before .before .before .before .before .before .before .before .before .before .pre) (c .before .before .before .before .before .before .missing .ensures) (c .before .before .before .before .before .if2 .left)) (c .before .before .before .before .before .before .before .if1 .left)
+show-requires : tie.Need-show-requires
+show-requires c κs = let l = lies _ (c .before .before .before .before .before .before .before .before .before .before .before .before .before .before .before .before .pre) (c .before .before .before .before .before .missing .ensures) (c .before .before .before .before .if2 .left) in (omega arith, (l .within, lent-size _ (c .before .before .before .before .before .before .before .before .before .before .before .before .before .before .before .before .args .out .now) _ l (c .before .before .before .before .before .before .if1 .left)))
 
 open-window-requires : tie.Need-open-window-requires
-open-window-requires c κs = windows-low _ (c .before .before .before .before .before .before .before .before .before .before .before .before .before .before .before .before .before .before .before .before .before .pre) (c .before .before .before .before .before .before .before .before .before .before .missing .ensures) (c .before .before .before .before .before .before .before .before .before .if2 .left)
+open-window-requires c κs = windows-low _ (c .before .before .before .before .before .before .before .before .before .before .before .before .before .before .before .before .before .before .before .before .pre) (c .before .before .before .before .before .before .before .before .before .missing .ensures) (c .before .before .before .before .before .before .before .before .if2 .left)
 
 done-requires : tie.Need-done-requires
 done-requires c κs = search needs
@@ -79,30 +70,7 @@ same-length-3 c = search needs
 
 returns-4 : tie.Need-returns-4
 unfolding performSound plan readPlan outAfter placesAfter
-returns-4 c = finishes _ _ _ (c .done .ensures) (c .before .before .before .before .before .before .before .before .before .before .before .before .before .before .before .if1 .left, (missing-fails _ _ (c .before .before .before .before .before .before .before .before .before .before .before .before .before .before .missing .ensures) (c .before .before .before .before .before .before .before .before .before .before .before .before .before .if2 .left), (closed-fails _ _ _ _ _ (c .before .before .before .before .before .before .before .before .before .before .before .admits .ensures) (c .before .before .before .before .before .before .before .before .before .before .if3 .left), tt))) (opened-whole _ _ _ _ _ (c .before .before .before .open-window .ensures)) (lent-part _ _ _ (c .before .before .before .before .before .before .before .copy .ensures)) refl
+returns-4 c = finishes _ _ _ (c .done .ensures) (c .before .before .before .before .before .before .before .before .before .before .before .before .before .before .if1 .left, (missing-fails _ _ (c .before .before .before .before .before .before .before .before .before .before .before .before .before .missing .ensures) (c .before .before .before .before .before .before .before .before .before .before .before .before .if2 .left), (closed-fails _ _ _ _ _ (c .before .before .before .before .before .before .before .before .before .before .admits .ensures) (c .before .before .before .before .before .before .before .before .before .if3 .left), tt))) (opened-whole _ _ _ _ _ (c .before .before .before .open-window .ensures)) (lent-part _ _ _ (c .before .before .before .before .before .before .before .show .ensures)) refl
 
 pub read-sound-spec : {M : Type 1} → statement M
-read-sound-spec =
-    tie.close
-    (tie.spec
-    cast-block
-    refused-requires
-    returns
-    missing-requires
-    refused-requires-2
-    returns-2
-    admits-requires
-    refused-requires-3
-    same-length
-    returns-3
-    mul-at
-    add-end
-    sub-copy
-    part-copy-start
-    part-copy-end
-    copy-requires
-    open-window-requires
-    done-requires
-    same-length-2
-    same-length-3
-    returns-4)
+read-sound-spec = tie.close (tie.spec cast-block refused-requires returns missing-requires refused-requires-2 returns-2 admits-requires refused-requires-3 same-length returns-3 mul-at add-end show-requires open-window-requires done-requires same-length-2 same-length-3 returns-4)
