@@ -11,17 +11,23 @@ use lib.Seq.{length-take-le}
 use borrow.Author.Tests.{not-false}
 use Rattle.card.specs.Pointers.{destination, pointersTo}
 use Rattle.card.specs.Card.{Public, Card, card, allocated, count, inUse, pointsTo}
-use Rattle.card.specs.SoundnessLaws.{SoundCard, allocated-below}
+use Rattle.card.specs.Soundness.{verdict}
+use Rattle.card.specs.SoundnessLaws.{SoundCard, allocated-below, verdict-sound}
 use Rattle.card.specs.Access.{admits}
 use Rattle.card.specs.PlanLaws.{FirstHolds}
 use Rattle.card.specs.Calls.{missing, rootAtHost}
 use Rattle.card.specs.Promises.{Is, is-refused}
-use Rattle.card.specs.Session.{Request, plan, performSound}
+use Rattle.card.specs.Session.{Request, plan, perform, performSound}
+use Rattle.card.specs.SessionLaws.{is-misshapen, is-unsound, is-audited}
 use Rattle.card.specs.declared.Port.{Port}
 use Rattle.card.specs.declared.Port.the-variants.{Host, Service}
 use Rattle.card.specs.declared.Mode.the-variants.{Writing}
 use Rattle.card.specs.declared.Credential.{Credential}
+use Rattle.card.specs.declared.Verdict.{Verdict}
+use Rattle.card.specs.declared.Verdict.the-variants.{Misshapen, Unsound, Sound}
+use Rattle.card.specs.declared.Answer.{Answer}
 use Rattle.card.specs.declared.Refusal.{Refusal}
+use Rattle.card.specs.declared.Refusal.the-variants.{Misshapen as MisshapenRefusal, Unsound as UnsoundRefusal}
 use Rattle.card.specs.declared.Outcome.{Outcome}
 use Rattle.access.specs.Accessible.{bare}
 use Rattle.access.specs.AccessibleLaws.{admits-bare}
@@ -100,3 +106,23 @@ pub is-refusal : (port : Port) (c : Card) (q : Request) {why : Refusal} {r : Out
     (card (r .info) (c .public .flags) (c .keys) (c .public .counts) (c .public .pointers) (c .public .windows) (c .contents)) (q .lent .out) (q .lent .places)
 unfolding performSound
 is-refusal port c q h e = rw e (is-refused c (q .lent) (plan port c (q .call) (q .lent)) h)
+
+-- ---- the audit
+
+module _ (port : Port) (c : Card) (q : Request) {v : Verdict} (e : v ≡ verdict c) where
+  pub misshapen : {r : Outcome} → v ≡ Misshapen → r ≡ refusal (c .public .info) MisshapenRefusal
+      → Is (perform port c q) (r .answer)
+      (card (r .info) (c .public .flags) (c .keys) (c .public .counts) (c .public .pointers) (c .public .windows) (c .contents)) (q .lent .out) (q .lent .places)
+  misshapen h f = rw f (is-misshapen port c q (sym e ∙ h))
+
+  pub unsound : {r : Outcome} → v ≡ Unsound → r ≡ refusal (c .public .info) UnsoundRefusal
+      → Is (perform port c q) (r .answer)
+      (card (r .info) (c .public .flags) (c .keys) (c .public .counts) (c .public .pointers) (c .public .windows) (c .contents)) (q .lent .out) (q .lent .places)
+  unsound h f = rw f (is-unsound port c q (sym e ∙ h))
+
+  pub audited : v ≡ Sound → {answer : Answer} {after : Card} {out places : List ℕ} → Is (performSound port c q) answer after out places
+      → Is (perform port c q) answer after out places
+  audited h i = is-audited port c q (sym e ∙ h) i
+
+pub audited-card : (c : Card) {v : Verdict} → v ≡ verdict c → v ≡ Sound → SoundCard c
+audited-card c e h = verdict-sound c (sym e ∙ h)

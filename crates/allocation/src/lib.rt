@@ -340,6 +340,28 @@ pub fn alloc_sound(
     }
 }
 
+// ALLOC on any card.
+pub fn alloc(
+    info: Info,
+    flags: &mut [u8],
+    keys: &[u64],
+    counts: &mut [u16],
+    pointers: &mut [u32],
+    windows: &[u64],
+    contents: &mut [u8],
+    port: Port,
+    o: AllocOperands,
+    places: &mut [u16],
+) -> Outcome
+    ensures { λ r. ⌜ Is (perform port (card info (now (flags .entry)) (now (keys .entry)) (now (counts .entry)) (now (pointers .entry)) (now (windows .entry)) (now (contents .entry))) (request (Alloc o) [] [] (now (places .entry)))) (r .answer) (card (r .info) (now (flags .exit)) (now (keys .entry)) (now (counts .exit)) (now (pointers .exit)) (now (windows .entry)) (now (contents .exit))) [] (now (places .exit)) ⌝ }
+{
+    match audit::audit(info, flags, keys, counts, pointers, windows, contents) {
+        Verdict::Misshapen => refuse(info, Refusal::Misshapen),
+        Verdict::Unsound => refuse(info, Refusal::Unsound),
+        Verdict::Sound => alloc_sound(info, flags, keys, counts, pointers, windows, contents, port, o, places),
+    }
+}
+
 // ---- CREATE
 
 // CREATE on a card that has been audited.
@@ -411,6 +433,27 @@ pub fn create_sound(
     }
 }
 
+// CREATE on any card.
+pub fn create(
+    info: Info,
+    flags: &[u8],
+    keys: &[u64],
+    counts: &mut [u16],
+    pointers: &mut [u32],
+    windows: &[u64],
+    contents: &[u8],
+    port: Port,
+    o: CreateOperands,
+) -> Outcome
+    ensures { λ r. ⌜ Is (perform port (card info (now (flags .entry)) (now (keys .entry)) (now (counts .entry)) (now (pointers .entry)) (now (windows .entry)) (now (contents .entry))) (request (Create o) [] [] [])) (r .answer) (card (r .info) (now (flags .entry)) (now (keys .entry)) (now (counts .exit)) (now (pointers .exit)) (now (windows .entry)) (now (contents .entry))) [] [] ⌝ }
+{
+    match audit::audit(info, flags, keys, counts, pointers, windows, contents) {
+        Verdict::Misshapen => refuse(info, Refusal::Misshapen),
+        Verdict::Unsound => refuse(info, Refusal::Unsound),
+        Verdict::Sound => create_sound(info, flags, keys, counts, pointers, windows, contents, port, o),
+    }
+}
+
 // ---- DELETE
 
 // DELETE on a card that has been audited.
@@ -473,5 +516,26 @@ pub fn delete_sound(
     Outcome {
         answer: Answer::Value(1),
         info: left,
+    }
+}
+
+// DELETE on any card.
+pub fn delete(
+    info: Info,
+    flags: &mut [u8],
+    keys: &mut [u64],
+    counts: &mut [u16],
+    pointers: &mut [u32],
+    windows: &mut [u64],
+    contents: &[u8],
+    port: Port,
+    o: DeleteOperands,
+) -> Outcome
+    ensures { λ r. ⌜ Is (perform port (card info (now (flags .entry)) (now (keys .entry)) (now (counts .entry)) (now (pointers .entry)) (now (windows .entry)) (now (contents .entry))) (request (Delete o) [] [] [])) (r .answer) (card (r .info) (now (flags .exit)) (now (keys .exit)) (now (counts .exit)) (now (pointers .exit)) (now (windows .exit)) (now (contents .entry))) [] [] ⌝ }
+{
+    match audit::audit(info, flags, keys, counts, pointers, windows, contents) {
+        Verdict::Misshapen => refuse(info, Refusal::Misshapen),
+        Verdict::Unsound => refuse(info, Refusal::Unsound),
+        Verdict::Sound => delete_sound(info, flags, keys, counts, pointers, windows, contents, port, o),
     }
 }

@@ -19,19 +19,19 @@ use Rattle.tables.proofs.count_free.Reads as count-free-reads
 
 -- src/lib.rt:296:16
 cast-from : tie.Need-cast-from
-cast-from c = search needs
+cast-from c = omega arith
 
 -- src/lib.rt:297:17
 cast-count : tie.Need-cast-count
-cast-count c = search needs
+cast-count c = omega arith
 
 -- src/lib.rt:298:8
 bad-operands-requires : tie.Need-bad-operands-requires
-bad-operands-requires c κs = search needs
+bad-operands-requires c κs = tt
 
 -- src/lib.rt:299:9
 refuse-requires : tie.Need-refuse-requires
-refuse-requires c κs = search needs
+refuse-requires c κs = tt
 
 -- src/lib.rt:299:9
 returns : tie.Need-returns
@@ -43,7 +43,7 @@ missing-requires c κs = search needs
 
 -- src/lib.rt:302:9
 refuse-requires-2 : tie.Need-refuse-requires-2
-refuse-requires-2 c κs = search needs
+refuse-requires-2 c κs = tt
 
 -- src/lib.rt:302:9
 same-length : tie.Need-same-length
@@ -55,11 +55,11 @@ returns-2 c = let a = c .before .before .before .before .before .before .before 
 
 -- src/lib.rt:304:8
 root-at-host-requires : tie.Need-root-at-host-requires
-root-at-host-requires c κs = search needs
+root-at-host-requires c κs = tt
 
 -- src/lib.rt:305:9
 refuse-requires-3 : tie.Need-refuse-requires-3
-refuse-requires-3 c κs = search needs
+refuse-requires-3 c κs = tt
 
 -- src/lib.rt:305:9
 same-length-2 : tie.Need-same-length-2
@@ -75,7 +75,7 @@ admits-requires c κs = let a = c .before .before .before .before .before .befor
 
 -- src/lib.rt:308:9
 refuse-requires-4 : tie.Need-refuse-requires-4
-refuse-requires-4 c κs = search needs
+refuse-requires-4 c κs = tt
 
 -- src/lib.rt:308:9
 same-length-3 : tie.Need-same-length-3
@@ -91,11 +91,11 @@ returns-4 c = let a = c .before .before .before .before .before .before .before 
 
 -- src/lib.rt:310:8
 count-free-requires : tie.Need-count-free-requires
-count-free-requires c κs = search needs
+count-free-requires c κs = tt
 
 -- src/lib.rt:311:9
 refuse-requires-5 : tie.Need-refuse-requires-5
-refuse-requires-5 c κs = search needs
+refuse-requires-5 c κs = tt
 
 -- src/lib.rt:311:9
 same-length-5 : tie.Need-same-length-5
@@ -115,7 +115,7 @@ add-if6 c = omega (arith, c .before .before .before .before .before .before .bef
 
 -- src/lib.rt:314:9
 refuse-requires-6 : tie.Need-refuse-requires-6
-refuse-requires-6 c κs = search needs
+refuse-requires-6 c κs = tt
 
 -- src/lib.rt:314:9
 same-length-7 : tie.Need-same-length-7
@@ -131,7 +131,7 @@ returns-6 c = let a = c .before .before .before .before .before .before .before 
 
 -- src/lib.rt:316:9
 wanted-requires : tie.Need-wanted-requires
-wanted-requires c κs = search needs
+wanted-requires c κs = tt
 
 -- src/lib.rt:317:9
 take-all-requires : tie.Need-take-all-requires
