@@ -6,7 +6,6 @@ use mathlib.Core.Bool.{Bool, true, false, not, _||_, cond}
 use mathlib.Core.List.{[]}
 use native.Mathlib.Omega.{arith}
 use lib.ListN.{length, getD}
-use lib.Dec.{eqb}
 use borrow.Author.Tests.{lt-ltb, le-ltb}
 use Rattle.card.specs.ListsLaws.{or-right, or-false}
 use Rattle.card.specs.Card.{Public, Card, card, allocated, allocatedFlag, hasKey, isRoot}
@@ -39,23 +38,18 @@ unfolding allocated
 missing-below p b h = rw (lt-ltb b (p .info .blocks) h)
 
 module _ (p : Public) (b : ℕ) {t : Bool} (told : t ≡ not (allocated (flagged p) b)) where
-  pub missing-holds : t ≡ true → not (allocated p b) ≡ true
+  -- The test on the card, whichever way it came out.
+  pub missing-told : {s : Bool} → t ≡ s → not (allocated p b) ≡ s
   unfolding allocated
-  missing-holds e = sym told ∙ e
-
-  pub missing-fails : t ≡ false → not (allocated p b) ≡ false
-  unfolding allocated
-  missing-fails e = sym told ∙ e
+  missing-told e = sym told ∙ e
 
   pub there : t ≡ false → b < p .info .blocks
-  there e = allocated-below p b (unnot (allocated p b) (missing-fails e))
+  there e = allocated-below p b (unnot (allocated p b) (missing-told e))
 
 -- A block that is there has both windows.
 pub windows-there : {c : Card} (b : ℕ) {t : Bool} → SoundCard c → t ≡ not (allocated (flagged (c .public)) b) → t ≡ false
     → 2 * b + 2 ≤ length (c .public .windows)
 windows-there {c} b s told e = omega (arith, s .shaped .hasLengths .windows, there (c .public) b told e)
-
--- ---- the access test
 
 -- A block that is there has a flags byte and four key words.
 pub flag-there : {c : Card} (b : ℕ) {t : Bool} → SoundCard c → t ≡ not (allocated (flagged (c .public)) b) → t ≡ false → b < length (c .public .flags)
@@ -64,15 +58,22 @@ flag-there {c} b s told e = omega (arith, s .shaped .hasLengths .flags, there (c
 pub keys-there : {c : Card} (b : ℕ) {t : Bool} → SoundCard c → t ≡ not (allocated (flagged (c .public)) b) → t ≡ false → 4 * b + 4 ≤ length (c .keys)
 keys-there {c} b s told e = omega (arith, s .shaped .hasLengths .keys, there (c .public) b told e)
 
+-- What a window of a block that is there is set by.
+pub windows-low : {c : Card} (b : ℕ) {t : Bool} → SoundCard c → t ≡ not (allocated (flagged (c .public)) b) → t ≡ false
+    → (c .public .info .time < timeLimit) × ((b < 65536) × (2 * b + 2 ≤ length (c .public .windows)))
+windows-low {c} b s told e =
+    let below : b < c .public .info .blocks = there (c .public) b told e in
+    let blocks : c .public .info .blocks ≤ 4096 = s .shaped .inRanges .blocksHigh in
+    (s .shaped .timeHigh, (omega arith, windows-there b s told e))
+
+-- ---- the access test
+
 pub access-there : {c : Card} (b : ℕ) {t : Bool} → SoundCard c → t ≡ not (allocated (flagged (c .public)) b) → t ≡ false → Accessible (bare c) b
 access-there {c} b s told e = sound-accessible s (there (c .public) b told e)
 
 module _ (port : Port) (c : Card) (mode : Mode) (b : ℕ) (credential : Credential) {a : Bool} (told : a ≡ admits port (bare c) mode b credential) where
-  pub closed-holds : not a ≡ true → not (admits port c mode b credential) ≡ true
-  closed-holds e = sym (ap not (told ∙ admits-bare port c mode b credential)) ∙ e
-
-  pub closed-fails : not a ≡ false → not (admits port c mode b credential) ≡ false
-  closed-fails e = sym (ap not (told ∙ admits-bare port c mode b credential)) ∙ e
+  pub closed-told : {s : Bool} → not a ≡ s → not (admits port c mode b credential) ≡ s
+  closed-told e = sym (ap not (told ∙ admits-bare port c mode b credential)) ∙ e
 
 -- A key opens no block that has no key for the mode.
 keyed-if-open : (k r : Bool) (x : Bool) → cond k x (cond r false false) ≡ true → k ≡ true
@@ -107,13 +108,3 @@ same-root Service p b = refl
 -- A test of a root, whichever way it came out.
 pub root-told : (port : Port) (p : Public) (b : ℕ) {t s : Bool} → t ≡ rootAtHost port (card (p .info) [] [] [] [] [] [] .public) b → t ≡ s → rootAtHost port p b ≡ s
 root-told port p b told e = sym (told ∙ same-root port p b) ∙ e
-
--- ---- windows
-
--- What a window of a block that is there is set by.
-pub windows-low : {c : Card} (b : ℕ) {t : Bool} → SoundCard c → t ≡ not (allocated (flagged (c .public)) b) → t ≡ false
-    → (c .public .info .time < timeLimit) × ((b < 65536) × (2 * b + 2 ≤ length (c .public .windows)))
-windows-low {c} b s told e =
-    let below : b < c .public .info .blocks = there (c .public) b told e in
-    let blocks : c .public .info .blocks ≤ 4096 = s .shaped .inRanges .blocksHigh in
-    (s .shaped .timeHigh, (omega arith, windows-there b s told e))

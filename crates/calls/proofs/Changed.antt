@@ -1,7 +1,7 @@
 -- The cards that WRITE, KEY, RENEW and FORCE leave.
 -- Assumes nothing.
 use Prim.Native.Nat.{ℕ, _+_, _*_}
-use mathlib.Core.Path.{_≡_, refl}
+use mathlib.Core.Path.{_≡_}
 use mathlib.Core.List.{List, [], _∷_}
 use lib.ListN.{set}
 use Rattle.card.specs.Contents.{fill}

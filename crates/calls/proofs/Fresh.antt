@@ -1,9 +1,9 @@
 -- What FORMAT tests, and the fresh card that it leaves.
 -- Assumes nothing.
-use Prim.Native.Nat.{ℕ, zero, suc, _+_, _-_, _*_, _≤_, _<_}
+use Prim.Native.Nat.{ℕ, zero, suc, _+_, _-_, _*_, _≤_}
 use mathlib.Core.Path.{_≡_, refl, sym, ap, _∙_}
 use mathlib.Core.Bool.{Bool, true, false, _&&_}
-use mathlib.Core.List.{List, [], _∷_, _++_}
+use mathlib.Core.List.{List, [], _++_}
 use native.Mathlib.Nat.{mul-le-mul-right, le-of-suc-le-suc, not-suc-le-zero}
 use native.Mathlib.Omega.{arith}
 use lib.Dec.{leb}
@@ -16,9 +16,8 @@ use Rattle.card.specs.Contents.{zeros, overwrite}
 use Rattle.card.specs.Card.{Card, card}
 use Rattle.card.specs.Soundness.{ranges, lengths, shape, verdict}
 use Rattle.card.specs.SoundnessLaws.{Shaped, shape-true, verdict-misshapen, verdict-unsound, verdict-sound, true-shape}
-use Rattle.card.specs.Calls.{freshInfo, freshCard, format, formatResult}
+use Rattle.card.specs.Calls.{freshInfo, format, formatResult}
 use Rattle.card.specs.Promises.{Is, is-same}
-use Rattle.card.specs.declared.Info.{Info}
 use Rattle.card.specs.declared.Outcome.{Outcome}
 use Rattle.card.specs.declared.Refusal.the-variants.{Misshapen}
 use Rattle.card.specs.declared.Answer.the-variants.{Done}

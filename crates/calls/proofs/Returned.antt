@@ -1,7 +1,7 @@
 -- What a call returns, by its plan and by what the audit finds.
 -- Assumes nothing.
 use Prim.Native.Nat.{ℕ}
-use mathlib.Core.Path.{_≡_, refl, sym, _∙_}
+use mathlib.Core.Path.{_≡_, sym, _∙_}
 use mathlib.Core.List.{List}
 use Rattle.card.specs.Card.{Card, card}
 use Rattle.card.specs.Soundness.{verdict}

@@ -1,12 +1,12 @@
 -- What TICK, FREE and AUDIT return, by each way out.
 -- Assumes nothing.
 use Prim.Native.Nat.{ℕ, _+_, _-_, _≤_, _<_}
-use mathlib.Core.Path.{_≡_, refl, sym, ap, _∙_}
-use mathlib.Core.List.{List, []}
+use mathlib.Core.Path.{_≡_, refl}
+use mathlib.Core.List.{[]}
 use native.Mathlib.Omega.{arith}
 use lib.ListN.{length}
 use borrow.Author.Tests.{le-leb, lt-leb}
-use Rattle.card.specs.Card.{Card, card, freeBlocks}
+use Rattle.card.specs.Card.{Card}
 use Rattle.card.specs.Soundness.{timeLimit}
 use Rattle.card.specs.SoundnessLaws.{SoundCard}
 use Rattle.card.specs.Plan.{withTime, changes, change, changePublic, changeKeys, changeContents, outAfter, placesAfter}

@@ -21,7 +21,7 @@ ghost use mathlib.Core.Bool.{not};
 ghost use mathlib.Core.List.{[], _++_};
 ghost use Prim.Native.Nat.{_+_, _-_, _*_, _≤_, _<_};
 ghost use lib.ListN.{length, take, drop, set, replicate};
-ghost use Rattle.card.specs.Card.{Card, card, allocated, longestInterval, windowAt};
+ghost use Rattle.card.specs.Card.{card, allocated, windowAt};
 ghost use Rattle.card.specs.Contents.{zeros};
 ghost use Rattle.card.specs.Soundness.{timeLimit, shape};
 ghost use Rattle.card.specs.SoundnessLaws.{SoundCard};

@@ -7,7 +7,7 @@ use Rattle.card.specs.Calls.{forcePlan}
 use Rattle.card.specs.Session.{plan, performSound}
 use Rattle.calls.proofs.Returned.{refuses, finishes}
 use Rattle.calls.proofs.Changed.{closed}
-use Rattle.calls.proofs.Blocks.{missing-holds, missing-fails, windows-there}
+use Rattle.calls.proofs.Blocks.{missing-told, windows-there}
 use borrow.Author.Needs.{needs}
 use Rattle.calls.proofs.force_sound.Statement.{statement}
 use Rattle.calls.proofs.force_sound.Tie as tie
@@ -23,7 +23,7 @@ refused-requires c κs = search needs
 
 returns : tie.Need-returns
 unfolding performSound plan forcePlan
-returns c = λ port. refuses _ _ _ (c .refused .ensures) (here (missing-holds _ _ (c .before .before .missing .ensures) (c .before .if1 .taken)))
+returns c = λ port. refuses _ _ _ (c .refused .ensures) (here (missing-told _ _ (c .before .before .missing .ensures) (c .before .if1 .taken)))
 
 close-windows-requires : tie.Need-close-windows-requires
 close-windows-requires c κs = windows-there _ (c .before .before .before .before .before .before .before .before .before .before .pre) (c .before .before .missing .ensures) (c .before .if1 .left)
@@ -36,7 +36,7 @@ same-length c = search needs
 
 returns-2 : tie.Need-returns-2
 unfolding performSound plan forcePlan outAfter placesAfter
-returns-2 c = λ port. finishes _ _ _ (c .done .ensures) (missing-fails _ _ (c .before .before .before .before .before .before .missing .ensures) (c .before .before .before .before .before .if1 .left), tt) (closed _ _ (c .before .before .before .close-windows .ensures)) refl refl
+returns-2 c = λ port. finishes _ _ _ (c .done .ensures) (missing-told _ _ (c .before .before .before .before .before .before .missing .ensures) (c .before .before .before .before .before .if1 .left), tt) (closed _ _ (c .before .before .before .close-windows .ensures)) refl refl
 
 pub force-sound-spec : {M : Type 1} → statement M
 force-sound-spec =

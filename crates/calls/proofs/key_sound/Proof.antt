@@ -8,7 +8,7 @@ use Rattle.card.specs.PlanLaws.{here, later}
 use Rattle.card.specs.Calls.{keyPlan}
 use Rattle.card.specs.Session.{plan, performSound}
 use Rattle.calls.proofs.Returned.{refuses, finishes}
-use Rattle.calls.proofs.Blocks.{missing-holds, missing-fails, root-told, access-there, closed-holds, closed-fails, flag-there, keys-there, windows-there}
+use Rattle.calls.proofs.Blocks.{missing-told, root-told, access-there, closed-told, flag-there, keys-there, windows-there}
 use Rattle.calls.proofs.Keys.{bit-low}
 use Rattle.calls.proofs.Changed.{keyed}
 use borrow.Author.Needs.{needs}
@@ -29,7 +29,7 @@ same-length c = search needs
 
 returns : tie.Need-returns
 unfolding performSound plan keyPlan
-returns c = refuses _ _ _ (c .refused .ensures) (here (missing-holds _ _ (c .before .before .missing .ensures) (c .before .if1 .taken)))
+returns c = refuses _ _ _ (c .refused .ensures) (here (missing-told _ _ (c .before .before .missing .ensures) (c .before .if1 .taken)))
 
 root-at-host-requires : tie.Need-root-at-host-requires
 root-at-host-requires c κs = search needs
@@ -42,7 +42,7 @@ same-length-2 c = search needs
 
 returns-2 : tie.Need-returns-2
 unfolding performSound plan keyPlan
-returns-2 c = refuses _ _ _ (c .refused2 .ensures) (later (missing-fails _ _ (c .before .before .before .before .missing .ensures) (c .before .before .before .if1 .left)) (here (root-told _ _ _ (c .before .before .root-at-host .ensures) (c .before .if2 .taken))))
+returns-2 c = refuses _ _ _ (c .refused2 .ensures) (later (missing-told _ _ (c .before .before .before .before .missing .ensures) (c .before .before .before .if1 .left)) (here (root-told _ _ _ (c .before .before .root-at-host .ensures) (c .before .if2 .taken))))
 
 admits-requires : tie.Need-admits-requires
 admits-requires c κs = access-there _ (c .before .before .before .before .before .before .before .before .before .before .before .before .before .before .before .pre) (c .before .before .before .before .before .before .missing .ensures) (c .before .before .before .before .before .if1 .left)
@@ -61,7 +61,7 @@ same-length-5 c = search needs
 
 returns-3 : tie.Need-returns-3
 unfolding performSound plan keyPlan
-returns-3 c = refuses _ _ _ (c .refused3 .ensures) (later (missing-fails _ _ (c .before .before .before .before .before .before .before .before .before .missing .ensures) (c .before .before .before .before .before .before .before .before .if1 .left)) (later (root-told _ _ _ (c .before .before .before .before .before .before .before .root-at-host .ensures) (c .before .before .before .before .before .before .if2 .left)) (here (closed-holds _ _ _ _ _ (c .before .before .admits .ensures) (c .before .if3 .taken)))))
+returns-3 c = refuses _ _ _ (c .refused3 .ensures) (later (missing-told _ _ (c .before .before .before .before .before .before .before .before .before .missing .ensures) (c .before .before .before .before .before .before .before .before .if1 .left)) (later (root-told _ _ _ (c .before .before .before .before .before .before .before .root-at-host .ensures) (c .before .before .before .before .before .before .if2 .left)) (here (closed-told _ _ _ _ _ (c .before .before .admits .ensures) (c .before .if3 .taken)))))
 
 key-bit-requires : tie.Need-key-bit-requires
 key-bit-requires c κs = search needs
@@ -98,7 +98,7 @@ same-length-8 c = search needs
 
 returns-4 : tie.Need-returns-4
 unfolding performSound plan keyPlan outAfter placesAfter
-returns-4 c = finishes _ _ _ (c .done .ensures) (missing-fails _ _ (c .before .before .before .before .before .before .before .before .before .before .before .before .before .before .before .before .before .before .before .missing .ensures) (c .before .before .before .before .before .before .before .before .before .before .before .before .before .before .before .before .before .before .if1 .left), (root-told _ _ _ (c .before .before .before .before .before .before .before .before .before .before .before .before .before .before .before .before .before .root-at-host .ensures) (c .before .before .before .before .before .before .before .before .before .before .before .before .before .before .before .before .if2 .left), (closed-fails _ _ _ _ _ (c .before .before .before .before .before .before .before .before .before .before .before .before .admits .ensures) (c .before .before .before .before .before .before .before .before .before .before .before .if3 .left), tt))) (keyed _ _ _ _ (c .before .before .before .before .before .before .before .before .before .before .key-bit .ensures) (c .before .before .before .before .before .before .before .before .before .key-bit2 .ensures) (c .before .before .before .before .before .before .before .replace-keys .ensures) (c .before .before .before .close-windows .ensures)) refl refl
+returns-4 c = finishes _ _ _ (c .done .ensures) (missing-told _ _ (c .before .before .before .before .before .before .before .before .before .before .before .before .before .before .before .before .before .before .before .missing .ensures) (c .before .before .before .before .before .before .before .before .before .before .before .before .before .before .before .before .before .before .if1 .left), (root-told _ _ _ (c .before .before .before .before .before .before .before .before .before .before .before .before .before .before .before .before .before .root-at-host .ensures) (c .before .before .before .before .before .before .before .before .before .before .before .before .before .before .before .before .if2 .left), (closed-told _ _ _ _ _ (c .before .before .before .before .before .before .before .before .before .before .before .before .admits .ensures) (c .before .before .before .before .before .before .before .before .before .before .before .if3 .left), tt))) (keyed _ _ _ _ (c .before .before .before .before .before .before .before .before .before .before .key-bit .ensures) (c .before .before .before .before .before .before .before .before .before .key-bit2 .ensures) (c .before .before .before .before .before .before .before .replace-keys .ensures) (c .before .before .before .close-windows .ensures)) refl refl
 
 pub key-sound-spec : {M : Type 1} → statement M
 key-sound-spec =

@@ -7,7 +7,7 @@ use Rattle.card.specs.PlanLaws.{here, later}
 use Rattle.card.specs.Calls.{readPlan}
 use Rattle.card.specs.Session.{plan, performSound}
 use Rattle.calls.proofs.Returned.{refuses, finishes}
-use Rattle.calls.proofs.Blocks.{missing-holds, missing-fails, access-there, closed-holds, closed-fails, windows-low}
+use Rattle.calls.proofs.Blocks.{missing-told, access-there, closed-told, windows-low}
 use Rattle.calls.proofs.Windows.{opened-whole}
 use Rattle.calls.proofs.Parts.{lies, lent-part, lent-size}
 use borrow.Author.Needs.{needs}
@@ -32,7 +32,7 @@ refused-requires-2 c κs = search needs
 
 returns-2 : tie.Need-returns-2
 unfolding performSound plan readPlan
-returns-2 c = refuses _ _ _ (c .refused2 .ensures) (later (c .before .before .before .if1 .left) (here (missing-holds _ _ (c .before .before .missing .ensures) (c .before .if2 .taken))))
+returns-2 c = refuses _ _ _ (c .refused2 .ensures) (later (c .before .before .before .if1 .left) (here (missing-told _ _ (c .before .before .missing .ensures) (c .before .if2 .taken))))
 
 admits-requires : tie.Need-admits-requires
 admits-requires c κs = access-there _ (c .before .before .before .before .before .before .before .before .before .before .before .before .before .pre) (c .before .before .missing .ensures) (c .before .if2 .left)
@@ -45,7 +45,7 @@ same-length c = search needs
 
 returns-3 : tie.Need-returns-3
 unfolding performSound plan readPlan
-returns-3 c = refuses _ _ _ (c .refused3 .ensures) (later (c .before .before .before .before .before .before .if1 .left) (later (missing-fails _ _ (c .before .before .before .before .before .missing .ensures) (c .before .before .before .before .if2 .left)) (here (closed-holds _ _ _ _ _ (c .before .before .admits .ensures) (c .before .if3 .taken)))))
+returns-3 c = refuses _ _ _ (c .refused3 .ensures) (later (c .before .before .before .before .before .before .if1 .left) (later (missing-told _ _ (c .before .before .before .before .before .missing .ensures) (c .before .before .before .before .if2 .left)) (here (closed-told _ _ _ _ _ (c .before .before .admits .ensures) (c .before .if3 .taken)))))
 
 mul-at : tie.Need-mul-at
 mul-at c = omega (arith, lies _ (c .before .before .before .before .before .before .before .before .before .before .before .before .before .before .before .pre) (c .before .before .before .before .missing .ensures) (c .before .before .before .if2 .left))
@@ -70,7 +70,7 @@ same-length-3 c = search needs
 
 returns-4 : tie.Need-returns-4
 unfolding performSound plan readPlan outAfter placesAfter
-returns-4 c = finishes _ _ _ (c .done .ensures) (c .before .before .before .before .before .before .before .before .before .before .before .before .before .before .if1 .left, (missing-fails _ _ (c .before .before .before .before .before .before .before .before .before .before .before .before .before .missing .ensures) (c .before .before .before .before .before .before .before .before .before .before .before .before .if2 .left), (closed-fails _ _ _ _ _ (c .before .before .before .before .before .before .before .before .before .before .admits .ensures) (c .before .before .before .before .before .before .before .before .before .if3 .left), tt))) (opened-whole _ _ _ _ _ (c .before .before .before .open-window .ensures)) (lent-part _ _ _ (c .before .before .before .before .before .before .before .show .ensures)) refl
+returns-4 c = finishes _ _ _ (c .done .ensures) (c .before .before .before .before .before .before .before .before .before .before .before .before .before .before .if1 .left, (missing-told _ _ (c .before .before .before .before .before .before .before .before .before .before .before .before .before .missing .ensures) (c .before .before .before .before .before .before .before .before .before .before .before .before .if2 .left), (closed-told _ _ _ _ _ (c .before .before .before .before .before .before .before .before .before .before .admits .ensures) (c .before .before .before .before .before .before .before .before .before .if3 .left), tt))) (opened-whole _ _ _ _ _ (c .before .before .before .open-window .ensures)) (lent-part _ _ _ (c .before .before .before .before .before .before .before .show .ensures)) refl
 
 pub read-sound-spec : {M : Type 1} → statement M
 read-sound-spec = tie.close (tie.spec cast-block refused-requires returns missing-requires refused-requires-2 returns-2 admits-requires refused-requires-3 same-length returns-3 mul-at add-end show-requires open-window-requires done-requires same-length-2 same-length-3 returns-4)

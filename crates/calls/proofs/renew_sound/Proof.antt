@@ -7,7 +7,7 @@ use Rattle.card.specs.PlanLaws.{here, later}
 use Rattle.card.specs.Calls.{renewPlan}
 use Rattle.card.specs.Session.{plan, performSound}
 use Rattle.calls.proofs.Returned.{refuses, finishes}
-use Rattle.calls.proofs.Blocks.{missing-holds, missing-fails, access-there, unopened-holds, unopened-fails, windows-low}
+use Rattle.calls.proofs.Blocks.{missing-told, access-there, unopened-holds, unopened-fails, windows-low}
 use Rattle.calls.proofs.Changed.{renewed}
 use borrow.Author.Needs.{needs}
 use Rattle.calls.proofs.renew_sound.Statement.{statement}
@@ -31,7 +31,7 @@ refused-requires-2 c κs = search needs
 
 returns-2 : tie.Need-returns-2
 unfolding performSound plan renewPlan
-returns-2 c = λ port. refuses _ _ _ (c .refused2 .ensures) (later (c .before .before .before .if1 .left) (here (missing-holds _ _ (c .before .before .missing .ensures) (c .before .if2 .taken))))
+returns-2 c = λ port. refuses _ _ _ (c .refused2 .ensures) (later (c .before .before .before .if1 .left) (here (missing-told _ _ (c .before .before .missing .ensures) (c .before .if2 .taken))))
 
 mode-of-requires : tie.Need-mode-of-requires
 mode-of-requires c κs = search needs
@@ -47,7 +47,7 @@ same-length c = search needs
 
 returns-3 : tie.Need-returns-3
 unfolding performSound plan renewPlan
-returns-3 c = λ port. refuses _ _ _ (c .refused3 .ensures) (later (c .before .before .before .before .before .before .before .if1 .left) (later (missing-fails _ _ (c .before .before .before .before .before .before .missing .ensures) (c .before .before .before .before .before .if2 .left)) (here (unopened-holds _ _ _ _ _ (c .before .before .before .before .mode-of .ensures) (c .before .before .opens .ensures) (c .before .if3 .taken)))))
+returns-3 c = λ port. refuses _ _ _ (c .refused3 .ensures) (later (c .before .before .before .before .before .before .before .if1 .left) (later (missing-told _ _ (c .before .before .before .before .before .before .missing .ensures) (c .before .before .before .before .before .if2 .left)) (here (unopened-holds _ _ _ _ _ (c .before .before .before .before .mode-of .ensures) (c .before .before .opens .ensures) (c .before .if3 .taken)))))
 
 cast-set-window : tie.Need-cast-set-window
 cast-set-window c = search needs
@@ -66,7 +66,7 @@ same-length-2 c = search needs
 
 returns-4 : tie.Need-returns-4
 unfolding performSound plan renewPlan outAfter placesAfter
-returns-4 c = λ port. finishes _ _ _ (c .done .ensures) (c .before .before .before .before .before .before .before .before .before .before .before .before .before .if1 .left, (missing-fails _ _ (c .before .before .before .before .before .before .before .before .before .before .before .before .missing .ensures) (c .before .before .before .before .before .before .before .before .before .before .before .if2 .left), (unopened-fails _ _ _ _ _ (c .before .before .before .before .before .before .before .before .before .before .mode-of .ensures) (c .before .before .before .before .before .before .before .before .opens .ensures) (c .before .before .before .before .before .before .before .if3 .left), tt))) (renewed _ _ _ _ (c .before .before .before .before .before .before .before .before .before .before .mode-of .ensures) (c .before .before .before .set-window .ensures)) refl refl
+returns-4 c = λ port. finishes _ _ _ (c .done .ensures) (c .before .before .before .before .before .before .before .before .before .before .before .before .before .if1 .left, (missing-told _ _ (c .before .before .before .before .before .before .before .before .before .before .before .before .missing .ensures) (c .before .before .before .before .before .before .before .before .before .before .before .if2 .left), (unopened-fails _ _ _ _ _ (c .before .before .before .before .before .before .before .before .before .before .mode-of .ensures) (c .before .before .before .before .before .before .before .before .opens .ensures) (c .before .before .before .before .before .before .before .if3 .left), tt))) (renewed _ _ _ _ (c .before .before .before .before .before .before .before .before .before .before .mode-of .ensures) (c .before .before .before .set-window .ensures)) refl refl
 
 pub renew-sound-spec : {M : Type 1} → statement M
 renew-sound-spec =
