@@ -107,13 +107,22 @@ module _ (port : Port) (c : Card) (o : AllocOperands) (places : List ℕ) where
 
               pub passes : c .public .info .used + o .count ≤ length (c .public .pointers) → Passes
               unfolding plan allocPlan
-              passes h =
-                  (told e1 h1,
-                  (told (missing-whole c _ e2) h2,
-                  (told (root-whole c port _ e3) h3,
-                  (told-not (admits-whole c port _ _ e4) h4,
-                  (le-ltb (length (freeBlocks (c .public))) (o .count) (omega (arith, free-counted)),
-                  (le-ltb _ _ h, tt))))))
+              passes h = (
+                told e1 h1,
+                (
+                  told (missing-whole c _ e2) h2,
+                  (
+                    told (root-whole c port _ e3) h3,
+                    (
+                      told-not (admits-whole c port _ _ e4) h4,
+                      (
+                        le-ltb (length (freeBlocks (c .public))) (o .count) (omega (arith, free-counted)),
+                        (le-ltb _ _ h, tt),
+                      ),
+                    ),
+                  ),
+                ),
+              )
 
   -- What taking the blocks asks.
   pub ready : SoundCard c → Passes → {want : ℕ} → want ≡ wanted (o .hint) → Ready c (o .reference) want (o .count) × (o .count ≤ length places)
@@ -121,17 +130,18 @@ module _ (port : Port) (c : Card) (o : AllocOperands) (places : List ℕ) where
   ready s h e =
       let front : Bool = eqb (o .count) 0 || ltb 64 (o .count) in
       let hinted : Bool = not (ltb (o .hint) (c .public .info .blocks)) && not (eqb (o .hint) noHint) in
-      let near : hinted ≡ false = or-false-right front hinted (or-false-left (front || hinted) _ (h .0)) in
-      (record {
-        sound = s;
-        referenceAllocated = not-false _ (h .1 .0);
-        wantedBelow =
-            subst (λ (n : ℕ). n < c .public .info .blocks) (sym e)
-            (wanted-below (c .public .info .blocks) (o .hint) (omega (arith, s .shaped .inRanges .blocksLow)) near);
-        enough = ltb-false _ _ (h .1 .1 .1 .1 .0);
-        room = ltb-false _ _ (h .1 .1 .1 .1 .1 .0);
-      },
-      ltb-false _ _ (or-false-right (front || hinted) _ (h .0)))
+      let near : hinted ≡ false = or-false-right front hinted (or-false-left (front || hinted) _ (h .0)) in (
+        record {
+          sound = s;
+          referenceAllocated = not-false _ (h .1 .0);
+          wantedBelow =
+              subst (λ (n : ℕ). n < c .public .info .blocks) (sym e)
+              (wanted-below (c .public .info .blocks) (o .hint) (omega (arith, s .shaped .inRanges .blocksLow)) near);
+          enough = ltb-false _ _ (h .1 .1 .1 .1 .0);
+          room = ltb-false _ _ (h .1 .1 .1 .1 .1 .0);
+        },
+        ltb-false _ _ (or-false-right (front || hinted) _ (h .0)),
+      )
 
   pub took : {after : Card} {left : List ℕ} {want : ℕ} → Passes → want ≡ wanted (o .hint)
       → Took c (o .reference) (picks want (o .count) (freeBlocks (c .public))) places after left → Is (performSound port c asked) Done after [] left

@@ -95,14 +95,25 @@ module _ (port : Port) (c : Card) (o : CreateOperands) where
 
                 pub passes : (c .public .info .used ≡ length (c .public .pointers) → ⊥) → Passes
                 unfolding plan createPlan
-                passes h =
-                    (told (missing-whole c _ e1) h1,
-                    (told (missing-whole c _ e2) h2,
-                    (told-or (isRoot (c .public) (o .destination)) (root-whole c port _ e3) h3,
-                    (told-not (admits-whole c port _ _ e4) h4,
-                    (told-not (admits-whole c port _ _ e5) h5,
-                    (told-or (eqb (o .source) (o .destination)) (points-whole c _ _ e6) h6,
-                    (ne-eqb _ _ h, tt)))))))
+                passes h = (
+                  told (missing-whole c _ e1) h1,
+                  (
+                    told (missing-whole c _ e2) h2,
+                    (
+                      told-or (isRoot (c .public) (o .destination)) (root-whole c port _ e3) h3,
+                      (
+                        told-not (admits-whole c port _ _ e4) h4,
+                        (
+                          told-not (admits-whole c port _ _ e5) h5,
+                          (
+                            told-or (eqb (o .source) (o .destination)) (points-whole c _ _ e6) h6,
+                            (ne-eqb _ _ h, tt),
+                          ),
+                        ),
+                      ),
+                    ),
+                  ),
+                )
 
   -- What adding the pointer asks.
   pub addable : SoundCard c → Passes
@@ -113,10 +124,13 @@ module _ (port : Port) (c : Card) (o : CreateOperands) where
       let below : o .destination < c .public .info .blocks = allocated-below (c .public) (o .destination) (not-false _ (h .1 .0)) in
       let room : c .public .info .used < length (c .public .pointers) =
       let other : (c .public .info .used ≡ length (c .public .pointers) → ⊥) = eqb-false _ _ (h .1 .1 .1 .1 .1 .1 .0) in
-      omega (arith, s .shaped .usedHigh) in
-      (sound-addable s (o .source) (o .destination) room (or-false-right (eqb (o .source) (o .destination)) _ (h .1 .1 .1 .1 .1 .0)),
-      (omega (arith, s .shaped .hasLengths .counts),
-      omega (arith, count-low s (o .destination) below, s .shaped .usedHigh, s .shaped .hasLengths .placesHigh)))
+      omega (arith, s .shaped .usedHigh) in (
+        sound-addable s (o .source) (o .destination) room (or-false-right (eqb (o .source) (o .destination)) _ (h .1 .1 .1 .1 .1 .0)),
+        (
+          omega (arith, s .shaped .hasLengths .counts),
+          omega (arith, count-low s (o .destination) below, s .shaped .usedHigh, s .shaped .hasLengths .placesHigh),
+        ),
+      )
 
   pub created : {left : Info} {counts pointers : List ℕ} → Passes
       → card left (c .public .flags) (c .keys) counts pointers (c .public .windows) (c .contents) ≡ change c (addPointer (o .source) (o .destination))

@@ -81,13 +81,22 @@ module _ (port : Port) (c : Card) (o : DeleteOperands) where
               -- The block has another pointer to it, so its own do not matter.
               pub passes-more : (counted ≡ 1 → ⊥) → Passes
               unfolding plan deletePlan
-              passes-more h =
-                  (told (missing-whole c _ e1) h1,
-                  (told (missing-whole c _ e2) h2,
-                  (told (root-whole c port _ e3) h3,
-                  (told-not (admits-whole c port _ _ e4) h4,
-                  (told-not (points-whole c _ _ e5) h5,
-                  (and-false-left _ _ (ne-eqb _ _ h), tt))))))
+              passes-more h = (
+                told (missing-whole c _ e1) h1,
+                (
+                  told (missing-whole c _ e2) h2,
+                  (
+                    told (root-whole c port _ e3) h3,
+                    (
+                      told-not (admits-whole c port _ _ e4) h4,
+                      (
+                        told-not (points-whole c _ _ e5) h5,
+                        (and-false-left _ _ (ne-eqb _ _ h), tt),
+                      ),
+                    ),
+                  ),
+                ),
+              )
 
               module _ (last : counted ≡ 1) {t6 : Bool} (e6 : t6 ≡ pointsFrom (o .destination) (inUse (c .public))) where
                 pub has-pointers : t6 ≡ true → Refuses HasPointers
@@ -101,13 +110,22 @@ module _ (port : Port) (c : Card) (o : DeleteOperands) where
 
                 pub passes-last : t6 ≡ false → Passes
                 unfolding plan deletePlan hasPointers
-                passes-last h =
-                    (told (missing-whole c _ e1) h1,
-                    (told (missing-whole c _ e2) h2,
-                    (told (root-whole c port _ e3) h3,
-                    (told-not (admits-whole c port _ _ e4) h4,
-                    (told-not (points-whole c _ _ e5) h5,
-                    (and-false-right (eqb counted 1) _ (told e6 h), tt))))))
+                passes-last h = (
+                  told (missing-whole c _ e1) h1,
+                  (
+                    told (missing-whole c _ e2) h2,
+                    (
+                      told (root-whole c port _ e3) h3,
+                      (
+                        told-not (admits-whole c port _ _ e4) h4,
+                        (
+                          told-not (points-whole c _ _ e5) h5,
+                          (and-false-right (eqb counted 1) _ (told e6 h), tt),
+                        ),
+                      ),
+                    ),
+                  ),
+                )
 
   module _ (s : SoundCard c) (h : Passes) where
     below : o .destination < c .public .info .blocks
@@ -126,19 +144,27 @@ module _ (port : Port) (c : Card) (o : DeleteOperands) where
         let w : ℕ = pointer (o .source) (o .destination) in
         let some : 1 ≤ counted =
         subst (λ (n : ℕ). 1 ≤ n) (sym (s .isSound .counts (o .destination) below))
-        (contains-counted (o .destination) w (inUse (c .public)) there (destination-pointer (o .source) (o .destination) (block-narrow s below))) in
-        (sound-removable s (o .source) (o .destination) there,
-        (omega (arith, below, s .shaped .hasLengths .counts),
-        (some,
-        omega (arith, remove-length w (inUse (c .public)) there, length-take-le (c .public .info .used) (c .public .pointers) (s .shaped .usedHigh)))))
+        (contains-counted (o .destination) w (inUse (c .public)) there (destination-pointer (o .source) (o .destination) (block-narrow s below))) in (
+          sound-removable s (o .source) (o .destination) there,
+          (
+            omega (arith, below, s .shaped .hasLengths .counts),
+            (
+              some,
+              omega (arith, remove-length w (inUse (c .public)) there, length-take-le (c .public .info .used) (c .public .pointers) (s .shaped .usedHigh)),
+            ),
+          ),
+        )
 
     -- What freeing the block asks.
     pub freeable : (o .destination < length (c .public .flags))
         × ((4 * o .destination + 4 ≤ length (c .keys)) × (2 * o .destination + 2 ≤ length (c .public .windows)))
-    freeable =
-        (omega (arith, below, s .shaped .hasLengths .flags),
-        (omega (arith, below, s .shaped .hasLengths .keys),
-        omega (arith, below, s .shaped .hasLengths .windows)))
+    freeable = (
+      omega (arith, below, s .shaped .hasLengths .flags),
+      (
+        omega (arith, below, s .shaped .hasLengths .keys),
+        omega (arith, below, s .shaped .hasLengths .windows),
+      ),
+    )
 
   deleted : {after : Card} (t : Bool) → eqb counted 1 ≡ t → Passes
       → after ≡ changes (change c (dropPointer (o .source) (o .destination))) (cond t (freeBlock (o .destination) ∷ []) [])

@@ -35,10 +35,13 @@ module _ {c : Card} {reference b : ℕ} (h : CanTake c reference b) where
   -- What adding the pointer asks.
   pub addable : Addable (c .public .pointers) (c .public .info .used) (pointer reference b) × ((b < length (c .public .counts)) × (getD (c .public .counts) b 0 < 65535))
   addable =
-      let s = h .sound in
-      (sound-addable s reference b (h .room) (no-pointer reference b s (h .below) (h .free)),
-      (omega (arith, h .below, s .shaped .hasLengths .counts),
-      omega (arith, count-low s b (h .below), s .shaped .usedHigh, s .shaped .hasLengths .placesHigh)))
+      let s = h .sound in (
+        sound-addable s reference b (h .room) (no-pointer reference b s (h .below) (h .free)),
+        (
+          omega (arith, h .below, s .shaped .hasLengths .counts),
+          omega (arith, count-low s b (h .below), s .shaped .usedHigh, s .shaped .hasLengths .placesHigh),
+        ),
+      )
 
   pub taken : {cleared counts pointers : List ℕ} {left : Info}
       → (let at = b * c .public .info .bytes in let size = (at + c .public .info .bytes) - at in

@@ -35,7 +35,7 @@ module _ {want blocks low high : ℕ} (s : Spread want blocks low high) where
     nearest = λ y l o. ⊎-elim (λ (b : y < low). absurd (omega arith)) (λ (b : high ≤ y). (omega arith, λ (f : y < high). absurd (omega arith))) o;
   }
 
-  pub next-down : (b : ℕ) → b + 1 ≡ low → high ≡ blocks ⊎ (want - low < high - want) → Next want blocks low high b
+  pub next-down : (b : ℕ) → b + 1 ≡ low → (high ≡ blocks) ⊎ (want - low + 1 ≤ high - want) → Next want blocks low high b
   next-down b e c = record {
     below = omega arith;
     beside = inl e;
@@ -45,12 +45,12 @@ module _ {want blocks low high : ℕ} (s : Spread want blocks low high) where
         (λ (f : high ≤ y).
         ⊎-elim
         (λ (h : high ≡ blocks). absurd (omega arith))
-        (λ (h : want - low < high - want). (omega arith, λ (g : y < b). absurd (omega arith)))
+        (λ (h : want - low + 1 ≤ high - want). (omega arith, λ (g : y < b). absurd (omega arith)))
         c)
         o;
   }
 
-  pub next-nearer : (high ≡ blocks → ⊥) → high - want ≤ want - low → Next want blocks low high high
+  pub next-nearer : (high ≡ blocks → ⊥) → high - want < want - low + 1 → Next want blocks low high high
   next-nearer f c = record {
     below = omega arith;
     beside = inr refl;

@@ -165,7 +165,7 @@ fn next(want: usize, blocks: usize, low: usize, high: usize) -> usize
     if high == blocks {
         return low - 1;
     }
-    if want - low < high - want {
+    if want - low + 1 <= high - want {
         return low - 1;
     }
     high
@@ -262,10 +262,7 @@ fn bad_operands(info: Info, hint: u16, count: u8, places: usize) -> bool
 {
     let near = hint as usize;
     let number = count as usize;
-    (count == 0)
-        | (64 < count)
-        | (!(near < info.blocks) & !(hint == 65535))
-        | (places < number)
+    (count == 0) | (64 < count) | (!(near < info.blocks) & !(hint == 65535)) | (places < number)
 }
 
 // Without a hint the lowest block is wanted.
@@ -304,7 +301,17 @@ pub fn alloc_sound(
     if root_at_host(port, info, reference) {
         return refuse(info, Refusal::IsRoot);
     }
-    if !access::admits(port, info, flags, keys, pointers, windows, Mode::Writing, from, credential) {
+    if !access::admits(
+        port,
+        info,
+        flags,
+        keys,
+        pointers,
+        windows,
+        Mode::Writing,
+        from,
+        credential,
+    ) {
         return refuse(info, Refusal::NotOpened);
     }
     if tables::count_free(flags) < count {
@@ -351,7 +358,18 @@ pub fn alloc(
     match audit::audit(info, flags, keys, counts, pointers, windows, contents) {
         Verdict::Misshapen => refuse(info, Refusal::Misshapen),
         Verdict::Unsound => refuse(info, Refusal::Unsound),
-        Verdict::Sound => alloc_sound(info, flags, keys, counts, pointers, windows, contents, port, o, places),
+        Verdict::Sound => alloc_sound(
+            info,
+            flags,
+            keys,
+            counts,
+            pointers,
+            windows,
+            contents,
+            port,
+            o,
+            places,
+        ),
     }
 }
 
@@ -378,6 +396,8 @@ pub fn create_sound(
     let second = o.second;
     let from = source as usize;
     let to = destination as usize;
+    let source_mode = Mode::Writing;
+    let destination_mode = Mode::Writing;
     if missing(info, flags, source) {
         return refuse(info, Refusal::NotAllocated);
     }
@@ -387,10 +407,30 @@ pub fn create_sound(
     if (to < info.roots) | root_at_host(port, info, source) {
         return refuse(info, Refusal::IsRoot);
     }
-    if !access::admits(port, info, flags, keys, pointers, windows, Mode::Writing, from, first) {
+    if !access::admits(
+        port,
+        info,
+        flags,
+        keys,
+        pointers,
+        windows,
+        source_mode,
+        from,
+        first,
+    ) {
         return refuse(info, Refusal::NotOpened);
     }
-    if !access::admits(port, info, flags, keys, pointers, windows, Mode::Writing, to, second) {
+    if !access::admits(
+        port,
+        info,
+        flags,
+        keys,
+        pointers,
+        windows,
+        destination_mode,
+        to,
+        second,
+    ) {
         return refuse(info, Refusal::NotOpened);
     }
     if (source == destination) | points_to(info, pointers, source, destination) {
@@ -423,7 +463,17 @@ pub fn create(
     match audit::audit(info, flags, keys, counts, pointers, windows, contents) {
         Verdict::Misshapen => refuse(info, Refusal::Misshapen),
         Verdict::Unsound => refuse(info, Refusal::Unsound),
-        Verdict::Sound => create_sound(info, flags, keys, counts, pointers, windows, contents, port, o),
+        Verdict::Sound => create_sound(
+            info,
+            flags,
+            keys,
+            counts,
+            pointers,
+            windows,
+            contents,
+            port,
+            o,
+        ),
     }
 }
 
@@ -458,7 +508,17 @@ pub fn delete_sound(
     if root_at_host(port, info, source) {
         return refuse(info, Refusal::IsRoot);
     }
-    if !access::admits(port, info, flags, keys, pointers, windows, Mode::Writing, from, credential) {
+    if !access::admits(
+        port,
+        info,
+        flags,
+        keys,
+        pointers,
+        windows,
+        Mode::Writing,
+        from,
+        credential,
+    ) {
         return refuse(info, Refusal::NotOpened);
     }
     if !points_to(info, pointers, source, destination) {
@@ -499,6 +559,16 @@ pub fn delete(
     match audit::audit(info, flags, keys, counts, pointers, windows, contents) {
         Verdict::Misshapen => refuse(info, Refusal::Misshapen),
         Verdict::Unsound => refuse(info, Refusal::Unsound),
-        Verdict::Sound => delete_sound(info, flags, keys, counts, pointers, windows, contents, port, o),
+        Verdict::Sound => delete_sound(
+            info,
+            flags,
+            keys,
+            counts,
+            pointers,
+            windows,
+            contents,
+            port,
+            o,
+        ),
     }
 }

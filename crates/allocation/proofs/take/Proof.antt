@@ -26,7 +26,7 @@ part-clear-start c = search needs
 
 -- src/lib.rt:206:19
 part-clear-end : tie.Need-part-clear-end
-part-clear-end c = block-inside (c .before .before .before .before .before .before .pre)
+part-clear-end c = omega (arith, block-inside (c .before .before .before .before .before .before .pre))
 
 -- src/lib.rt:206:5
 clear-requires : tie.Need-clear-requires
