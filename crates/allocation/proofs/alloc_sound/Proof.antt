@@ -5,6 +5,7 @@ use Rattle.card.specs.Card.{card}
 use Rattle.access.specs.AccessibleLaws.{sound-accessible}
 use Rattle.allocation.proofs.Judging.{present-below, is-refusal}
 use Rattle.allocation.proofs.Allocating.{bad-operand, reference-missing, root-reference, reference-shut, too-few-blocks, too-few-places, passes, ready, took}
+use mathlib.Core.Path.{refl}
 use borrow.Author.Needs.{needs}
 use Rattle.allocation.proofs.alloc_sound.Statement.{statement}
 use Rattle.allocation.proofs.alloc_sound.Tie as tie
@@ -31,7 +32,7 @@ refuse-requires-2 : tie.Need-refuse-requires-2
 refuse-requires-2 c κs = tt
 
 same-length : tie.Need-same-length
-same-length c = search needs
+same-length c = refl
 
 returns-2 : tie.Need-returns-2
 returns-2 c = let a = c .before .before .before .before .before .before .before .before .before .before .before .before .before .before .args in let k = card (a .info) (a .flags .now) (a .keys .now) (a .counts .now) (a .pointers .now) (a .windows .now) (a .contents .now) in is-refusal (a .port) k _ (reference-missing (a .port) k (a .o) (a .places .now) (c .before .before .before .before .before .bad-operands .ensures) (c .before .before .before .before .if1 .left) (c .before .before .missing .ensures) (c .before .if2 .taken)) (c .refuse2 .ensures)
@@ -43,7 +44,7 @@ refuse-requires-3 : tie.Need-refuse-requires-3
 refuse-requires-3 c κs = tt
 
 same-length-2 : tie.Need-same-length-2
-same-length-2 c = search needs
+same-length-2 c = refl
 
 returns-3 : tie.Need-returns-3
 returns-3 c = let a = c .before .before .before .before .before .before .before .before .before .before .before .before .before .before .before .before .args in let k = card (a .info) (a .flags .now) (a .keys .now) (a .counts .now) (a .pointers .now) (a .windows .now) (a .contents .now) in is-refusal (a .port) k _ (root-reference (a .port) k (a .o) (a .places .now) (c .before .before .before .before .before .before .before .bad-operands .ensures) (c .before .before .before .before .before .before .if1 .left) (c .before .before .before .before .missing .ensures) (c .before .before .before .if2 .left) (c .before .before .root-at-host .ensures) (c .before .if3 .taken)) (c .refuse3 .ensures)
@@ -55,10 +56,10 @@ refuse-requires-4 : tie.Need-refuse-requires-4
 refuse-requires-4 c κs = tt
 
 same-length-3 : tie.Need-same-length-3
-same-length-3 c = search needs
+same-length-3 c = refl
 
 same-length-4 : tie.Need-same-length-4
-same-length-4 c = search needs
+same-length-4 c = refl
 
 returns-4 : tie.Need-returns-4
 returns-4 c = let a = c .before .before .before .before .before .before .before .before .before .before .before .before .before .before .before .before .before .before .before .before .args in let k = card (a .info) (a .flags .now) (a .keys .now) (a .counts .now) (a .pointers .now) (a .windows .now) (a .contents .now) in is-refusal (a .port) k _ (reference-shut (a .port) k (a .o) (a .places .now) (c .before .before .before .before .before .before .before .before .before .before .before .bad-operands .ensures) (c .before .before .before .before .before .before .before .before .before .before .if1 .left) (c .before .before .before .before .before .before .before .before .missing .ensures) (c .before .before .before .before .before .before .before .if2 .left) (c .before .before .before .before .before .before .root-at-host .ensures) (c .before .before .before .before .before .if3 .left) (c .before .before .admits .ensures) (c .before .if4 .taken)) (c .refuse4 .ensures)
@@ -70,10 +71,10 @@ refuse-requires-5 : tie.Need-refuse-requires-5
 refuse-requires-5 c κs = tt
 
 same-length-5 : tie.Need-same-length-5
-same-length-5 c = search needs
+same-length-5 c = refl
 
 same-length-6 : tie.Need-same-length-6
-same-length-6 c = search needs
+same-length-6 c = refl
 
 returns-5 : tie.Need-returns-5
 returns-5 c = let a = c .before .before .before .before .before .before .before .before .before .before .before .before .before .before .before .before .before .before .before .before .before .before .before .args in let k = card (a .info) (a .flags .now) (a .keys .now) (a .counts .now) (a .pointers .now) (a .windows .now) (a .contents .now) in is-refusal (a .port) k _ (too-few-blocks (a .port) k (a .o) (a .places .now) (c .before .before .before .before .before .before .before .before .before .before .before .before .before .before .bad-operands .ensures) (c .before .before .before .before .before .before .before .before .before .before .before .before .before .if1 .left) (c .before .before .before .before .before .before .before .before .before .before .before .missing .ensures) (c .before .before .before .before .before .before .before .before .before .before .if2 .left) (c .before .before .before .before .before .before .before .before .before .root-at-host .ensures) (c .before .before .before .before .before .before .before .before .if3 .left) (c .before .before .before .before .before .admits .ensures) (c .before .before .before .before .if4 .left) (c .before .before .before .before .before .before .before .before .before .before .before .before .before .before .before .before .before .before .before .before .before .before .before .pre) (c .before .before .count-free .ensures) (c .before .if5 .taken)) (c .refuse5 .ensures)
@@ -85,10 +86,10 @@ refuse-requires-6 : tie.Need-refuse-requires-6
 refuse-requires-6 c κs = tt
 
 same-length-7 : tie.Need-same-length-7
-same-length-7 c = search needs
+same-length-7 c = refl
 
 same-length-8 : tie.Need-same-length-8
-same-length-8 c = search needs
+same-length-8 c = refl
 
 returns-6 : tie.Need-returns-6
 returns-6 c = let a = c .before .before .before .before .before .before .before .before .before .before .before .before .before .before .before .before .before .before .before .before .before .before .before .before .before .args in let k = card (a .info) (a .flags .now) (a .keys .now) (a .counts .now) (a .pointers .now) (a .windows .now) (a .contents .now) in is-refusal (a .port) k _ (too-few-places (a .port) k (a .o) (a .places .now) (c .before .before .before .before .before .before .before .before .before .before .before .before .before .before .before .before .bad-operands .ensures) (c .before .before .before .before .before .before .before .before .before .before .before .before .before .before .before .if1 .left) (c .before .before .before .before .before .before .before .before .before .before .before .before .before .missing .ensures) (c .before .before .before .before .before .before .before .before .before .before .before .before .if2 .left) (c .before .before .before .before .before .before .before .before .before .before .before .root-at-host .ensures) (c .before .before .before .before .before .before .before .before .before .before .if3 .left) (c .before .before .before .before .before .before .before .admits .ensures) (c .before .before .before .before .before .before .if4 .left) (c .before .before .before .before .before .before .before .before .before .before .before .before .before .before .before .before .before .before .before .before .before .before .before .before .before .pre) (c .before .before .before .before .count-free .ensures) (c .before .before .before .if5 .left) (c .before .if6 .taken)) (c .refuse6 .ensures)

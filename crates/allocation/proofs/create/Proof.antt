@@ -2,6 +2,7 @@
 -- Assumes nothing.
 use Rattle.card.specs.Card.{card}
 use Rattle.allocation.proofs.Judging.{misshapen, unsound, audited, audited-card}
+use mathlib.Core.Path.{refl}
 use borrow.Author.Needs.{needs}
 use Rattle.allocation.proofs.create.Statement.{statement}
 use Rattle.allocation.proofs.create.Tie as tie
@@ -28,19 +29,19 @@ create-sound-requires : tie.Need-create-sound-requires
 create-sound-requires c κs = let a = c .before .before .before .before .before .before .before .before .before .before .before .before .before .args in let k = card (a .info) (a .flags .now) (a .keys .now) (a .counts .now) (a .pointers .now) (a .windows .now) (a .contents .now) in audited-card k (c .before .before .before .before .audit .ensures) (c .before .before .enum-told3 .given .1)
 
 same-length : tie.Need-same-length
-same-length c = search needs
+same-length c = refl
 
 same-length-2 : tie.Need-same-length-2
-same-length-2 c = search needs
+same-length-2 c = refl
 
 returns : tie.Need-returns
 returns c = let a = c .before .before .before .before .before .before .before .before .before .before .before .before .args in let k = card (a .info) (a .flags .now) (a .keys .now) (a .counts .now) (a .pointers .now) (a .windows .now) (a .contents .now) in misshapen (a .port) k _ (c .before .before .before .audit .ensures) (c .before .enum-told .given .1) (c .refuse .ensures)
 
 same-length-3 : tie.Need-same-length-3
-same-length-3 c = search needs
+same-length-3 c = refl
 
 same-length-4 : tie.Need-same-length-4
-same-length-4 c = search needs
+same-length-4 c = refl
 
 returns-2 : tie.Need-returns-2
 returns-2 c = let a = c .before .before .before .before .before .before .before .before .before .before .before .before .args in let k = card (a .info) (a .flags .now) (a .keys .now) (a .counts .now) (a .pointers .now) (a .windows .now) (a .contents .now) in unsound (a .port) k _ (c .before .before .before .audit .ensures) (c .before .enum-told2 .given .1) (c .refuse2 .ensures)

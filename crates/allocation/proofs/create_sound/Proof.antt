@@ -6,6 +6,7 @@ use Rattle.tables.specs.InUseLaws.{sound-sorted}
 use Rattle.access.specs.AccessibleLaws.{sound-accessible}
 use Rattle.allocation.proofs.Judging.{present-below, is-refusal}
 use Rattle.allocation.proofs.Creating.{source-missing, destination-missing, root-end, source-shut, destination-shut, pointer-there, no-place, passes, addable, created}
+use mathlib.Core.Path.{refl}
 use borrow.Author.Needs.{needs}
 use Rattle.allocation.proofs.create_sound.Statement.{statement}
 use Rattle.allocation.proofs.create_sound.Tie as tie
@@ -50,7 +51,7 @@ refuse-requires-4 : tie.Need-refuse-requires-4
 refuse-requires-4 c κs = tt
 
 same-length : tie.Need-same-length
-same-length c = search needs
+same-length c = refl
 
 returns-4 : tie.Need-returns-4
 returns-4 c = let a = c .before .before .before .before .before .before .before .before .before .before .before .before .before .before .before .before .before .args in let k = card (a .info) (a .flags .now) (a .keys .now) (a .counts .now) (a .pointers .now) (a .windows .now) (a .contents .now) in is-refusal (a .port) k _ (source-shut (a .port) k (a .o) (c .before .before .before .before .before .before .before .before .before .before .missing .ensures) (c .before .before .before .before .before .before .before .before .before .if1 .left) (c .before .before .before .before .before .before .before .before .missing2 .ensures) (c .before .before .before .before .before .before .before .if2 .left) (c .before .before .before .before .before .root-at-host .ensures) (c .before .before .before .before .if3 .left) (c .before .before .admits .ensures) (c .before .if4 .taken)) (c .refuse4 .ensures)
@@ -62,7 +63,7 @@ refuse-requires-5 : tie.Need-refuse-requires-5
 refuse-requires-5 c κs = tt
 
 same-length-2 : tie.Need-same-length-2
-same-length-2 c = search needs
+same-length-2 c = refl
 
 returns-5 : tie.Need-returns-5
 returns-5 c = let a = c .before .before .before .before .before .before .before .before .before .before .before .before .before .before .before .before .before .before .before .before .args in let k = card (a .info) (a .flags .now) (a .keys .now) (a .counts .now) (a .pointers .now) (a .windows .now) (a .contents .now) in is-refusal (a .port) k _ (destination-shut (a .port) k (a .o) (c .before .before .before .before .before .before .before .before .before .before .before .before .before .missing .ensures) (c .before .before .before .before .before .before .before .before .before .before .before .before .if1 .left) (c .before .before .before .before .before .before .before .before .before .before .before .missing2 .ensures) (c .before .before .before .before .before .before .before .before .before .before .if2 .left) (c .before .before .before .before .before .before .before .before .root-at-host .ensures) (c .before .before .before .before .before .before .before .if3 .left) (c .before .before .before .before .before .admits .ensures) (c .before .before .before .before .if4 .left) (c .before .before .admits2 .ensures) (c .before .if5 .taken)) (c .refuse5 .ensures)
@@ -74,7 +75,7 @@ refuse-requires-6 : tie.Need-refuse-requires-6
 refuse-requires-6 c κs = tt
 
 same-length-3 : tie.Need-same-length-3
-same-length-3 c = search needs
+same-length-3 c = refl
 
 returns-6 : tie.Need-returns-6
 returns-6 c = let a = c .before .before .before .before .before .before .before .before .before .before .before .before .before .before .before .before .before .before .before .before .before .before .before .args in let k = card (a .info) (a .flags .now) (a .keys .now) (a .counts .now) (a .pointers .now) (a .windows .now) (a .contents .now) in is-refusal (a .port) k _ (pointer-there (a .port) k (a .o) (c .before .before .before .before .before .before .before .before .before .before .before .before .before .before .before .before .missing .ensures) (c .before .before .before .before .before .before .before .before .before .before .before .before .before .before .before .if1 .left) (c .before .before .before .before .before .before .before .before .before .before .before .before .before .before .missing2 .ensures) (c .before .before .before .before .before .before .before .before .before .before .before .before .before .if2 .left) (c .before .before .before .before .before .before .before .before .before .before .before .root-at-host .ensures) (c .before .before .before .before .before .before .before .before .before .before .if3 .left) (c .before .before .before .before .before .before .before .before .admits .ensures) (c .before .before .before .before .before .before .before .if4 .left) (c .before .before .before .before .before .admits2 .ensures) (c .before .before .before .before .if5 .left) (c .before .before .points-to .ensures) (c .before .if6 .taken)) (c .refuse6 .ensures)
@@ -83,7 +84,7 @@ refuse-requires-7 : tie.Need-refuse-requires-7
 refuse-requires-7 c κs = tt
 
 same-length-4 : tie.Need-same-length-4
-same-length-4 c = search needs
+same-length-4 c = refl
 
 returns-7 : tie.Need-returns-7
 returns-7 c = let a = c .before .before .before .before .before .before .before .before .before .before .before .before .before .before .before .before .before .before .before .before .before .before .before .before .before .args in let k = card (a .info) (a .flags .now) (a .keys .now) (a .counts .now) (a .pointers .now) (a .windows .now) (a .contents .now) in is-refusal (a .port) k _ (no-place (a .port) k (a .o) (c .before .before .before .before .before .before .before .before .before .before .before .before .before .before .before .before .before .before .missing .ensures) (c .before .before .before .before .before .before .before .before .before .before .before .before .before .before .before .before .before .if1 .left) (c .before .before .before .before .before .before .before .before .before .before .before .before .before .before .before .before .missing2 .ensures) (c .before .before .before .before .before .before .before .before .before .before .before .before .before .before .before .if2 .left) (c .before .before .before .before .before .before .before .before .before .before .before .before .before .root-at-host .ensures) (c .before .before .before .before .before .before .before .before .before .before .before .before .if3 .left) (c .before .before .before .before .before .before .before .before .before .before .admits .ensures) (c .before .before .before .before .before .before .before .before .before .if4 .left) (c .before .before .before .before .before .before .before .admits2 .ensures) (c .before .before .before .before .before .before .if5 .left) (c .before .before .before .before .points-to .ensures) (c .before .before .before .if6 .left) (c .before .if7 .taken)) (c .refuse7 .ensures)

@@ -6,6 +6,7 @@ use Rattle.tables.specs.InUseLaws.{sound-sorted}
 use Rattle.access.specs.AccessibleLaws.{sound-accessible}
 use Rattle.allocation.proofs.Judging.{present-below, is-refusal}
 use Rattle.allocation.proofs.Deleting.{source-missing, destination-missing, root-source, source-shut, no-pointer, has-pointers, passes-more, passes-last, droppable, freeable, deleted-more, deleted-last}
+use mathlib.Core.Path.{refl}
 use borrow.Author.Needs.{needs}
 use Rattle.allocation.proofs.delete_sound.Statement.{statement}
 use Rattle.allocation.proofs.delete_sound.Tie as tie
@@ -23,7 +24,7 @@ refuse-requires : tie.Need-refuse-requires
 refuse-requires c κs = tt
 
 same-length : tie.Need-same-length
-same-length c = search needs
+same-length c = refl
 
 returns : tie.Need-returns
 returns c = let a = c .before .before .before .before .before .before .before .before .before .before .args in let k = card (a .info) (a .flags .now) (a .keys .now) (a .counts .now) (a .pointers .now) (a .windows .now) (a .contents .now) in is-refusal (a .port) k _ (source-missing (a .port) k (a .o) (c .before .before .missing .ensures) (c .before .if1 .taken)) (c .refuse .ensures)
@@ -35,7 +36,7 @@ refuse-requires-2 : tie.Need-refuse-requires-2
 refuse-requires-2 c κs = tt
 
 same-length-2 : tie.Need-same-length-2
-same-length-2 c = search needs
+same-length-2 c = refl
 
 returns-2 : tie.Need-returns-2
 returns-2 c = let a = c .before .before .before .before .before .before .before .before .before .before .before .before .before .args in let k = card (a .info) (a .flags .now) (a .keys .now) (a .counts .now) (a .pointers .now) (a .windows .now) (a .contents .now) in is-refusal (a .port) k _ (destination-missing (a .port) k (a .o) (c .before .before .before .before .before .missing .ensures) (c .before .before .before .before .if1 .left) (c .before .before .missing2 .ensures) (c .before .if2 .taken)) (c .refuse2 .ensures)
@@ -47,7 +48,7 @@ refuse-requires-3 : tie.Need-refuse-requires-3
 refuse-requires-3 c κs = tt
 
 same-length-3 : tie.Need-same-length-3
-same-length-3 c = search needs
+same-length-3 c = refl
 
 returns-3 : tie.Need-returns-3
 returns-3 c = let a = c .before .before .before .before .before .before .before .before .before .before .before .before .before .before .before .args in let k = card (a .info) (a .flags .now) (a .keys .now) (a .counts .now) (a .pointers .now) (a .windows .now) (a .contents .now) in is-refusal (a .port) k _ (root-source (a .port) k (a .o) (c .before .before .before .before .before .before .before .missing .ensures) (c .before .before .before .before .before .before .if1 .left) (c .before .before .before .before .missing2 .ensures) (c .before .before .before .if2 .left) (c .before .before .root-at-host .ensures) (c .before .if3 .taken)) (c .refuse3 .ensures)
@@ -59,16 +60,16 @@ refuse-requires-4 : tie.Need-refuse-requires-4
 refuse-requires-4 c κs = tt
 
 same-length-4 : tie.Need-same-length-4
-same-length-4 c = search needs
+same-length-4 c = refl
 
 same-length-5 : tie.Need-same-length-5
-same-length-5 c = search needs
+same-length-5 c = refl
 
 same-length-6 : tie.Need-same-length-6
-same-length-6 c = search needs
+same-length-6 c = refl
 
 same-length-7 : tie.Need-same-length-7
-same-length-7 c = search needs
+same-length-7 c = refl
 
 returns-4 : tie.Need-returns-4
 returns-4 c = let a = c .before .before .before .before .before .before .before .before .before .before .before .before .before .before .before .before .before .before .before .before .before .args in let k = card (a .info) (a .flags .now) (a .keys .now) (a .counts .now) (a .pointers .now) (a .windows .now) (a .contents .now) in is-refusal (a .port) k _ (source-shut (a .port) k (a .o) (c .before .before .before .before .before .before .before .before .before .before .before .before .before .missing .ensures) (c .before .before .before .before .before .before .before .before .before .before .before .before .if1 .left) (c .before .before .before .before .before .before .before .before .before .before .missing2 .ensures) (c .before .before .before .before .before .before .before .before .before .if2 .left) (c .before .before .before .before .before .before .before .before .root-at-host .ensures) (c .before .before .before .before .before .before .before .if3 .left) (c .before .before .admits .ensures) (c .before .if4 .taken)) (c .refuse4 .ensures)
@@ -80,16 +81,16 @@ refuse-requires-5 : tie.Need-refuse-requires-5
 refuse-requires-5 c κs = tt
 
 same-length-8 : tie.Need-same-length-8
-same-length-8 c = search needs
+same-length-8 c = refl
 
 same-length-9 : tie.Need-same-length-9
-same-length-9 c = search needs
+same-length-9 c = refl
 
 same-length-10 : tie.Need-same-length-10
-same-length-10 c = search needs
+same-length-10 c = refl
 
 same-length-11 : tie.Need-same-length-11
-same-length-11 c = search needs
+same-length-11 c = refl
 
 returns-5 : tie.Need-returns-5
 returns-5 c = let a = c .before .before .before .before .before .before .before .before .before .before .before .before .before .before .before .before .before .before .before .before .before .before .before .before .args in let k = card (a .info) (a .flags .now) (a .keys .now) (a .counts .now) (a .pointers .now) (a .windows .now) (a .contents .now) in is-refusal (a .port) k _ (no-pointer (a .port) k (a .o) (c .before .before .before .before .before .before .before .before .before .before .before .before .before .before .before .before .missing .ensures) (c .before .before .before .before .before .before .before .before .before .before .before .before .before .before .before .if1 .left) (c .before .before .before .before .before .before .before .before .before .before .before .before .before .missing2 .ensures) (c .before .before .before .before .before .before .before .before .before .before .before .before .if2 .left) (c .before .before .before .before .before .before .before .before .before .before .before .root-at-host .ensures) (c .before .before .before .before .before .before .before .before .before .before .if3 .left) (c .before .before .before .before .before .admits .ensures) (c .before .before .before .before .if4 .left) (c .before .before .points-to .ensures) (c .before .if5 .taken)) (c .refuse5 .ensures)
@@ -128,16 +129,16 @@ refuse-requires-6 : tie.Need-refuse-requires-6
 refuse-requires-6 c κs = tt
 
 same-length-17 : tie.Need-same-length-17
-same-length-17 c = search needs
+same-length-17 c = refl
 
 same-length-18 : tie.Need-same-length-18
-same-length-18 c = search needs
+same-length-18 c = refl
 
 same-length-19 : tie.Need-same-length-19
-same-length-19 c = search needs
+same-length-19 c = refl
 
 same-length-20 : tie.Need-same-length-20
-same-length-20 c = search needs
+same-length-20 c = refl
 
 returns-7 : tie.Need-returns-7
 returns-7 c = let a = c .before .before .before .before .before .before .before .before .before .before .before .before .before .before .before .before .before .before .before .before .before .before .before .before .before .before .before .before .before .args in let k = card (a .info) (a .flags .now) (a .keys .now) (a .counts .now) (a .pointers .now) (a .windows .now) (a .contents .now) in is-refusal (a .port) k _ (has-pointers (a .port) k (a .o) (c .before .before .before .before .before .before .before .before .before .before .before .before .before .before .before .before .before .before .before .before .before .missing .ensures) (c .before .before .before .before .before .before .before .before .before .before .before .before .before .before .before .before .before .before .before .before .if1 .left) (c .before .before .before .before .before .before .before .before .before .before .before .before .before .before .before .before .before .before .missing2 .ensures) (c .before .before .before .before .before .before .before .before .before .before .before .before .before .before .before .before .before .if2 .left) (c .before .before .before .before .before .before .before .before .before .before .before .before .before .before .before .before .root-at-host .ensures) (c .before .before .before .before .before .before .before .before .before .before .before .before .before .before .before .if3 .left) (c .before .before .before .before .before .before .before .before .before .before .admits .ensures) (c .before .before .before .before .before .before .before .before .before .if4 .left) (c .before .before .before .before .before .before .before .points-to .ensures) (c .before .before .before .before .before .before .if5 .left) (c .before .before .before .before .if6 .left) (c .before .before .points-from .ensures) (c .before .if7 .taken)) (c .refuse6 .ensures)
