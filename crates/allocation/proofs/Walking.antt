@@ -1,13 +1,13 @@
 -- The outward walk takes ALLOC's picks in order, over plain values.
 -- Assumes nothing.
-use Prim.Native.Nat.{ℕ, zero, suc, _+_, _-_, _%_, _≤_, _<_}
+use Prim.Native.Nat.{ℕ, suc, _+_, _-_, _%_, _≤_, _<_}
 use mathlib.Core.Path.{_≡_, refl, sym, ap, _∙_, subst}
 use mathlib.Core.Logic.{_⊎_, inl, inr, ⊎-elim}
-use mathlib.Core.Bool.{Bool, true, false, not, cond}
+use mathlib.Core.Bool.{true, false, not}
 use mathlib.Core.List.{List, [], _∷_, _++_, append-nil, append-assoc}
 use native.Mathlib.Nat.{not-suc-le-zero}
 use native.Mathlib.Omega.{arith}
-use lib.Dec.{eqb, ltb}
+use lib.Dec.{eqb}
 use lib.ListN.{length, drop, getD, set, length-append, length-set}
 use lib.Seq.{drop-cons, set-append-seam, append-snoc, getD-set-same}
 use borrow.Author.Tests.{lt-ltb, le-ltb, eq-eqb, ne-eqb, not-true}
@@ -19,7 +19,7 @@ use Rattle.card.specs.Contents.{overwrite}
 use Rattle.card.specs.Card.{Public, Card, flag, allocatedFlag, allocated, freeBlocks}
 use Rattle.card.specs.SoundnessLaws.{SoundCard, flag-allocated, allocated-flag}
 use Rattle.card.specs.Plan.{Change, takeBlock, addPointer, withFlags, changePublic, change, changes}
-use Rattle.card.specs.Calls.{distance, picks, takeAll}
+use Rattle.card.specs.Calls.{picks, takeAll}
 use Rattle.guarantees.specs.Steps.{allocated-set, allocated-other}
 use Rattle.guarantees.specs.PointerSteps.{inserted-length, takeAdd-sound}
 use Rattle.allocation.specs.Walk.{Spread, Next, lowAfter, highAfter, CanTake, Ready, Took}
