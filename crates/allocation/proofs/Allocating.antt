@@ -2,17 +2,17 @@
 -- Assumes nothing.
 use Prim.Native.Nat.{ℕ, _+_, _≤_, _<_}
 use mathlib.Core.Path.{_≡_, refl, sym, ap, _∙_, subst}
-use mathlib.Core.Logic.{_⊎_, inl, inr, ⊎-elim}
-use mathlib.Core.Bool.{Bool, true, false, _&&_, _||_, not, cond}
-use mathlib.Core.List.{List, [], _∷_}
+use mathlib.Core.Logic.{_⊎_, ⊎-elim}
+use mathlib.Core.Bool.{Bool, true, false, _&&_, _||_, not}
+use mathlib.Core.List.{List, []}
 use native.Mathlib.Omega.{arith}
 use lib.Dec.{eqb, ltb}
 use lib.ListN.{length}
-use borrow.Author.Tests.{lt-ltb, le-ltb, eq-eqb, ne-eqb, ltb-true, ltb-false, eqb-true, not-false}
+use borrow.Author.Tests.{lt-ltb, le-ltb, eq-eqb, ne-eqb, ltb-true, ltb-false, not-false}
 use Rattle.card.specs.ListsLaws.{or-false-left, or-false-right, and-true, absurd-test, not-cases}
-use Rattle.card.specs.Card.{Public, Card, card, freeBlocks}
+use Rattle.card.specs.Card.{Card, freeBlocks}
 use Rattle.card.specs.SoundnessLaws.{SoundCard}
-use Rattle.card.specs.Plan.{changes, outAfter, placesAfter}
+use Rattle.card.specs.Plan.{outAfter, placesAfter}
 use Rattle.card.specs.PlanLaws.{FirstHolds, here, later, NoneHolds}
 use Rattle.card.specs.Calls.{noHint, wanted, picks, allocPlan}
 use Rattle.card.specs.Promises.{Is, is-done}

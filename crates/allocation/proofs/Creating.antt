@@ -3,14 +3,14 @@
 use Prim.Native.Nat.{ℕ, _<_}
 use mathlib.Core.Path.{_≡_, refl}
 use mathlib.Core.Bool.{Bool, true, false, not, _||_}
-use mathlib.Core.List.{List, [], _∷_}
+use mathlib.Core.List.{List, []}
 use native.Mathlib.Omega.{arith}
-use lib.Dec.{eqb, ltb}
+use lib.Dec.{eqb}
 use lib.ListN.{length, getD}
 use borrow.Author.Tests.{eq-eqb, ne-eqb, eqb-false, not-false}
 use Rattle.card.specs.ListsLaws.{or-false-right}
 use Rattle.card.specs.Pointers.{pointer}
-use Rattle.card.specs.Card.{Public, Card, card, isRoot, pointsTo}
+use Rattle.card.specs.Card.{Card, card, isRoot}
 use Rattle.card.specs.SoundnessLaws.{SoundCard, allocated-below}
 use Rattle.card.specs.Plan.{addPointer, change, changes, outAfter, placesAfter}
 use Rattle.card.specs.PlanLaws.{FirstHolds, here, later, NoneHolds}

@@ -1,25 +1,24 @@
 -- What DELETE answers at each way out, over plain values.
 -- Assumes nothing.
-use Prim.Native.Nat.{ℕ, suc, _+_, _*_, _≤_, _<_}
+use Prim.Native.Nat.{ℕ, _+_, _*_, _≤_, _<_}
 use mathlib.Core.Path.{_≡_, refl, sym, ap, _∙_, subst}
-use mathlib.Core.Bool.{Bool, true, false, not, _&&_, cond}
-use mathlib.Core.List.{List, [], _∷_}
+use mathlib.Core.Bool.{Bool, true, false, not, cond}
+use mathlib.Core.List.{[], _∷_}
 use native.Mathlib.Omega.{arith}
-use lib.Dec.{eqb, ltb}
-use lib.ListN.{length, take, getD, length-take}
+use lib.Dec.{eqb}
+use lib.ListN.{length, getD}
 use lib.Seq.{length-take-le}
 use borrow.Author.Tests.{eq-eqb, ne-eqb, not-false}
 use Rattle.card.specs.ListsLaws.{and-true, and-false-left, and-false-right}
 use Rattle.card.specs.Pointers.{pointer, pointsFrom}
 use Rattle.card.specs.PointersLaws.{contains-counted, destination-pointer, remove-length}
-use Rattle.card.specs.Card.{Public, Card, card, count, inUse, pointsTo, hasPointers}
+use Rattle.card.specs.Card.{Card, card, count, inUse, pointsTo, hasPointers}
 use Rattle.card.specs.SoundnessLaws.{SoundCard, allocated-below}
 use Rattle.card.specs.Plan.{dropPointer, freeBlock, change, changes, outAfter, placesAfter}
 use Rattle.card.specs.PlanLaws.{FirstHolds, here, later, NoneHolds}
 use Rattle.card.specs.Calls.{deletePlan}
 use Rattle.card.specs.Promises.{Is, is-done}
 use Rattle.card.specs.Session.{Request, request, plan, performSound}
-use Rattle.card.specs.declared.Info.{Info}
 use Rattle.card.specs.declared.Port.{Port}
 use Rattle.card.specs.declared.Call.the-variants.{Delete}
 use Rattle.card.specs.declared.DeleteOperands.{DeleteOperands}

@@ -10,7 +10,7 @@ use lib.ListN.{length}
 use lib.Seq.{length-take-le}
 use borrow.Author.Tests.{not-false}
 use Rattle.card.specs.Pointers.{destination, pointersTo}
-use Rattle.card.specs.Card.{Public, Card, card, allocated, count, inUse, pointsTo}
+use Rattle.card.specs.Card.{Card, card, allocated, count, inUse, pointsTo}
 use Rattle.card.specs.Soundness.{verdict}
 use Rattle.card.specs.SoundnessLaws.{SoundCard, allocated-below, verdict-sound}
 use Rattle.card.specs.Access.{admits}

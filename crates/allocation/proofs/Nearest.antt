@@ -3,14 +3,14 @@
 use Prim.Native.Nat.{ℕ, zero, suc, _≤_, _<_}
 use mathlib.Core.Path.{_≡_, refl, sym, ap, _∙_, subst}
 use mathlib.Core.Logic.{_⊎_, inl, inr, ⊎-elim}
-use mathlib.Core.Bool.{Bool, true, false, _||_, not, cond}
+use mathlib.Core.Bool.{Bool, true, false, cond}
 use mathlib.Core.List.{List, [], _∷_, _++_, append-nil}
 use native.Mathlib.Nat.{not-suc-le-zero, le-of-suc-le-suc, eq-or-lt-of-le}
 use native.Mathlib.Omega.{arith}
 use lib.Dec.{eqb, ltb}
 use borrow.Author.Tests.{lt-ltb, le-ltb, eq-eqb, ne-eqb, eqb-true}
 use Rattle.card.specs.Lists.{any, numbersBelow}
-use Rattle.card.specs.ListsLaws.{or-left, or-right, or-false, or-cases, or-else, absurd-test, false-unless, same-or-other, numbersBelow-same}
+use Rattle.card.specs.ListsLaws.{or-left, or-right, or-cases, or-else, absurd-test, false-unless, same-or-other, numbersBelow-same}
 use Rattle.card.specs.Pointers.{ascending, contains, remove}
 use Rattle.card.specs.PointersLaws.{contains-cons, ascending-cons, ascending-below, ascending-tail}
 use Rattle.card.specs.Calls.{distance, nearest, picks}

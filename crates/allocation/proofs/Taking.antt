@@ -1,7 +1,7 @@
 -- One block taken, over plain values.
 -- Assumes nothing.
 use Prim.Native.Nat.{ℕ, _+_, _-_, _*_, _≤_, _<_}
-use mathlib.Core.Path.{_≡_, refl, sym, ap, _∙_}
+use mathlib.Core.Path.{_≡_, refl, ap, _∙_}
 use mathlib.Core.List.{List, [], _∷_, _++_}
 use native.Mathlib.Omega.{arith}
 use lib.ListN.{length, take, drop, getD, set, length-take, length-drop, length-replicate}
@@ -9,7 +9,7 @@ use lib.Seq.{drop-drop}
 use Rattle.card.specs.Pointers.{pointer}
 use Rattle.card.specs.Contents.{overwrite, fill, zeros}
 use Rattle.card.specs.Card.{Card, card}
-use Rattle.card.specs.Plan.{takeBlock, addPointer, changePublic, changeKeys, changeContents, change, changes}
+use Rattle.card.specs.Plan.{addPointer, changePublic, changeKeys, changeContents, change, changes}
 use Rattle.card.specs.Calls.{takeAll}
 use Rattle.card.specs.declared.Info.{Info}
 use Rattle.card.proofs.Guarantees.Steps.{block-within}

@@ -1,13 +1,13 @@
 -- The outward walk takes ALLOC's picks in order, over plain values.
 -- Assumes nothing.
-use Prim.Native.Nat.{ℕ, zero, suc, _+_, _-_, _%_, _≤_, _<_}
+use Prim.Native.Nat.{ℕ, suc, _+_, _-_, _%_, _≤_, _<_}
 use mathlib.Core.Path.{_≡_, refl, sym, ap, _∙_, subst}
 use mathlib.Core.Logic.{_⊎_, inl, inr, ⊎-elim}
-use mathlib.Core.Bool.{Bool, true, false, not, cond}
+use mathlib.Core.Bool.{true, false, not}
 use mathlib.Core.List.{List, [], _∷_, _++_, append-nil, append-assoc}
 use native.Mathlib.Nat.{not-suc-le-zero}
 use native.Mathlib.Omega.{arith}
-use lib.Dec.{eqb, ltb}
+use lib.Dec.{eqb}
 use lib.ListN.{length, drop, getD, set, length-append, length-set}
 use lib.Seq.{drop-cons, set-append-seam, append-snoc, getD-set-same}
 use borrow.Author.Tests.{lt-ltb, le-ltb, eq-eqb, ne-eqb, not-true}
@@ -19,7 +19,7 @@ use Rattle.card.specs.Contents.{overwrite}
 use Rattle.card.specs.Card.{Public, Card, flag, allocatedFlag, allocated, freeBlocks}
 use Rattle.card.specs.SoundnessLaws.{SoundCard, flag-allocated, allocated-flag}
 use Rattle.card.specs.Plan.{Change, takeBlock, addPointer, withFlags, changePublic, change, changes}
-use Rattle.card.specs.Calls.{distance, picks, takeAll}
+use Rattle.card.specs.Calls.{picks, takeAll}
 use Rattle.card.proofs.Guarantees.Steps.{allocated-set, allocated-other}
 use Rattle.card.specs.ChangesLaws.{inserted-length}
 use Rattle.card.proofs.Guarantees.PointerSteps.{takeAdd-sound}
@@ -36,7 +36,7 @@ module _ {want blocks low high : ℕ} (s : Spread want blocks low high) where
     nearest = λ y l o. ⊎-elim (λ (b : y < low). absurd (omega arith)) (λ (b : high ≤ y). (omega arith, λ (f : y < high). absurd (omega arith))) o;
   }
 
-  pub next-down : (b : ℕ) → b + 1 ≡ low → high ≡ blocks ⊎ (want - low < high - want) → Next want blocks low high b
+  pub next-down : (b : ℕ) → b + 1 ≡ low → (high ≡ blocks) ⊎ (want - low + 1 ≤ high - want) → Next want blocks low high b
   next-down b e c = record {
     below = omega arith;
     beside = inl e;
@@ -46,12 +46,12 @@ module _ {want blocks low high : ℕ} (s : Spread want blocks low high) where
         (λ (f : high ≤ y).
         ⊎-elim
         (λ (h : high ≡ blocks). absurd (omega arith))
-        (λ (h : want - low < high - want). (omega arith, λ (g : y < b). absurd (omega arith)))
+        (λ (h : want - low + 1 ≤ high - want). (omega arith, λ (g : y < b). absurd (omega arith)))
         c)
         o;
   }
 
-  pub next-nearer : (high ≡ blocks → ⊥) → high - want ≤ want - low → Next want blocks low high high
+  pub next-nearer : (high ≡ blocks → ⊥) → high - want < want - low + 1 → Next want blocks low high high
   next-nearer f c = record {
     below = omega arith;
     beside = inr refl;

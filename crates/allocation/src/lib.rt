@@ -165,7 +165,7 @@ fn next(want: usize, blocks: usize, low: usize, high: usize) -> usize
     if high == blocks {
         return low - 1;
     }
-    if want - low < high - want {
+    if want - low + 1 <= high - want {
         return low - 1;
     }
     high
@@ -358,7 +358,18 @@ pub fn alloc(
     match audit::audit(info, flags, keys, counts, pointers, windows, contents) {
         Verdict::Misshapen => refuse(info, Refusal::Misshapen),
         Verdict::Unsound => refuse(info, Refusal::Unsound),
-        Verdict::Sound => alloc_sound(info, flags, keys, counts, pointers, windows, contents, port, o, places),
+        Verdict::Sound => alloc_sound(
+            info,
+            flags,
+            keys,
+            counts,
+            pointers,
+            windows,
+            contents,
+            port,
+            o,
+            places,
+        ),
     }
 }
 
@@ -385,6 +396,8 @@ pub fn create_sound(
     let second = o.second;
     let from = source as usize;
     let to = destination as usize;
+    let source_mode = Mode::Writing;
+    let destination_mode = Mode::Writing;
     if missing(info, flags, source) {
         return refuse(info, Refusal::NotAllocated);
     }
@@ -401,7 +414,7 @@ pub fn create_sound(
         keys,
         pointers,
         windows,
-        Mode::Writing,
+        source_mode,
         from,
         first,
     ) {
@@ -414,7 +427,7 @@ pub fn create_sound(
         keys,
         pointers,
         windows,
-        Mode::Writing,
+        destination_mode,
         to,
         second,
     ) {
@@ -450,7 +463,17 @@ pub fn create(
     match audit::audit(info, flags, keys, counts, pointers, windows, contents) {
         Verdict::Misshapen => refuse(info, Refusal::Misshapen),
         Verdict::Unsound => refuse(info, Refusal::Unsound),
-        Verdict::Sound => create_sound(info, flags, keys, counts, pointers, windows, contents, port, o),
+        Verdict::Sound => create_sound(
+            info,
+            flags,
+            keys,
+            counts,
+            pointers,
+            windows,
+            contents,
+            port,
+            o,
+        ),
     }
 }
 
@@ -536,6 +559,16 @@ pub fn delete(
     match audit::audit(info, flags, keys, counts, pointers, windows, contents) {
         Verdict::Misshapen => refuse(info, Refusal::Misshapen),
         Verdict::Unsound => refuse(info, Refusal::Unsound),
-        Verdict::Sound => delete_sound(info, flags, keys, counts, pointers, windows, contents, port, o),
+        Verdict::Sound => delete_sound(
+            info,
+            flags,
+            keys,
+            counts,
+            pointers,
+            windows,
+            contents,
+            port,
+            o,
+        ),
     }
 }

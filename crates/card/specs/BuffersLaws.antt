@@ -69,58 +69,59 @@ module _ (c : Card) (p : Plan) {answer : Answer} {after : Card} where
 
 -- ---- by the call
 
-module _ (port : Port) (c : Card) {answer : Answer} {after : Card} (input out places : List ℕ) where
-  pub with-read : (o : ReadOperands) {filled : List ℕ} → Is (performSound port c (request (Read o) [] out [])) answer after filled []
-      → Is (performSound port c (request (Read o) input out places)) answer after filled places
+module _ (port : Port) (c : Card) (input out places : List ℕ) (call : Call) {answer : Answer} {after : Card} where
+  pub with-read : {o : ReadOperands} {filled : List ℕ} → call ≡ Read o → Is (performSound port c (request (Read o) [] out [])) answer after filled []
+      → Is (performSound port c (request call input out places)) answer after filled places
   unfolding performSound plan readPlan
-  with-read o h = shows-block c _ _ refl input out places h
+  with-read e h = rw e (shows-block c _ _ refl input out places h)
 
-  pub with-write : (o : WriteOperands) → Is (performSound port c (request (Write o) input [] [])) answer after [] []
-      → Is (performSound port c (request (Write o) input out places)) answer after out places
+  pub with-write : {o : WriteOperands} → call ≡ Write o → Is (performSound port c (request (Write o) input [] [])) answer after [] []
+      → Is (performSound port c (request call input out places)) answer after out places
   unfolding performSound plan writePlan
-  with-write o h = shows-nothing c _ refl input input out places h
+  with-write e h = rw e (shows-nothing c _ refl input input out places h)
 
-  pub with-alloc : (o : AllocOperands) {filled : List ℕ} → Is (performSound port c (request (Alloc o) [] [] places)) answer after [] filled
-      → Is (performSound port c (request (Alloc o) input out places)) answer after out filled
+  pub with-alloc : {o : AllocOperands} {filled : List ℕ} → call ≡ Alloc o → Is (performSound port c (request (Alloc o) [] [] places)) answer after [] filled
+      → Is (performSound port c (request call input out places)) answer after out filled
   unfolding performSound plan allocPlan
-  with-alloc o h = shows-numbers c _ _ refl input out places h
+  with-alloc e h = rw e (shows-numbers c _ _ refl input out places h)
 
-  pub with-create : (o : CreateOperands) → Is (performSound port c (request (Create o) [] [] [])) answer after [] []
-      → Is (performSound port c (request (Create o) input out places)) answer after out places
+  pub with-create : {o : CreateOperands} → call ≡ Create o → Is (performSound port c (request (Create o) [] [] [])) answer after [] []
+      → Is (performSound port c (request call input out places)) answer after out places
   unfolding performSound plan createPlan
-  with-create o h = shows-nothing c _ refl [] input out places h
+  with-create e h = rw e (shows-nothing c _ refl [] input out places h)
 
-  pub with-delete : (o : DeleteOperands) → Is (performSound port c (request (Delete o) [] [] [])) answer after [] []
-      → Is (performSound port c (request (Delete o) input out places)) answer after out places
+  pub with-delete : {o : DeleteOperands} → call ≡ Delete o → Is (performSound port c (request (Delete o) [] [] [])) answer after [] []
+      → Is (performSound port c (request call input out places)) answer after out places
   unfolding performSound plan deletePlan
-  with-delete o h = shows-nothing c _ refl [] input out places h
+  with-delete e h = rw e (shows-nothing c _ refl [] input out places h)
 
-  pub with-key : (o : KeyOperands) → Is (performSound port c (request (Key o) [] [] [])) answer after [] []
-      → Is (performSound port c (request (Key o) input out places)) answer after out places
+  pub with-key : {o : KeyOperands} → call ≡ Key o → Is (performSound port c (request (Key o) [] [] [])) answer after [] []
+      → Is (performSound port c (request call input out places)) answer after out places
   unfolding performSound plan keyPlan
-  with-key o h = shows-nothing c _ refl [] input out places h
+  with-key e h = rw e (shows-nothing c _ refl [] input out places h)
 
-  pub with-renew : (o : RenewOperands) → Is (performSound port c (request (Renew o) [] [] [])) answer after [] []
-      → Is (performSound port c (request (Renew o) input out places)) answer after out places
+  pub with-renew : {o : RenewOperands} → call ≡ Renew o → Is (performSound port c (request (Renew o) [] [] [])) answer after [] []
+      → Is (performSound port c (request call input out places)) answer after out places
   unfolding performSound plan renewPlan
-  with-renew o h = shows-nothing c _ refl [] input out places h
+  with-renew e h = rw e (shows-nothing c _ refl [] input out places h)
 
-  pub with-force : (o : ForceOperands) → Is (performSound port c (request (Force o) [] [] [])) answer after [] []
-      → Is (performSound port c (request (Force o) input out places)) answer after out places
+  pub with-force : {o : ForceOperands} → call ≡ Force o → Is (performSound port c (request (Force o) [] [] [])) answer after [] []
+      → Is (performSound port c (request call input out places)) answer after out places
   unfolding performSound plan forcePlan
-  with-force o h = shows-nothing c _ refl [] input out places h
+  with-force e h = rw e (shows-nothing c _ refl [] input out places h)
 
-  pub with-free : Is (performSound port c (request Free [] [] [])) answer after [] []
-      → Is (performSound port c (request Free input out places)) answer after out places
+  pub with-free : call ≡ Free → Is (performSound port c (request Free [] [] [])) answer after [] []
+      → Is (performSound port c (request call input out places)) answer after out places
   unfolding performSound plan freePlan
-  with-free h = shows-nothing c _ refl [] input out places h
+  with-free e h = rw e (shows-nothing c _ refl [] input out places h)
 
-  pub with-tick : (o : TickOperands) → Is (performSound port c (request (Tick o) [] [] [])) answer after [] []
-      → Is (performSound port c (request (Tick o) input out places)) answer after out places
+  pub with-tick : {o : TickOperands} → call ≡ Tick o → Is (performSound port c (request (Tick o) [] [] [])) answer after [] []
+      → Is (performSound port c (request call input out places)) answer after out places
   unfolding performSound plan tickPlan
-  with-tick o h = shows-nothing c _ refl [] input out places h
+  with-tick e h = rw e (shows-nothing c _ refl [] input out places h)
 
   -- AUDIT of an audited card is done.
-  pub with-audit : answer ≡ Done → after ≡ c → Is (performSound port c (request Audit input out places)) answer after out places
+  pub with-audit : call ≡ Audit → answer ≡ Done → after ≡ c → Is (performSound port c (request call input out places)) answer after out places
   unfolding performSound plan auditPlan changes outAfter placesAfter
-  with-audit e s = is-same (done-by c (buffers input out places) auditPlan tt) (record { answers = e; leaves = s; fillsOut = refl; fillsPlaces = refl })
+  with-audit q e s =
+      rw q (is-same (done-by c (buffers input out places) auditPlan tt) (record { answers = e; leaves = s; fillsOut = refl; fillsPlaces = refl }))

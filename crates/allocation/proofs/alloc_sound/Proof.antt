@@ -1,163 +1,120 @@
+-- `allocation::alloc_sound` is the rule on an audited card, each refusal by the tests before it.
+-- Assumes nothing.
 use native.Mathlib.Omega.{arith}
 use Rattle.card.specs.Card.{card}
 use Rattle.access.specs.AccessibleLaws.{sound-accessible}
 use Rattle.allocation.proofs.Judging.{present-below, is-refusal}
 use Rattle.allocation.proofs.Allocating.{bad-operand, reference-missing, root-reference, reference-shut, too-few-blocks, too-few-places, passes, ready, took}
+use mathlib.Core.Path.{refl}
 use borrow.Author.Needs.{needs}
 use Rattle.allocation.proofs.alloc_sound.Statement.{statement}
 use Rattle.allocation.proofs.alloc_sound.Tie as tie
-use Rattle.allocation.proofs.alloc_sound.Reads as reads
-use Rattle.allocation.proofs.alloc_sound.Lts as lts
-use Rattle.access.proofs.admits.Reads as admits-reads
-use Rattle.allocation.proofs.bad_operands.Reads as bad-operands-reads
-use Rattle.allocation.proofs.missing.Reads as missing-reads
-use Rattle.allocation.proofs.refuse.Reads as refuse-reads
-use Rattle.allocation.proofs.root_at_host.Reads as root-at-host-reads
-use Rattle.allocation.proofs.take_all.Reads as take-all-reads
-use Rattle.allocation.proofs.wanted.Reads as wanted-reads
-use Rattle.tables.proofs.count_free.Reads as count-free-reads
 
--- src/lib.rt:296:16
 cast-from : tie.Need-cast-from
 cast-from c = omega arith
 
--- src/lib.rt:297:17
 cast-count : tie.Need-cast-count
 cast-count c = omega arith
 
--- src/lib.rt:298:8
 bad-operands-requires : tie.Need-bad-operands-requires
 bad-operands-requires c κs = tt
 
--- src/lib.rt:299:9
 refuse-requires : tie.Need-refuse-requires
 refuse-requires c κs = tt
 
--- src/lib.rt:299:9
 returns : tie.Need-returns
 returns c = let a = c .before .before .before .before .before .before .before .before .before .before .before .args in let k = card (a .info) (a .flags .now) (a .keys .now) (a .counts .now) (a .pointers .now) (a .windows .now) (a .contents .now) in is-refusal (a .port) k _ (bad-operand (a .port) k (a .o) (a .places .now) (c .before .before .bad-operands .ensures) (c .before .if1 .taken)) (c .refuse .ensures)
 
--- src/lib.rt:301:8
 missing-requires : tie.Need-missing-requires
 missing-requires c κs = search needs
 
--- src/lib.rt:302:9
 refuse-requires-2 : tie.Need-refuse-requires-2
 refuse-requires-2 c κs = tt
 
--- src/lib.rt:302:9
 same-length : tie.Need-same-length
-same-length c = search needs
+same-length c = refl
 
--- src/lib.rt:302:9
 returns-2 : tie.Need-returns-2
 returns-2 c = let a = c .before .before .before .before .before .before .before .before .before .before .before .before .before .before .args in let k = card (a .info) (a .flags .now) (a .keys .now) (a .counts .now) (a .pointers .now) (a .windows .now) (a .contents .now) in is-refusal (a .port) k _ (reference-missing (a .port) k (a .o) (a .places .now) (c .before .before .before .before .before .bad-operands .ensures) (c .before .before .before .before .if1 .left) (c .before .before .missing .ensures) (c .before .if2 .taken)) (c .refuse2 .ensures)
 
--- src/lib.rt:304:8
 root-at-host-requires : tie.Need-root-at-host-requires
 root-at-host-requires c κs = tt
 
--- src/lib.rt:305:9
 refuse-requires-3 : tie.Need-refuse-requires-3
 refuse-requires-3 c κs = tt
 
--- src/lib.rt:305:9
 same-length-2 : tie.Need-same-length-2
-same-length-2 c = search needs
+same-length-2 c = refl
 
--- src/lib.rt:305:9
 returns-3 : tie.Need-returns-3
 returns-3 c = let a = c .before .before .before .before .before .before .before .before .before .before .before .before .before .before .before .before .args in let k = card (a .info) (a .flags .now) (a .keys .now) (a .counts .now) (a .pointers .now) (a .windows .now) (a .contents .now) in is-refusal (a .port) k _ (root-reference (a .port) k (a .o) (a .places .now) (c .before .before .before .before .before .before .before .bad-operands .ensures) (c .before .before .before .before .before .before .if1 .left) (c .before .before .before .before .missing .ensures) (c .before .before .before .if2 .left) (c .before .before .root-at-host .ensures) (c .before .if3 .taken)) (c .refuse3 .ensures)
 
--- src/lib.rt:307:9
 admits-requires : tie.Need-admits-requires
 admits-requires c κs = let a = c .before .before .before .before .before .before .before .before .before .before .before .before .before .before .before .before .before .args in let k = card (a .info) (a .flags .now) (a .keys .now) (a .counts .now) (a .pointers .now) (a .windows .now) (a .contents .now) in sound-accessible {c = k} (c .before .before .before .before .before .before .before .before .before .before .before .before .before .before .before .before .before .pre) (present-below k _ (c .before .before .before .before .before .missing .ensures) (c .before .before .before .before .if2 .left))
 
--- src/lib.rt:308:9
 refuse-requires-4 : tie.Need-refuse-requires-4
 refuse-requires-4 c κs = tt
 
--- src/lib.rt:308:9
 same-length-3 : tie.Need-same-length-3
-same-length-3 c = search needs
+same-length-3 c = refl
 
--- src/lib.rt:308:9
 same-length-4 : tie.Need-same-length-4
-same-length-4 c = search needs
+same-length-4 c = refl
 
--- src/lib.rt:308:9
 returns-4 : tie.Need-returns-4
 returns-4 c = let a = c .before .before .before .before .before .before .before .before .before .before .before .before .before .before .before .before .before .before .before .before .args in let k = card (a .info) (a .flags .now) (a .keys .now) (a .counts .now) (a .pointers .now) (a .windows .now) (a .contents .now) in is-refusal (a .port) k _ (reference-shut (a .port) k (a .o) (a .places .now) (c .before .before .before .before .before .before .before .before .before .before .before .bad-operands .ensures) (c .before .before .before .before .before .before .before .before .before .before .if1 .left) (c .before .before .before .before .before .before .before .before .missing .ensures) (c .before .before .before .before .before .before .before .if2 .left) (c .before .before .before .before .before .before .root-at-host .ensures) (c .before .before .before .before .before .if3 .left) (c .before .before .admits .ensures) (c .before .if4 .taken)) (c .refuse4 .ensures)
 
--- src/lib.rt:310:8
 count-free-requires : tie.Need-count-free-requires
 count-free-requires c κs = tt
 
--- src/lib.rt:311:9
 refuse-requires-5 : tie.Need-refuse-requires-5
 refuse-requires-5 c κs = tt
 
--- src/lib.rt:311:9
 same-length-5 : tie.Need-same-length-5
-same-length-5 c = search needs
+same-length-5 c = refl
 
--- src/lib.rt:311:9
 same-length-6 : tie.Need-same-length-6
-same-length-6 c = search needs
+same-length-6 c = refl
 
--- src/lib.rt:311:9
 returns-5 : tie.Need-returns-5
 returns-5 c = let a = c .before .before .before .before .before .before .before .before .before .before .before .before .before .before .before .before .before .before .before .before .before .before .before .args in let k = card (a .info) (a .flags .now) (a .keys .now) (a .counts .now) (a .pointers .now) (a .windows .now) (a .contents .now) in is-refusal (a .port) k _ (too-few-blocks (a .port) k (a .o) (a .places .now) (c .before .before .before .before .before .before .before .before .before .before .before .before .before .before .bad-operands .ensures) (c .before .before .before .before .before .before .before .before .before .before .before .before .before .if1 .left) (c .before .before .before .before .before .before .before .before .before .before .before .missing .ensures) (c .before .before .before .before .before .before .before .before .before .before .if2 .left) (c .before .before .before .before .before .before .before .before .before .root-at-host .ensures) (c .before .before .before .before .before .before .before .before .if3 .left) (c .before .before .before .before .before .admits .ensures) (c .before .before .before .before .if4 .left) (c .before .before .before .before .before .before .before .before .before .before .before .before .before .before .before .before .before .before .before .before .before .before .before .pre) (c .before .before .count-free .ensures) (c .before .if5 .taken)) (c .refuse5 .ensures)
 
--- src/lib.rt:313:25
 add-if6 : tie.Need-add-if6
 add-if6 c = omega (arith, c .before .before .before .before .before .before .before .before .before .before .before .before .before .before .before .before .before .before .before .before .before .before .before .pre .shaped .usedHigh, c .before .before .before .before .before .before .before .before .before .before .before .before .before .before .before .before .before .before .before .before .before .before .before .pre .shaped .hasLengths .placesHigh)
 
--- src/lib.rt:314:9
 refuse-requires-6 : tie.Need-refuse-requires-6
 refuse-requires-6 c κs = tt
 
--- src/lib.rt:314:9
 same-length-7 : tie.Need-same-length-7
-same-length-7 c = search needs
+same-length-7 c = refl
 
--- src/lib.rt:314:9
 same-length-8 : tie.Need-same-length-8
-same-length-8 c = search needs
+same-length-8 c = refl
 
--- src/lib.rt:314:9
 returns-6 : tie.Need-returns-6
 returns-6 c = let a = c .before .before .before .before .before .before .before .before .before .before .before .before .before .before .before .before .before .before .before .before .before .before .before .before .before .args in let k = card (a .info) (a .flags .now) (a .keys .now) (a .counts .now) (a .pointers .now) (a .windows .now) (a .contents .now) in is-refusal (a .port) k _ (too-few-places (a .port) k (a .o) (a .places .now) (c .before .before .before .before .before .before .before .before .before .before .before .before .before .before .before .before .bad-operands .ensures) (c .before .before .before .before .before .before .before .before .before .before .before .before .before .before .before .if1 .left) (c .before .before .before .before .before .before .before .before .before .before .before .before .before .missing .ensures) (c .before .before .before .before .before .before .before .before .before .before .before .before .if2 .left) (c .before .before .before .before .before .before .before .before .before .before .before .root-at-host .ensures) (c .before .before .before .before .before .before .before .before .before .before .if3 .left) (c .before .before .before .before .before .before .before .admits .ensures) (c .before .before .before .before .before .before .if4 .left) (c .before .before .before .before .before .before .before .before .before .before .before .before .before .before .before .before .before .before .before .before .before .before .before .before .before .pre) (c .before .before .before .before .count-free .ensures) (c .before .before .before .if5 .left) (c .before .if6 .taken)) (c .refuse6 .ensures)
 
--- src/lib.rt:316:9
 wanted-requires : tie.Need-wanted-requires
 wanted-requires c κs = tt
 
--- src/lib.rt:317:9
 take-all-requires : tie.Need-take-all-requires
 take-all-requires c κs = let a = c .before .before .before .before .before .before .before .before .before .before .before .before .before .before .before .before .before .before .before .before .before .before .before .before .before .before .before .before .before .before .args in let k = card (a .info) (a .flags .now) (a .keys .now) (a .counts .now) (a .pointers .now) (a .windows .now) (a .contents .now) in ready (a .port) k (a .o) (a .places .now) (c .before .before .before .before .before .before .before .before .before .before .before .before .before .before .before .before .before .before .before .before .before .before .before .before .before .before .before .before .before .before .pre) (passes (a .port) k (a .o) (a .places .now) (c .before .before .before .before .before .before .before .before .before .before .before .before .before .before .before .before .before .before .before .before .before .bad-operands .ensures) (c .before .before .before .before .before .before .before .before .before .before .before .before .before .before .before .before .before .before .before .before .if1 .left) (c .before .before .before .before .before .before .before .before .before .before .before .before .before .before .before .before .before .before .missing .ensures) (c .before .before .before .before .before .before .before .before .before .before .before .before .before .before .before .before .before .if2 .left) (c .before .before .before .before .before .before .before .before .before .before .before .before .before .before .before .before .root-at-host .ensures) (c .before .before .before .before .before .before .before .before .before .before .before .before .before .before .before .if3 .left) (c .before .before .before .before .before .before .before .before .before .before .before .before .admits .ensures) (c .before .before .before .before .before .before .before .before .before .before .before .if4 .left) (c .before .before .before .before .before .before .before .before .before .before .before .before .before .before .before .before .before .before .before .before .before .before .before .before .before .before .before .before .before .before .pre) (c .before .before .before .before .before .before .before .before .before .count-free .ensures) (c .before .before .before .before .before .before .before .before .if5 .left) (c .before .before .before .before .before .before .if6 .left)) (c .before .before .before .before .before .wanted .ensures)
 
--- src/lib.rt:279:1
 same-length-9 : tie.Need-same-length-9
 same-length-9 c = search needs
 
--- src/lib.rt:279:1
 same-length-10 : tie.Need-same-length-10
 same-length-10 c = search needs
 
--- src/lib.rt:279:1
 same-length-11 : tie.Need-same-length-11
 same-length-11 c = search needs
 
--- src/lib.rt:279:1
 same-length-12 : tie.Need-same-length-12
 same-length-12 c = search needs
 
--- src/lib.rt:279:1
 same-length-13 : tie.Need-same-length-13
 same-length-13 c = search needs
 
--- src/lib.rt:279:1
 returns-7 : tie.Need-returns-7
 returns-7 c = let a = c .before .before .before .before .before .before .before .before .before .before .before .before .before .before .before .before .before .before .before .before .before .before .before .before .before .before .before .before .before .before .before .before .before .before .before .before .before .before .before .before .before .args in let k = card (a .info) (a .flags .now) (a .keys .now) (a .counts .now) (a .pointers .now) (a .windows .now) (a .contents .now) in took (a .port) k (a .o) (a .places .now) (passes (a .port) k (a .o) (a .places .now) (c .before .before .before .before .before .before .before .before .before .before .before .before .before .before .before .before .before .before .before .before .before .before .before .before .before .before .before .before .before .before .before .before .bad-operands .ensures) (c .before .before .before .before .before .before .before .before .before .before .before .before .before .before .before .before .before .before .before .before .before .before .before .before .before .before .before .before .before .before .before .if1 .left) (c .before .before .before .before .before .before .before .before .before .before .before .before .before .before .before .before .before .before .before .before .before .before .before .before .before .before .before .before .before .missing .ensures) (c .before .before .before .before .before .before .before .before .before .before .before .before .before .before .before .before .before .before .before .before .before .before .before .before .before .before .before .before .if2 .left) (c .before .before .before .before .before .before .before .before .before .before .before .before .before .before .before .before .before .before .before .before .before .before .before .before .before .before .before .root-at-host .ensures) (c .before .before .before .before .before .before .before .before .before .before .before .before .before .before .before .before .before .before .before .before .before .before .before .before .before .before .if3 .left) (c .before .before .before .before .before .before .before .before .before .before .before .before .before .before .before .before .before .before .before .before .before .before .before .admits .ensures) (c .before .before .before .before .before .before .before .before .before .before .before .before .before .before .before .before .before .before .before .before .before .before .if4 .left) (c .before .before .before .before .before .before .before .before .before .before .before .before .before .before .before .before .before .before .before .before .before .before .before .before .before .before .before .before .before .before .before .before .before .before .before .before .before .before .before .before .before .pre) (c .before .before .before .before .before .before .before .before .before .before .before .before .before .before .before .before .before .before .before .before .count-free .ensures) (c .before .before .before .before .before .before .before .before .before .before .before .before .before .before .before .before .before .before .before .if5 .left) (c .before .before .before .before .before .before .before .before .before .before .before .before .before .before .before .before .before .if6 .left)) (c .before .before .before .before .before .before .before .before .before .before .before .before .before .before .before .before .wanted .ensures) (c .before .before .before .before .before .before .before .before .before .before .take-all .ensures)
 

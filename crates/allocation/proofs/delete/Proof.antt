@@ -1,111 +1,84 @@
+-- `allocation::delete` is the rule, by the verdict of the audit.
+-- Assumes nothing.
 use Rattle.card.specs.Card.{card}
 use Rattle.allocation.proofs.Judging.{misshapen, unsound, audited, audited-card}
+use mathlib.Core.Path.{refl}
 use borrow.Author.Needs.{needs}
 use Rattle.allocation.proofs.delete.Statement.{statement}
 use Rattle.allocation.proofs.delete.Tie as tie
-use Rattle.allocation.proofs.delete.Reads as reads
-use Rattle.allocation.proofs.delete.Lts as lts
-use Rattle.allocation.proofs.delete_sound.Reads as delete-sound-reads
-use Rattle.allocation.proofs.refuse.Reads as refuse-reads
-use Rattle.audit.proofs.audit.Reads as audit-reads
 
--- src/lib.rt:499:11
 audit-requires : tie.Need-audit-requires
 audit-requires c κs = tt
 
--- src/lib.rt:500:44
 enum-told : tie.Need-enum-told
 enum-told c = search needs
 
--- src/lib.rt:500:31
 refuse-requires : tie.Need-refuse-requires
 refuse-requires c κs = tt
 
--- src/lib.rt:501:42
 enum-told-2 : tie.Need-enum-told-2
 enum-told-2 c = search needs
 
--- src/lib.rt:501:29
 refuse-requires-2 : tie.Need-refuse-requires-2
 refuse-requires-2 c κs = tt
 
--- src/lib.rt:502:46
 enum-told-3 : tie.Need-enum-told-3
 enum-told-3 c = search needs
 
--- src/lib.rt:502:27
 delete-sound-requires : tie.Need-delete-sound-requires
 delete-sound-requires c κs = let a = c .before .before .before .before .before .before .before .before .before .before .before .before .before .before .before .before .before .before .before .args in let k = card (a .info) (a .flags .now) (a .keys .now) (a .counts .now) (a .pointers .now) (a .windows .now) (a .contents .now) in audited-card k (c .before .before .before .before .before .before .before .audit .ensures) (c .before .before .before .before .before .enum-told3 .given .1)
 
--- src/lib.rt:486:1
 same-length : tie.Need-same-length
-same-length c = search needs
+same-length c = refl
 
--- src/lib.rt:486:1
 same-length-2 : tie.Need-same-length-2
-same-length-2 c = search needs
+same-length-2 c = refl
 
--- src/lib.rt:486:1
 same-length-3 : tie.Need-same-length-3
-same-length-3 c = search needs
+same-length-3 c = refl
 
--- src/lib.rt:486:1
 same-length-4 : tie.Need-same-length-4
-same-length-4 c = search needs
+same-length-4 c = refl
 
--- src/lib.rt:486:1
 same-length-5 : tie.Need-same-length-5
-same-length-5 c = search needs
+same-length-5 c = refl
 
--- src/lib.rt:486:1
 returns : tie.Need-returns
 returns c = let a = c .before .before .before .before .before .before .before .before .before .before .before .before .before .before .before .args in let k = card (a .info) (a .flags .now) (a .keys .now) (a .counts .now) (a .pointers .now) (a .windows .now) (a .contents .now) in misshapen (a .port) k _ (c .before .before .before .audit .ensures) (c .before .enum-told .given .1) (c .refuse .ensures)
 
--- src/lib.rt:486:1
 same-length-6 : tie.Need-same-length-6
-same-length-6 c = search needs
+same-length-6 c = refl
 
--- src/lib.rt:486:1
 same-length-7 : tie.Need-same-length-7
-same-length-7 c = search needs
+same-length-7 c = refl
 
--- src/lib.rt:486:1
 same-length-8 : tie.Need-same-length-8
-same-length-8 c = search needs
+same-length-8 c = refl
 
--- src/lib.rt:486:1
 same-length-9 : tie.Need-same-length-9
-same-length-9 c = search needs
+same-length-9 c = refl
 
--- src/lib.rt:486:1
 same-length-10 : tie.Need-same-length-10
-same-length-10 c = search needs
+same-length-10 c = refl
 
--- src/lib.rt:486:1
 returns-2 : tie.Need-returns-2
 returns-2 c = let a = c .before .before .before .before .before .before .before .before .before .before .before .before .before .before .before .args in let k = card (a .info) (a .flags .now) (a .keys .now) (a .counts .now) (a .pointers .now) (a .windows .now) (a .contents .now) in unsound (a .port) k _ (c .before .before .before .audit .ensures) (c .before .enum-told2 .given .1) (c .refuse2 .ensures)
 
--- src/lib.rt:486:1
 same-length-11 : tie.Need-same-length-11
 same-length-11 c = search needs
 
--- src/lib.rt:486:1
 same-length-12 : tie.Need-same-length-12
 same-length-12 c = search needs
 
--- src/lib.rt:486:1
 same-length-13 : tie.Need-same-length-13
 same-length-13 c = search needs
 
--- src/lib.rt:486:1
 same-length-14 : tie.Need-same-length-14
 same-length-14 c = search needs
 
--- src/lib.rt:486:1
 same-length-15 : tie.Need-same-length-15
 same-length-15 c = search needs
 
--- src/lib.rt:486:1
 returns-3 : tie.Need-returns-3
 returns-3 c = let a = c .before .before .before .before .before .before .before .before .before .before .before .before .before .before .before .before .before .before .before .before .before .before .before .before .before .before .before .before .before .before .args in let k = card (a .info) (a .flags .now) (a .keys .now) (a .counts .now) (a .pointers .now) (a .windows .now) (a .contents .now) in audited (a .port) k _ (c .before .before .before .before .before .before .before .before .before .before .before .before .before .before .before .before .before .before .audit .ensures) (c .before .before .before .before .before .before .before .before .before .before .before .before .before .before .before .before .enum-told3 .given .1) (c .before .before .before .before .before .before .before .before .before .before .delete-sound .ensures)
 

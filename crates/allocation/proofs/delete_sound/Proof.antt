@@ -1,228 +1,169 @@
+-- `allocation::delete_sound` is the rule on an audited card, each refusal by the tests before it.
+-- Assumes nothing.
 use native.Mathlib.Omega.{arith}
 use Rattle.card.specs.Card.{card}
 use Rattle.tables.specs.InUseLaws.{sound-sorted}
 use Rattle.access.specs.AccessibleLaws.{sound-accessible}
 use Rattle.allocation.proofs.Judging.{present-below, is-refusal}
 use Rattle.allocation.proofs.Deleting.{source-missing, destination-missing, root-source, source-shut, no-pointer, has-pointers, passes-more, passes-last, droppable, freeable, deleted-more, deleted-last}
+use mathlib.Core.Path.{refl}
 use borrow.Author.Needs.{needs}
 use Rattle.allocation.proofs.delete_sound.Statement.{statement}
 use Rattle.allocation.proofs.delete_sound.Tie as tie
-use Rattle.allocation.proofs.delete_sound.Reads as reads
-use Rattle.allocation.proofs.delete_sound.Lts as lts
-use Rattle.access.proofs.admits.Reads as admits-reads
-use Rattle.allocation.proofs.drop_pointer.Reads as drop-pointer-reads
-use Rattle.allocation.proofs.free_block.Reads as free-block-reads
-use Rattle.allocation.proofs.missing.Reads as missing-reads
-use Rattle.allocation.proofs.points_to.Reads as points-to-reads
-use Rattle.allocation.proofs.refuse.Reads as refuse-reads
-use Rattle.allocation.proofs.root_at_host.Reads as root-at-host-reads
-use Rattle.tables.proofs.points_from.Reads as points-from-reads
 
--- src/lib.rt:224:16
 cast-from : tie.Need-cast-from
 cast-from c = omega arith
 
--- src/lib.rt:225:14
 cast-to : tie.Need-cast-to
 cast-to c = omega arith
 
--- src/lib.rt:226:8
 missing-requires : tie.Need-missing-requires
 missing-requires c κs = c .before .before .before .before .before .before .before .pre .shaped .hasLengths .flags
 
--- src/lib.rt:227:9
 refuse-requires : tie.Need-refuse-requires
 refuse-requires c κs = tt
 
--- src/lib.rt:227:9
 same-length : tie.Need-same-length
-same-length c = search needs
+same-length c = refl
 
--- src/lib.rt:227:9
 returns : tie.Need-returns
 returns c = let a = c .before .before .before .before .before .before .before .before .before .before .args in let k = card (a .info) (a .flags .now) (a .keys .now) (a .counts .now) (a .pointers .now) (a .windows .now) (a .contents .now) in is-refusal (a .port) k _ (source-missing (a .port) k (a .o) (c .before .before .missing .ensures) (c .before .if1 .taken)) (c .refuse .ensures)
 
--- src/lib.rt:229:8
 missing-requires-2 : tie.Need-missing-requires-2
 missing-requires-2 c κs = c .before .before .before .before .before .before .before .before .before .before .pre .shaped .hasLengths .flags
 
--- src/lib.rt:230:9
 refuse-requires-2 : tie.Need-refuse-requires-2
 refuse-requires-2 c κs = tt
 
--- src/lib.rt:230:9
 same-length-2 : tie.Need-same-length-2
-same-length-2 c = search needs
+same-length-2 c = refl
 
--- src/lib.rt:230:9
 returns-2 : tie.Need-returns-2
 returns-2 c = let a = c .before .before .before .before .before .before .before .before .before .before .before .before .before .args in let k = card (a .info) (a .flags .now) (a .keys .now) (a .counts .now) (a .pointers .now) (a .windows .now) (a .contents .now) in is-refusal (a .port) k _ (destination-missing (a .port) k (a .o) (c .before .before .before .before .before .missing .ensures) (c .before .before .before .before .if1 .left) (c .before .before .missing2 .ensures) (c .before .if2 .taken)) (c .refuse2 .ensures)
 
--- src/lib.rt:232:8
 root-at-host-requires : tie.Need-root-at-host-requires
 root-at-host-requires c κs = tt
 
--- src/lib.rt:233:9
 refuse-requires-3 : tie.Need-refuse-requires-3
 refuse-requires-3 c κs = tt
 
--- src/lib.rt:233:9
 same-length-3 : tie.Need-same-length-3
-same-length-3 c = search needs
+same-length-3 c = refl
 
--- src/lib.rt:233:9
 returns-3 : tie.Need-returns-3
 returns-3 c = let a = c .before .before .before .before .before .before .before .before .before .before .before .before .before .before .before .args in let k = card (a .info) (a .flags .now) (a .keys .now) (a .counts .now) (a .pointers .now) (a .windows .now) (a .contents .now) in is-refusal (a .port) k _ (root-source (a .port) k (a .o) (c .before .before .before .before .before .before .before .missing .ensures) (c .before .before .before .before .before .before .if1 .left) (c .before .before .before .before .missing2 .ensures) (c .before .before .before .if2 .left) (c .before .before .root-at-host .ensures) (c .before .if3 .taken)) (c .refuse3 .ensures)
 
--- src/lib.rt:235:9
 admits-requires : tie.Need-admits-requires
 admits-requires c κs = let a = c .before .before .before .before .before .before .before .before .before .before .before .before .before .before .before .before .before .before .args in let k = card (a .info) (a .flags .now) (a .keys .now) (a .counts .now) (a .pointers .now) (a .windows .now) (a .contents .now) in sound-accessible {c = k} (c .before .before .before .before .before .before .before .before .before .before .before .before .before .before .before .before .before .before .pre) (present-below k _ (c .before .before .before .before .before .before .before .before .before .before .missing .ensures) (c .before .before .before .before .before .before .before .before .before .if1 .left))
 
--- src/lib.rt:236:9
 refuse-requires-4 : tie.Need-refuse-requires-4
 refuse-requires-4 c κs = tt
 
--- src/lib.rt:236:9
 same-length-4 : tie.Need-same-length-4
-same-length-4 c = search needs
+same-length-4 c = refl
 
--- src/lib.rt:236:9
 same-length-5 : tie.Need-same-length-5
-same-length-5 c = search needs
+same-length-5 c = refl
 
--- src/lib.rt:236:9
 same-length-6 : tie.Need-same-length-6
-same-length-6 c = search needs
+same-length-6 c = refl
 
--- src/lib.rt:236:9
 same-length-7 : tie.Need-same-length-7
-same-length-7 c = search needs
+same-length-7 c = refl
 
--- src/lib.rt:236:9
 returns-4 : tie.Need-returns-4
 returns-4 c = let a = c .before .before .before .before .before .before .before .before .before .before .before .before .before .before .before .before .before .before .before .before .before .args in let k = card (a .info) (a .flags .now) (a .keys .now) (a .counts .now) (a .pointers .now) (a .windows .now) (a .contents .now) in is-refusal (a .port) k _ (source-shut (a .port) k (a .o) (c .before .before .before .before .before .before .before .before .before .before .before .before .before .missing .ensures) (c .before .before .before .before .before .before .before .before .before .before .before .before .if1 .left) (c .before .before .before .before .before .before .before .before .before .before .missing2 .ensures) (c .before .before .before .before .before .before .before .before .before .if2 .left) (c .before .before .before .before .before .before .before .before .root-at-host .ensures) (c .before .before .before .before .before .before .before .if3 .left) (c .before .before .admits .ensures) (c .before .if4 .taken)) (c .refuse4 .ensures)
 
--- src/lib.rt:238:9
 points-to-requires : tie.Need-points-to-requires
 points-to-requires c κs = let a = c .before .before .before .before .before .before .before .before .before .before .before .before .before .before .before .before .before .before .before .before .before .args in let k = card (a .info) (a .flags .now) (a .keys .now) (a .counts .now) (a .pointers .now) (a .windows .now) (a .contents .now) in sound-sorted {c = k} (c .before .before .before .before .before .before .before .before .before .before .before .before .before .before .before .before .before .before .before .before .before .pre)
 
--- src/lib.rt:239:9
 refuse-requires-5 : tie.Need-refuse-requires-5
 refuse-requires-5 c κs = tt
 
--- src/lib.rt:239:9
 same-length-8 : tie.Need-same-length-8
-same-length-8 c = search needs
+same-length-8 c = refl
 
--- src/lib.rt:239:9
 same-length-9 : tie.Need-same-length-9
-same-length-9 c = search needs
+same-length-9 c = refl
 
--- src/lib.rt:239:9
 same-length-10 : tie.Need-same-length-10
-same-length-10 c = search needs
+same-length-10 c = refl
 
--- src/lib.rt:239:9
 same-length-11 : tie.Need-same-length-11
-same-length-11 c = search needs
+same-length-11 c = refl
 
--- src/lib.rt:239:9
 returns-5 : tie.Need-returns-5
 returns-5 c = let a = c .before .before .before .before .before .before .before .before .before .before .before .before .before .before .before .before .before .before .before .before .before .before .before .before .args in let k = card (a .info) (a .flags .now) (a .keys .now) (a .counts .now) (a .pointers .now) (a .windows .now) (a .contents .now) in is-refusal (a .port) k _ (no-pointer (a .port) k (a .o) (c .before .before .before .before .before .before .before .before .before .before .before .before .before .before .before .before .missing .ensures) (c .before .before .before .before .before .before .before .before .before .before .before .before .before .before .before .if1 .left) (c .before .before .before .before .before .before .before .before .before .before .before .before .before .missing2 .ensures) (c .before .before .before .before .before .before .before .before .before .before .before .before .if2 .left) (c .before .before .before .before .before .before .before .before .before .before .before .root-at-host .ensures) (c .before .before .before .before .before .before .before .before .before .before .if3 .left) (c .before .before .before .before .before .admits .ensures) (c .before .before .before .before .if4 .left) (c .before .before .points-to .ensures) (c .before .if5 .taken)) (c .refuse5 .ensures)
 
--- src/lib.rt:241:8
 mul-if6 : tie.Need-mul-if6
 mul-if6 c = let a = c .before .before .before .before .before .before .before .before .before .before .before .before .before .before .before .before .before .before .before .before .before .before .before .args in let k = card (a .info) (a .flags .now) (a .keys .now) (a .counts .now) (a .pointers .now) (a .windows .now) (a .contents .now) in omega (arith, present-below k _ (c .before .before .before .before .before .before .before .before .before .before .before .before .missing2 .ensures) (c .before .before .before .before .before .before .before .before .before .before .before .if2 .left), c .before .before .before .before .before .before .before .before .before .before .before .before .before .before .before .before .before .before .before .before .before .before .before .pre .shaped .inRanges .blocksHigh)
 
--- src/lib.rt:241:8
 slice-read-if6 : tie.Need-slice-read-if6
 slice-read-if6 c = let a = c .before .before .before .before .before .before .before .before .before .before .before .before .before .before .before .before .before .before .before .before .before .before .before .before .args in let k = card (a .info) (a .flags .now) (a .keys .now) (a .counts .now) (a .pointers .now) (a .windows .now) (a .contents .now) in omega (arith, present-below k _ (c .before .before .before .before .before .before .before .before .before .before .before .before .before .missing2 .ensures) (c .before .before .before .before .before .before .before .before .before .before .before .before .if2 .left), c .before .before .before .before .before .before .before .before .before .before .before .before .before .before .before .before .before .before .before .before .before .before .before .before .pre .shaped .hasLengths .counts)
 
--- src/lib.rt:242:13
 drop-pointer-requires : tie.Need-drop-pointer-requires
 drop-pointer-requires c κs = let a = c .before .before .before .before .before .before .before .before .before .before .before .before .before .before .before .before .before .before .before .before .before .before .before .before .before .before .before .args in let k = card (a .info) (a .flags .now) (a .keys .now) (a .counts .now) (a .pointers .now) (a .windows .now) (a .contents .now) in droppable (a .port) k (a .o) (c .before .before .before .before .before .before .before .before .before .before .before .before .before .before .before .before .before .before .before .before .before .before .before .before .before .before .before .pre) (passes-more (a .port) k (a .o) (c .before .before .before .before .before .before .before .before .before .before .before .before .before .before .before .before .before .before .before .missing .ensures) (c .before .before .before .before .before .before .before .before .before .before .before .before .before .before .before .before .before .before .if1 .left) (c .before .before .before .before .before .before .before .before .before .before .before .before .before .before .before .before .missing2 .ensures) (c .before .before .before .before .before .before .before .before .before .before .before .before .before .before .before .if2 .left) (c .before .before .before .before .before .before .before .before .before .before .before .before .before .before .root-at-host .ensures) (c .before .before .before .before .before .before .before .before .before .before .before .before .before .if3 .left) (c .before .before .before .before .before .before .before .before .admits .ensures) (c .before .before .before .before .before .before .before .if4 .left) (c .before .before .before .before .before .points-to .ensures) (c .before .before .before .before .if5 .left) (c .before .before .if6 .taken))
 
--- src/lib.rt:243:9
 same-length-12 : tie.Need-same-length-12
 same-length-12 c = search needs
 
--- src/lib.rt:243:9
 same-length-13 : tie.Need-same-length-13
 same-length-13 c = search needs
 
--- src/lib.rt:243:9
 same-length-14 : tie.Need-same-length-14
 same-length-14 c = search needs
 
--- src/lib.rt:243:9
 same-length-15 : tie.Need-same-length-15
 same-length-15 c = search needs
 
--- src/lib.rt:243:9
 same-length-16 : tie.Need-same-length-16
 same-length-16 c = search needs
 
--- src/lib.rt:243:9
 returns-6 : tie.Need-returns-6
 returns-6 c = let a = c .before .before .before .before .before .before .before .before .before .before .before .before .before .before .before .before .before .before .before .before .before .before .before .before .before .before .before .before .before .before .before .before .args in let k = card (a .info) (a .flags .now) (a .keys .now) (a .counts .now) (a .pointers .now) (a .windows .now) (a .contents .now) in deleted-more (a .port) k (a .o) (passes-more (a .port) k (a .o) (c .before .before .before .before .before .before .before .before .before .before .before .before .before .before .before .before .before .before .before .before .before .before .before .before .missing .ensures) (c .before .before .before .before .before .before .before .before .before .before .before .before .before .before .before .before .before .before .before .before .before .before .before .if1 .left) (c .before .before .before .before .before .before .before .before .before .before .before .before .before .before .before .before .before .before .before .before .before .missing2 .ensures) (c .before .before .before .before .before .before .before .before .before .before .before .before .before .before .before .before .before .before .before .before .if2 .left) (c .before .before .before .before .before .before .before .before .before .before .before .before .before .before .before .before .before .before .before .root-at-host .ensures) (c .before .before .before .before .before .before .before .before .before .before .before .before .before .before .before .before .before .before .if3 .left) (c .before .before .before .before .before .before .before .before .before .before .before .before .before .admits .ensures) (c .before .before .before .before .before .before .before .before .before .before .before .before .if4 .left) (c .before .before .before .before .before .before .before .before .before .before .points-to .ensures) (c .before .before .before .before .before .before .before .before .before .if5 .left) (c .before .before .before .before .before .before .before .if6 .taken)) (c .before .before .before .before .before .before .before .if6 .taken) (c .before .before .before .before .drop-pointer .ensures _ _ _ _)
 
--- src/lib.rt:248:8
 points-from-requires : tie.Need-points-from-requires
 points-from-requires c κs = let a = c .before .before .before .before .before .before .before .before .before .before .before .before .before .before .before .before .before .before .before .before .before .before .before .before .before .before .args in let k = card (a .info) (a .flags .now) (a .keys .now) (a .counts .now) (a .pointers .now) (a .windows .now) (a .contents .now) in sound-sorted {c = k} (c .before .before .before .before .before .before .before .before .before .before .before .before .before .before .before .before .before .before .before .before .before .before .before .before .before .before .pre)
 
--- src/lib.rt:249:9
 refuse-requires-6 : tie.Need-refuse-requires-6
 refuse-requires-6 c κs = tt
 
--- src/lib.rt:249:9
 same-length-17 : tie.Need-same-length-17
-same-length-17 c = search needs
+same-length-17 c = refl
 
--- src/lib.rt:249:9
 same-length-18 : tie.Need-same-length-18
-same-length-18 c = search needs
+same-length-18 c = refl
 
--- src/lib.rt:249:9
 same-length-19 : tie.Need-same-length-19
-same-length-19 c = search needs
+same-length-19 c = refl
 
--- src/lib.rt:249:9
 same-length-20 : tie.Need-same-length-20
-same-length-20 c = search needs
+same-length-20 c = refl
 
--- src/lib.rt:249:9
 returns-7 : tie.Need-returns-7
 returns-7 c = let a = c .before .before .before .before .before .before .before .before .before .before .before .before .before .before .before .before .before .before .before .before .before .before .before .before .before .before .before .before .before .args in let k = card (a .info) (a .flags .now) (a .keys .now) (a .counts .now) (a .pointers .now) (a .windows .now) (a .contents .now) in is-refusal (a .port) k _ (has-pointers (a .port) k (a .o) (c .before .before .before .before .before .before .before .before .before .before .before .before .before .before .before .before .before .before .before .before .before .missing .ensures) (c .before .before .before .before .before .before .before .before .before .before .before .before .before .before .before .before .before .before .before .before .if1 .left) (c .before .before .before .before .before .before .before .before .before .before .before .before .before .before .before .before .before .before .missing2 .ensures) (c .before .before .before .before .before .before .before .before .before .before .before .before .before .before .before .before .before .if2 .left) (c .before .before .before .before .before .before .before .before .before .before .before .before .before .before .before .before .root-at-host .ensures) (c .before .before .before .before .before .before .before .before .before .before .before .before .before .before .before .if3 .left) (c .before .before .before .before .before .before .before .before .before .before .admits .ensures) (c .before .before .before .before .before .before .before .before .before .if4 .left) (c .before .before .before .before .before .before .before .points-to .ensures) (c .before .before .before .before .before .before .if5 .left) (c .before .before .before .before .if6 .left) (c .before .before .points-from .ensures) (c .before .if7 .taken)) (c .refuse6 .ensures)
 
--- src/lib.rt:251:9
 drop-pointer-requires-2 : tie.Need-drop-pointer-requires-2
 drop-pointer-requires-2 c κs = let a = c .before .before .before .before .before .before .before .before .before .before .before .before .before .before .before .before .before .before .before .before .before .before .before .before .before .before .before .before .before .before .args in let k = card (a .info) (a .flags .now) (a .keys .now) (a .counts .now) (a .pointers .now) (a .windows .now) (a .contents .now) in droppable (a .port) k (a .o) (c .before .before .before .before .before .before .before .before .before .before .before .before .before .before .before .before .before .before .before .before .before .before .before .before .before .before .before .before .before .before .pre) (passes-last (a .port) k (a .o) (c .before .before .before .before .before .before .before .before .before .before .before .before .before .before .before .before .before .before .before .before .before .before .missing .ensures) (c .before .before .before .before .before .before .before .before .before .before .before .before .before .before .before .before .before .before .before .before .before .if1 .left) (c .before .before .before .before .before .before .before .before .before .before .before .before .before .before .before .before .before .before .before .missing2 .ensures) (c .before .before .before .before .before .before .before .before .before .before .before .before .before .before .before .before .before .before .if2 .left) (c .before .before .before .before .before .before .before .before .before .before .before .before .before .before .before .before .before .root-at-host .ensures) (c .before .before .before .before .before .before .before .before .before .before .before .before .before .before .before .before .if3 .left) (c .before .before .before .before .before .before .before .before .before .before .before .admits .ensures) (c .before .before .before .before .before .before .before .before .before .before .if4 .left) (c .before .before .before .before .before .before .before .before .points-to .ensures) (c .before .before .before .before .before .before .before .if5 .left) (c .before .before .before .before .before .if6 .left) (c .before .before .before .points-from .ensures) (c .before .before .if7 .left))
 
--- src/lib.rt:252:5
 free-block-requires : tie.Need-free-block-requires
 free-block-requires c κs = let a = c .before .before .before .before .before .before .before .before .before .before .before .before .before .before .before .before .before .before .before .before .before .before .before .before .before .before .before .before .before .before .before .before .before .before .before .before .before .before .args in let k = card (a .info) (a .flags .now) (a .keys .now) (a .counts .now) (a .pointers .now) (a .windows .now) (a .contents .now) in freeable (a .port) k (a .o) (c .before .before .before .before .before .before .before .before .before .before .before .before .before .before .before .before .before .before .before .before .before .before .before .before .before .before .before .before .before .before .before .before .before .before .before .before .before .before .pre) (passes-last (a .port) k (a .o) (c .before .before .before .before .before .before .before .before .before .before .before .before .before .before .before .before .before .before .before .before .before .before .before .before .before .before .before .before .before .before .missing .ensures) (c .before .before .before .before .before .before .before .before .before .before .before .before .before .before .before .before .before .before .before .before .before .before .before .before .before .before .before .before .before .if1 .left) (c .before .before .before .before .before .before .before .before .before .before .before .before .before .before .before .before .before .before .before .before .before .before .before .before .before .before .before .missing2 .ensures) (c .before .before .before .before .before .before .before .before .before .before .before .before .before .before .before .before .before .before .before .before .before .before .before .before .before .before .if2 .left) (c .before .before .before .before .before .before .before .before .before .before .before .before .before .before .before .before .before .before .before .before .before .before .before .before .before .root-at-host .ensures) (c .before .before .before .before .before .before .before .before .before .before .before .before .before .before .before .before .before .before .before .before .before .before .before .before .if3 .left) (c .before .before .before .before .before .before .before .before .before .before .before .before .before .before .before .before .before .before .before .admits .ensures) (c .before .before .before .before .before .before .before .before .before .before .before .before .before .before .before .before .before .before .if4 .left) (c .before .before .before .before .before .before .before .before .before .before .before .before .before .before .before .before .points-to .ensures) (c .before .before .before .before .before .before .before .before .before .before .before .before .before .before .before .if5 .left) (c .before .before .before .before .before .before .before .before .before .before .before .before .before .if6 .left) (c .before .before .before .before .before .before .before .before .before .before .before .points-from .ensures) (c .before .before .before .before .before .before .before .before .before .before .if7 .left))
 
--- src/lib.rt:207:1
 same-length-21 : tie.Need-same-length-21
 same-length-21 c = search needs
 
--- src/lib.rt:207:1
 same-length-22 : tie.Need-same-length-22
 same-length-22 c = search needs
 
--- src/lib.rt:207:1
 same-length-23 : tie.Need-same-length-23
 same-length-23 c = search needs
 
--- src/lib.rt:207:1
 same-length-24 : tie.Need-same-length-24
 same-length-24 c = search needs
 
--- src/lib.rt:207:1
 same-length-25 : tie.Need-same-length-25
 same-length-25 c = search needs
 
--- src/lib.rt:207:1
 returns-8 : tie.Need-returns-8
 returns-8 c = let a = c .before .before .before .before .before .before .before .before .before .before .before .before .before .before .before .before .before .before .before .before .before .before .before .before .before .before .before .before .before .before .before .before .before .before .before .before .before .before .before .before .before .before .before .before .before .args in let k = card (a .info) (a .flags .now) (a .keys .now) (a .counts .now) (a .pointers .now) (a .windows .now) (a .contents .now) in deleted-last (a .port) k (a .o) (passes-last (a .port) k (a .o) (c .before .before .before .before .before .before .before .before .before .before .before .before .before .before .before .before .before .before .before .before .before .before .before .before .before .before .before .before .before .before .before .before .before .before .before .before .before .missing .ensures) (c .before .before .before .before .before .before .before .before .before .before .before .before .before .before .before .before .before .before .before .before .before .before .before .before .before .before .before .before .before .before .before .before .before .before .before .before .if1 .left) (c .before .before .before .before .before .before .before .before .before .before .before .before .before .before .before .before .before .before .before .before .before .before .before .before .before .before .before .before .before .before .before .before .before .before .missing2 .ensures) (c .before .before .before .before .before .before .before .before .before .before .before .before .before .before .before .before .before .before .before .before .before .before .before .before .before .before .before .before .before .before .before .before .before .if2 .left) (c .before .before .before .before .before .before .before .before .before .before .before .before .before .before .before .before .before .before .before .before .before .before .before .before .before .before .before .before .before .before .before .before .root-at-host .ensures) (c .before .before .before .before .before .before .before .before .before .before .before .before .before .before .before .before .before .before .before .before .before .before .before .before .before .before .before .before .before .before .before .if3 .left) (c .before .before .before .before .before .before .before .before .before .before .before .before .before .before .before .before .before .before .before .before .before .before .before .before .before .before .admits .ensures) (c .before .before .before .before .before .before .before .before .before .before .before .before .before .before .before .before .before .before .before .before .before .before .before .before .before .if4 .left) (c .before .before .before .before .before .before .before .before .before .before .before .before .before .before .before .before .before .before .before .before .before .before .before .points-to .ensures) (c .before .before .before .before .before .before .before .before .before .before .before .before .before .before .before .before .before .before .before .before .before .before .if5 .left) (c .before .before .before .before .before .before .before .before .before .before .before .before .before .before .before .before .before .before .before .before .if6 .left) (c .before .before .before .before .before .before .before .before .before .before .before .before .before .before .before .before .before .before .points-from .ensures) (c .before .before .before .before .before .before .before .before .before .before .before .before .before .before .before .before .before .if7 .left)) (c .before .before .before .before .before .before .before .before .before .before .before .before .before .before .before .before .before .before .before .before .if6 .left) (c .before .before .before .before .before .before .before .before .before .before .before .before .before .before .drop-pointer2 .ensures (a .flags .now) (a .keys .now) (a .windows .now) (a .contents .now)) (c .before .before .before .before .before .before .free-block .ensures _ _ _ _)
 

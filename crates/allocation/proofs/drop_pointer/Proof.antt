@@ -1,61 +1,46 @@
+-- `allocation::drop_pointer` is the change of the card that drops a pointer.
+-- Assumes nothing.
 use Rattle.allocation.proofs.Changes.{dropped}
 use borrow.Author.Needs.{needs}
 use Rattle.allocation.proofs.drop_pointer.Statement.{statement}
 use Rattle.allocation.proofs.drop_pointer.Tie as tie
-use Rattle.allocation.proofs.drop_pointer.Reads as reads
-use Rattle.allocation.proofs.drop_pointer.Lts as lts
-use Rattle.allocation.proofs.with_used.Reads as with-used-reads
-use Rattle.tables.proofs.remove.Reads as remove-reads
 
--- src/lib.rt:98:19
 mul-pointer : tie.Need-mul-pointer
 mul-pointer c = search needs
 
--- src/lib.rt:98:19
 add-pointer : tie.Need-add-pointer
 add-pointer c = search needs
 
--- src/lib.rt:99:5
 remove-requires : tie.Need-remove-requires
 remove-requires c κs = search needs
 
--- src/lib.rt:100:18
 mul-counts : tie.Need-mul-counts
 mul-counts c = search needs
 
--- src/lib.rt:100:18
 slice-read-counts : tie.Need-slice-read-counts
 slice-read-counts c = search needs
 
--- src/lib.rt:100:18
 sub-counts : tie.Need-sub-counts
 sub-counts c = search needs
 
--- src/lib.rt:100:5
 mul-counts-2 : tie.Need-mul-counts-2
 mul-counts-2 c = search needs
 
--- src/lib.rt:100:5
 slice-write-counts : tie.Need-slice-write-counts
 slice-write-counts c = search needs
 
--- src/lib.rt:101:21
 sub-with-used : tie.Need-sub-with-used
 sub-with-used c = search needs
 
--- src/lib.rt:101:5
 with-used-requires : tie.Need-with-used-requires
 with-used-requires c κs = search needs
 
--- src/lib.rt:84:1
 same-length : tie.Need-same-length
 same-length c = search needs
 
--- src/lib.rt:84:1
 same-length-2 : tie.Need-same-length-2
 same-length-2 c = search needs
 
--- src/lib.rt:84:1
 returns : tie.Need-returns
 returns c = dropped _ _ _ _ _ (c .with-used .ensures) (c .before .before .before .before .before .remove .ensures)
 

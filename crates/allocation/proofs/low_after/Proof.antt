@@ -1,14 +1,12 @@
+-- `allocation::low_after` is the lower end of the definition.
+-- Assumes nothing.
 use Rattle.allocation.proofs.Tests.{low-moves, low-stays}
 use Rattle.allocation.proofs.low_after.Statement.{statement}
 use Rattle.allocation.proofs.low_after.Tie as tie
-use Rattle.allocation.proofs.low_after.Reads as reads
-use Rattle.allocation.proofs.low_after.Lts as lts
 
--- src/lib.rt:174:1
 returns : tie.Need-returns
 returns c = low-moves _ _ (c .if1 .taken)
 
--- src/lib.rt:174:1
 returns-2 : tie.Need-returns-2
 returns-2 c = low-stays _ _ (c .if1 .left)
 

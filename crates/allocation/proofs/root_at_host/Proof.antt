@@ -1,23 +1,19 @@
+-- `allocation::root_at_host` is the test of the definition, by the port.
+-- Assumes nothing.
 use Rattle.allocation.proofs.Tests.{root-host, root-service}
 use borrow.Author.Needs.{needs}
 use Rattle.allocation.proofs.root_at_host.Statement.{statement}
 use Rattle.allocation.proofs.root_at_host.Tie as tie
-use Rattle.allocation.proofs.root_at_host.Reads as reads
-use Rattle.allocation.proofs.root_at_host.Lts as lts
 
--- src/lib.rt:44:24
 enum-told : tie.Need-enum-told
 enum-told c = search needs
 
--- src/lib.rt:45:26
 enum-told-2 : tie.Need-enum-told-2
 enum-told-2 c = search needs
 
--- src/lib.rt:40:1
 returns : tie.Need-returns
 returns c = root-host _ _ (c .before .enum-told .given .1)
 
--- src/lib.rt:40:1
 returns-2 : tie.Need-returns-2
 returns-2 c = root-service _ _ (c .enum-told2 .given .1)
 

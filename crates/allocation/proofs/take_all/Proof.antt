@@ -1,15 +1,11 @@
+-- `allocation::take_all` takes the picks: the walk so far has taken the first of them. The measure is what is left to pass.
+-- Assumes nothing.
 use Prim.Native.Nat.{_+_, _-_}
 use native.Mathlib.Omega.{arith}
 use Rattle.card.specs.Card.{card}
 use Rattle.allocation.proofs.Walking.{Walked, ready-low, walked-start, walked-spread, next-below, next-narrow, walked-fewer, walked-passed, can-take, walked-taken, flags-same, counts-same, contents-same, walked-whole}
 use Rattle.allocation.proofs.take_all.Statement.{statement}
 use Rattle.allocation.proofs.take_all.Tie as tie
-use Rattle.allocation.proofs.take_all.Reads as reads
-use Rattle.allocation.proofs.take_all.Lts as lts
-use Rattle.allocation.proofs.high_after.Reads as high-after-reads
-use Rattle.allocation.proofs.low_after.Reads as low-after-reads
-use Rattle.allocation.proofs.next.Reads as next-reads
-use Rattle.allocation.proofs.take.Reads as take-reads
 
 abbrev Inv-loop : tie.InvT-loop
 Inv-loop flags₀ keys counts₀ pointers₀ windows contents₀ reference want count places₀ blocks left₀ low₀ high₀ taken₀ flags counts pointers contents places left low high taken =
@@ -20,83 +16,63 @@ abbrev μ-loop : tie.MeasureT-loop
 μ-loop flags₀ keys counts₀ pointers₀ windows contents₀ reference want count places₀ blocks left₀ low₀ high₀ taken₀ flags counts pointers contents places left low high taken =
     low + (blocks - high)
 
--- src/lib.rt:234:5
 loop-holds : tie.Need-loop-holds Inv-loop μ-loop
 loop-holds c = walked-start _ (c .before .before .before .before .before .before .before .pre .0) (c .before .before .before .before .before .before .before .pre .1)
 
--- src/lib.rt:235:13
 next-requires : tie.Need-next-requires Inv-loop μ-loop
 next-requires c κs = walked-spread (c .before .loop .inv) (c .loop-test .taken)
 
--- src/lib.rt:236:9
 low-after-requires : tie.Need-low-after-requires Inv-loop μ-loop
 low-after-requires c κs = tt
 
--- src/lib.rt:237:9
 high-after-requires : tie.Need-high-after-requires Inv-loop μ-loop
 high-after-requires c κs = next-narrow (c .before .before .before .loop .inv) (c .before .next .ensures)
 
--- src/lib.rt:238:12
 slice-read-if1 : tie.Need-slice-read-if1 Inv-loop μ-loop
 slice-read-if1 c = next-below (c .before .before .before .before .before .loop .inv) (c .before .before .before .next .ensures)
 
--- src/lib.rt:239:26
 cast-number : tie.Need-cast-number Inv-loop μ-loop
 cast-number c = omega (arith, next-narrow (c .before .before .before .before .before .before .loop .inv) (c .before .before .before .before .next .ensures))
 
--- src/lib.rt:240:13
 take-requires : tie.Need-take-requires Inv-loop μ-loop
 take-requires c κs = can-take (c .before .before .before .before .before .before .before .before .before .before .loop .inv) (c .before .before .before .before .before .before .before .before .next .ensures) (c .before .before .before .before .before .before .before .before .before .loop-test .taken) (c .before .before .before .before .if1 .taken)
 
--- src/lib.rt:251:13
 mul-places : tie.Need-mul-places Inv-loop μ-loop
 mul-places c = omega (arith, c .before .before .before .before .before .before .before .before .before .before .before .before .before .before .before .before .before .before .loop-test .taken, ready-low (c .before .before .before .before .before .before .before .before .before .before .before .before .before .before .before .before .before .before .before .before .before .before .before .before .before .before .before .pre .0))
 
--- src/lib.rt:251:13
 slice-write-places : tie.Need-slice-write-places Inv-loop μ-loop
 slice-write-places c = omega (arith, c .before .before .before .before .before .before .before .before .before .before .before .before .before .before .before .before .before .before .loop-test .taken, c .before .before .before .before .before .before .before .before .before .before .before .before .before .before .before .before .before .before .before .loop .inv .fits, c .before .before .before .before .before .before .before .before .before .before .before .before .before .before .before .before .before .before .before .loop .inv .samePlaces)
 
--- src/lib.rt:252:13
 add-taken : tie.Need-add-taken Inv-loop μ-loop
 add-taken c = omega (arith, c .before .before .before .before .before .before .before .before .before .before .before .before .before .before .before .before .before .before .loop-test .taken, ready-low (c .before .before .before .before .before .before .before .before .before .before .before .before .before .before .before .before .before .before .before .before .before .before .before .before .before .before .before .pre .0))
 
--- src/lib.rt:234:5
 loop-less : tie.Need-loop-less Inv-loop μ-loop
 loop-less c = walked-fewer (c .before .before .before .before .before .before .before .before .before .before .before .before .before .before .before .before .before .before .before .loop .inv) (c .before .before .before .before .before .before .before .before .before .before .before .before .before .before .before .before .before .next .ensures) (c .before .before .before .before .before .before .before .before .before .before .before .before .before .before .before .before .low-after .ensures) (c .before .before .before .before .before .before .before .before .before .before .before .before .before .before .before .high-after .ensures)
 
--- src/lib.rt:234:5
 loop-again : tie.Need-loop-again Inv-loop μ-loop
 loop-again c = walked-taken (c .before .before .before .before .before .before .before .before .before .before .before .before .before .before .before .before .before .before .before .loop .inv) (c .before .before .before .before .before .before .before .before .before .before .before .before .before .before .before .before .before .next .ensures) (c .before .before .before .before .before .before .before .before .before .before .before .before .before .before .before .before .before .before .loop-test .taken) (c .before .before .before .before .before .before .before .before .before .before .before .before .before .if1 .taken) (c .before .before .before .before .before .before .before .before .take .ensures) (c .before .before .before .before .before .before .before .before .before .before .before .before .before .before .before .before .low-after .ensures) (c .before .before .before .before .before .before .before .before .before .before .before .before .before .before .before .high-after .ensures)
 
--- src/lib.rt:234:5
 loop-less-2 : tie.Need-loop-less-2 Inv-loop μ-loop
 loop-less-2 c = walked-fewer (c .before .before .before .before .before .before .loop .inv) (c .before .before .before .before .next .ensures) (c .before .before .before .low-after .ensures) (c .before .before .high-after .ensures)
 
--- src/lib.rt:234:5
 loop-again-2 : tie.Need-loop-again-2 Inv-loop μ-loop
 loop-again-2 c = walked-passed (c .before .before .before .before .before .before .loop .inv) (c .before .before .before .before .next .ensures) (c .if1 .left) (c .before .before .before .low-after .ensures) (c .before .before .high-after .ensures)
 
--- src/lib.rt:212:1
 same-length : tie.Need-same-length Inv-loop μ-loop
 same-length c = flags-same (c .before .loop .inv) (c .before .before .before .before .before .before .before .before .before .pre .0 .sound)
 
--- src/lib.rt:212:1
 same-length-2 : tie.Need-same-length-2 Inv-loop μ-loop
 same-length-2 c = counts-same (c .before .loop .inv) (c .before .before .before .before .before .before .before .before .before .pre .0 .sound)
 
--- src/lib.rt:212:1
 same-length-3 : tie.Need-same-length-3 Inv-loop μ-loop
 same-length-3 c = c .before .loop .inv .sameSlots
 
--- src/lib.rt:212:1
 same-length-4 : tie.Need-same-length-4 Inv-loop μ-loop
 same-length-4 c = contents-same (c .before .loop .inv) (c .before .before .before .before .before .before .before .before .before .pre .0 .sound)
 
--- src/lib.rt:212:1
 same-length-5 : tie.Need-same-length-5 Inv-loop μ-loop
 same-length-5 c = c .before .loop .inv .samePlaces
 
--- src/lib.rt:212:1
 returns : tie.Need-returns Inv-loop μ-loop
 returns c = walked-whole (c .before .loop .inv) (c .loop-test .left)
 

@@ -1,14 +1,12 @@
+-- `allocation::wanted` is the wanted block of the definition.
+-- Assumes nothing.
 use Rattle.allocation.proofs.Allocating.{wanted-none, wanted-hint}
 use Rattle.allocation.proofs.wanted.Statement.{statement}
 use Rattle.allocation.proofs.wanted.Tie as tie
-use Rattle.allocation.proofs.wanted.Reads as reads
-use Rattle.allocation.proofs.wanted.Lts as lts
 
--- src/lib.rt:272:1
 returns : tie.Need-returns
 returns c = wanted-none (c .if1 .taken)
 
--- src/lib.rt:272:1
 returns-2 : tie.Need-returns-2
 returns-2 c = wanted-hint (c .if1 .left)
 
