@@ -55,7 +55,8 @@ fn has_lengths(
         & (info.used <= places)
 }
 
-fn shaped(
+// The shape alone, as FORMAT asks it.
+pub fn shaped(
     info: Info,
     flags: &[u8],
     keys: &[u64],

@@ -28,16 +28,6 @@ use Rattle.calls.proofs.Returned.{withInfo}
 
 -- ---- the shape, by what the audit finds
 
-module _ (c : Card) {v : Verdict} (found : v ≡ verdict c) where
-  pub shape-fails : v ≡ FoundMisshapen → false ≡ shape c
-  shape-fails e = sym (verdict-misshapen c (sym found ∙ e))
-
-  pub shape-unsound : v ≡ FoundUnsound → true ≡ shape c
-  shape-unsound e = sym (verdict-unsound c (sym found ∙ e) .0)
-
-  pub shape-sound : v ≡ FoundSound → true ≡ shape c
-  shape-sound e = sym (true-shape (verdict-sound c (sym found ∙ e) .shaped))
-
 -- ---- parts at the front
 
 drop-zeros : (n m : ℕ) → n ≤ m → drop n (zeros m) ≡ zeros (m - n)

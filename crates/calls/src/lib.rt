@@ -682,26 +682,6 @@ fn mark(to: &mut [u8])
     }
 }
 
-// The tables are of the right shape for the record: the audit tells it before it walks them.
-fn shaped(
-    info: Info,
-    flags: &[u8],
-    keys: &[u64],
-    counts: &[u16],
-    pointers: &[u32],
-    windows: &[u64],
-    contents: &[u8],
-) -> bool
-    ensures { λ r. ⌜ r ≡ shape (card info (now (flags .entry)) (now (keys .entry)) (now (counts .entry)) (now (pointers .entry)) (now (windows .entry)) (now (contents .entry))) ⌝ }
-{
-    let verdict = audit::audit(info, flags, keys, counts, pointers, windows, contents);
-    match verdict {
-        Verdict::Misshapen => false,
-        Verdict::Unsound => true,
-        Verdict::Sound => true,
-    }
-}
-
 // The roots are allocated, and no other block is.
 fn mark_roots(flags: &mut [u8], roots: usize)
     requires { ⌜ roots ≤ length (now flags) ⌝ }
@@ -733,7 +713,7 @@ pub fn format(
         used: 0,
         time: 0,
     };
-    if shaped(fresh, flags, keys, counts, pointers, windows, contents) {
+    if audit::shaped(fresh, flags, keys, counts, pointers, windows, contents) {
         mark_roots(flags, roots);
         clear_words(keys);
         clear_counts(counts);
