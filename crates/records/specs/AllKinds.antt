@@ -1,6 +1,5 @@
 -- The length of the body, or none, for all 256 kinds, as document 01 gives it: one table, one proof that is computed.
 -- Assumes nothing.
-use Prim.Native.Nat.{ℕ, zero, suc}
 use mathlib.Core.Path.{_≡_, refl}
 use mathlib.Core.List.{List, [], _∷_, _++_, map}
 use lib.ListN.{replicate}

@@ -1,7 +1,7 @@
 -- Document 01, "Call records and the player": the kinds of records, and the lengths of their bodies.
 use Prim.Native.Nat.{ℕ, _+_, _-_}
-use mathlib.Core.Bool.{Bool, true, false, cond}
-use mathlib.Core.List.{List, [], _∷_, _++_, map}
+use mathlib.Core.Bool.{Bool, cond}
+use mathlib.Core.List.{List, [], _∷_, map}
 use lib.Dec.{eqb}
 use Rattle.card.specs.Pointers.{contains}
 use Rattle.card.specs.declared.Port.{Port}
