@@ -52,7 +52,9 @@ unknown k h =
 
 -- ---- the length of a kind's body
 
-pub known-length : (k : ℕ) {l : ℕ} {r : Kind} {port : Port} {name : Name} → r ≡ kindOf k → r ≡ Known port name → l ≡ lengthOf name → Bytes l ≡ bodyLength k
+pub known-length : (k : ℕ) {l : ℕ} {r : Kind} {port : Port} {name : Name}
+    → r ≡ kindOf k → r ≡ Known port name → l ≡ lengthOf name
+    → Bytes l ≡ bodyLength k
 unfolding bodyLength kindLength
 known-length k e q h = rw (← e, q, h)
 
