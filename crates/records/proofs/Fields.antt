@@ -1,11 +1,10 @@
 -- What the arms of the functions for credentials and new keys cite: the bytes from a place of a list.
 -- Assumes nothing.
 use Prim.Native.Nat.{ℕ, _+_}
-use mathlib.Core.Path.{_≡_, refl, sym}
+use mathlib.Core.Path.{_≡_}
 use mathlib.Core.Bool.{Bool, true, false}
 use mathlib.Core.List.{List}
 use native.Mathlib.Nat.{add-zero}
-use lib.Dec.{eqb}
 use lib.ListN.{getD, drop}
 use lib.Seq.{getD-drop, drop-drop}
 use borrow.Author.Tests.{ne-eqb}
@@ -30,7 +29,9 @@ module _ (xs : List ℕ) (at : ℕ) where
   unfolding credential
   not-nothing k z t = rw (first, k, drop-drop 1 at xs, ← z, t)
 
-  pub reference : {z : Bool} {n : ℕ} → getD xs at 0 ≡ 1 → z ≡ zeroed 14 (drop (at + 3) xs) → z ≡ true → n ≡ number 2 (drop (at + 1) xs) → Presents (Reference n) ≡ credential (drop at xs)
+  pub reference : {z : Bool} {n : ℕ}
+      → getD xs at 0 ≡ 1 → z ≡ zeroed 14 (drop (at + 3) xs) → z ≡ true → n ≡ number 2 (drop (at + 1) xs)
+      → Presents (Reference n) ≡ credential (drop at xs)
   unfolding credential
   reference k z t n = rw (first, k, drop-drop 3 at xs, ← z, t, drop-drop 1 at xs, ← n)
 
@@ -38,7 +39,9 @@ module _ (xs : List ℕ) (at : ℕ) where
   unfolding credential
   not-reference k z t = rw (first, k, drop-drop 3 at xs, ← z, t)
 
-  pub key : {high low : ℕ} → getD xs at 0 ≡ 2 → high ≡ number 8 (drop (at + 1) xs) → low ≡ number 8 (drop (at + 9) xs) → Presents (KeyCredential high low) ≡ credential (drop at xs)
+  pub key : {high low : ℕ}
+      → getD xs at 0 ≡ 2 → high ≡ number 8 (drop (at + 1) xs) → low ≡ number 8 (drop (at + 9) xs)
+      → Presents (KeyCredential high low) ≡ credential (drop at xs)
   unfolding credential
   key k h l = rw (first, k, drop-drop 1 at xs, drop-drop 9 at xs, ← h, ← l)
 
@@ -56,7 +59,9 @@ module _ (xs : List ℕ) (at : ℕ) where
   unfolding newKey
   not-absent k z t = rw (first, k, drop-drop 1 at xs, ← z, t)
 
-  pub present : {high low : ℕ} → getD xs at 0 ≡ 1 → high ≡ number 8 (drop (at + 1) xs) → low ≡ number 8 (drop (at + 9) xs) → Replaces (Present high low) ≡ newKey (drop at xs)
+  pub present : {high low : ℕ}
+      → getD xs at 0 ≡ 1 → high ≡ number 8 (drop (at + 1) xs) → low ≡ number 8 (drop (at + 9) xs)
+      → Replaces (Present high low) ≡ newKey (drop at xs)
   unfolding newKey
   present k h l = rw (first, k, drop-drop 1 at xs, drop-drop 9 at xs, ← h, ← l)
 

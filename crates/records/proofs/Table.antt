@@ -1,10 +1,8 @@
 -- Laws of the table of kinds: what the arms of a match on it cite.
 -- Assumes nothing.
 use Prim.Native.Nat.{ℕ}
-use mathlib.Core.Path.{_≡_, refl, sym, ap}
-use mathlib.Core.Bool.{cond}
+use mathlib.Core.Path.{_≡_, sym, ap}
 use mathlib.Core.List.{List, [], _∷_}
-use lib.Dec.{eqb}
 use borrow.Author.Tests.{ne-eqb}
 use Rattle.records.specs.Kinds.{row, names, kindNumber, lengthOf, among, kindOf, kindLength, bodyLength}
 use Rattle.records.specs.declared.Name.{Name}
@@ -54,7 +52,9 @@ unknown k h =
 
 -- ---- the length of a kind's body
 
-pub known-length : (k : ℕ) {l : ℕ} {r : Kind} {port : Port} {name : Name} → r ≡ kindOf k → r ≡ Known port name → l ≡ lengthOf name → Bytes l ≡ bodyLength k
+pub known-length : (k : ℕ) {l : ℕ} {r : Kind} {port : Port} {name : Name}
+    → r ≡ kindOf k → r ≡ Known port name → l ≡ lengthOf name
+    → Bytes l ≡ bodyLength k
 unfolding bodyLength kindLength
 known-length k e q h = rw (← e, q, h)
 

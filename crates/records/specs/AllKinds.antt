@@ -1,11 +1,10 @@
 -- The length of the body, or none, for all 256 kinds, as document 01 gives it: one table, one proof that is computed.
 -- Assumes nothing.
-use Prim.Native.Nat.{ℕ, zero, suc}
 use mathlib.Core.Path.{_≡_, refl}
+use mathlib.Core.Bool.{true}
 use mathlib.Core.List.{List, [], _∷_, _++_, map}
 use lib.ListN.{replicate}
 use Rattle.card.specs.Lists.{numbersBelow}
-use mathlib.Core.Bool.{true}
 use Rattle.records.specs.Kinds.{row, names, kindNumber, lengthOf, among, kindOf, kindLength, bodyLength}
 use Rattle.records.specs.declared.Length.{Length}
 use Rattle.records.specs.declared.Length.the-variants.{Bytes, Unknown}

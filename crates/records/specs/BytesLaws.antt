@@ -1,9 +1,9 @@
 -- Laws of numbers as big-endian bytes, and of filler.
 -- Assumes nothing.
-use Prim.Native.Nat.{ℕ, zero, suc, _+_, _*_, _/_, _%_, _^_, _≤_, _<_}
-use mathlib.Core.Path.{_≡_, refl, sym, ap, _∙_}
+use Prim.Native.Nat.{ℕ, zero, suc, _+_, _*_, _/_, _%_, _^_, _<_}
+use mathlib.Core.Path.{_≡_, refl}
 use mathlib.Core.Logic.{⊎-elim}
-use mathlib.Core.Bool.{Bool, true, false, _&&_}
+use mathlib.Core.Bool.{true, false}
 use mathlib.Core.List.{List, [], _∷_, _++_, append-assoc}
 use native.Mathlib.Nat.{div-add-mod', div-lt-iff-lt-mul, add-zero, pow-suc, le-of-suc-le-suc, not-suc-le-zero, eq-or-lt-of-le}
 use native.Mathlib.Numerals.{add-one}
@@ -26,14 +26,18 @@ doubled-two : (xs : List ℕ) {high low : ℕ} → high ≡ number 2 xs → low 
 unfolding number
 doubled-two xs h l = omega (arith, getD-drop 2 xs 0 0, getD-drop 2 xs 1 0)
 
-pub number-four : (xs : List ℕ) (at : ℕ) {high low : ℕ} → high ≡ number 2 (drop at xs) → low ≡ number 2 (drop (at + 2) xs) → high * 65536 + low ≡ number 4 (drop at xs)
+pub number-four : (xs : List ℕ) (at : ℕ) {high low : ℕ}
+    → high ≡ number 2 (drop at xs) → low ≡ number 2 (drop (at + 2) xs)
+    → high * 65536 + low ≡ number 4 (drop at xs)
 number-four xs at h l = doubled-two (drop at xs) h (rw (← drop-drop 2 at xs) at l)
 
 doubled-four : (xs : List ℕ) {high low : ℕ} → high ≡ number 4 xs → low ≡ number 4 (drop 4 xs) → high * 4294967296 + low ≡ number 8 xs
 unfolding number
 doubled-four xs h l = omega (arith, getD-drop 4 xs 0 0, getD-drop 4 xs 1 0, getD-drop 4 xs 2 0, getD-drop 4 xs 3 0)
 
-pub number-eight : (xs : List ℕ) (at : ℕ) {high low : ℕ} → high ≡ number 4 (drop at xs) → low ≡ number 4 (drop (at + 4) xs) → high * 4294967296 + low ≡ number 8 (drop at xs)
+pub number-eight : (xs : List ℕ) (at : ℕ) {high low : ℕ}
+    → high ≡ number 4 (drop at xs) → low ≡ number 4 (drop (at + 4) xs)
+    → high * 4294967296 + low ≡ number 8 (drop at xs)
 number-eight xs at h l = doubled-four (drop at xs) h (rw (← drop-drop 4 at xs) at l)
 
 -- ---- the bytes of a number

@@ -1,7 +1,7 @@
 -- Document 01, "Call records and the player": from the bytes of an input to a call, its port and its data.
 -- Each operand stands in the body behind those before it. Only the bytes of the body are looked at, whatever follows them.
 use Prim.Native.Nat.{ℕ}
-use mathlib.Core.Bool.{Bool, true, false, cond}
+use mathlib.Core.Bool.{cond}
 use mathlib.Core.List.{List, [], _∷_}
 use lib.Dec.{eqb, leb}
 use lib.ListN.{length, take, drop, getD}

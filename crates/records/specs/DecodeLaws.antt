@@ -3,7 +3,7 @@
 use Prim.Native.Nat.{ℕ, _≤_, _<_}
 use mathlib.Core.Path.{_≡_, refl, sym, ap, subst}
 use mathlib.Core.Logic.{⊎-elim}
-use mathlib.Core.Bool.{true, false, cond}
+use mathlib.Core.Bool.{true, false}
 use mathlib.Core.List.{List, [], _∷_}
 use native.Mathlib.Omega.{arith}
 use lib.Dec.{leb}
@@ -30,48 +30,71 @@ use Rattle.records.specs.declared.Decoding.{Decoding}
 use Rattle.records.specs.declared.Decoding.the-variants.{Decoded, Bad}
 
 -- A bad credential, where a call has one.
-pub refused : (port : Port) (call : Credential → Call) (ys : List ℕ) {p : Presented} → p ≡ credential ys → p ≡ BadCredential → Bad ≡ withCredential port call (credential ys)
+pub refused : (port : Port) (call : Credential → Call) (ys : List ℕ) {p : Presented}
+    → p ≡ credential ys → p ≡ BadCredential
+    → Bad ≡ withCredential port call (credential ys)
 unfolding withCredential
 refused port call ys p e = rw (← p, e)
 
 module _ (port : Port) (xs : List ℕ) where
   -- ---- calls with one credential
 
-  pub read : {b i : ℕ} {p : Presented} {c : Credential} → b ≡ number 2 xs → i ≡ number 4 (drop 19 xs) → p ≡ credential (drop 2 xs) → p ≡ Presents c → Decoded port (Read (record { block = b; credential = c; interval = i })) ≡ decodeCall port READ xs
+  pub read : {b i : ℕ} {p : Presented} {c : Credential}
+      → b ≡ number 2 xs → i ≡ number 4 (drop 19 xs) → p ≡ credential (drop 2 xs) → p ≡ Presents c
+      → Decoded port (Read (record { block = b; credential = c; interval = i })) ≡ decodeCall port READ xs
   unfolding decodeCall withCredential
   read b i p e = rw (← p, e, ← b, ← i)
 
-  pub write : {b i : ℕ} {p : Presented} {c : Credential} → b ≡ number 2 xs → i ≡ number 4 (drop 19 xs) → p ≡ credential (drop 2 xs) → p ≡ Presents c → Decoded port (Write (record { block = b; credential = c; interval = i })) ≡ decodeCall port WRITE xs
+  pub write : {b i : ℕ} {p : Presented} {c : Credential}
+      → b ≡ number 2 xs → i ≡ number 4 (drop 19 xs) → p ≡ credential (drop 2 xs) → p ≡ Presents c
+      → Decoded port (Write (record { block = b; credential = c; interval = i })) ≡ decodeCall port WRITE xs
   unfolding decodeCall withCredential
   write b i p e = rw (← p, e, ← b, ← i)
 
-  pub alloc : {r h n : ℕ} {p : Presented} {c : Credential} → r ≡ number 2 xs → h ≡ number 2 (drop 19 xs) → n ≡ getD xs 21 0 → p ≡ credential (drop 2 xs) → p ≡ Presents c → Decoded port (Alloc (record { reference = r; credential = c; hint = h; count = n })) ≡ decodeCall port ALLOC xs
+  pub alloc : {r h n : ℕ} {p : Presented} {c : Credential}
+      → r ≡ number 2 xs → h ≡ number 2 (drop 19 xs) → n ≡ getD xs 21 0 → p ≡ credential (drop 2 xs) → p ≡ Presents c
+      → Decoded port (Alloc (record { reference = r; credential = c; hint = h; count = n })) ≡ decodeCall port ALLOC xs
   unfolding decodeCall withCredential
   alloc r h n p e = rw (← p, e, ← r, ← h, ← n)
 
-  pub delete : {s d : ℕ} {p : Presented} {c : Credential} → s ≡ number 2 xs → d ≡ number 2 (drop 19 xs) → p ≡ credential (drop 2 xs) → p ≡ Presents c → Decoded port (Delete (record { source = s; credential = c; destination = d })) ≡ decodeCall port DELETE xs
+  pub delete : {s d : ℕ} {p : Presented} {c : Credential}
+      → s ≡ number 2 xs → d ≡ number 2 (drop 19 xs) → p ≡ credential (drop 2 xs) → p ≡ Presents c
+      → Decoded port (Delete (record { source = s; credential = c; destination = d })) ≡ decodeCall port DELETE xs
   unfolding decodeCall withCredential
   delete s d p e = rw (← p, e, ← s, ← d)
 
   -- ---- calls with more
 
-  pub create : {s d : ℕ} {p q : Presented} {c e : Credential} → s ≡ number 2 xs → d ≡ number 2 (drop 19 xs) → p ≡ credential (drop 2 xs) → q ≡ credential (drop 21 xs) → p ≡ Presents c → q ≡ Presents e → Decoded port (Create (record { source = s; credential = c; destination = d; second = e })) ≡ decodeCall port CREATE xs
+  pub create : {s d : ℕ} {p q : Presented} {c e : Credential}
+      → s ≡ number 2 xs → d ≡ number 2 (drop 19 xs) → p ≡ credential (drop 2 xs) → q ≡ credential (drop 21 xs)
+      → p ≡ Presents c → q ≡ Presents e
+      → Decoded port (Create (record { source = s; credential = c; destination = d; second = e })) ≡ decodeCall port CREATE xs
   unfolding decodeCall createWith
   create s d p q e f = rw (← p, ← q, e, f, ← s, ← d)
 
-  pub create-second : {p q : Presented} {c : Credential} → p ≡ credential (drop 2 xs) → q ≡ credential (drop 21 xs) → p ≡ Presents c → q ≡ BadCredential → Bad ≡ decodeCall port CREATE xs
+  pub create-second : {p q : Presented} {c : Credential}
+      → p ≡ credential (drop 2 xs) → q ≡ credential (drop 21 xs) → p ≡ Presents c → q ≡ BadCredential
+      → Bad ≡ decodeCall port CREATE xs
   unfolding decodeCall createWith
   create-second p q e f = rw (← p, ← q, e, f)
 
-  pub key : {b : ℕ} {p : Presented} {r w : Replacing} {c : Credential} {m n : NewKey} → b ≡ number 2 xs → p ≡ credential (drop 2 xs) → r ≡ newKey (drop 19 xs) → w ≡ newKey (drop 36 xs) → p ≡ Presents c → r ≡ Replaces m → w ≡ Replaces n → Decoded port (Key (record { block = b; credential = c; read = m; write = n })) ≡ decodeCall port KEY xs
+  pub key : {b : ℕ} {p : Presented} {r w : Replacing} {c : Credential} {m n : NewKey}
+      → b ≡ number 2 xs → p ≡ credential (drop 2 xs) → r ≡ newKey (drop 19 xs) → w ≡ newKey (drop 36 xs) → p ≡ Presents c
+      → r ≡ Replaces m → w ≡ Replaces n
+      → Decoded port (Key (record { block = b; credential = c; read = m; write = n })) ≡ decodeCall port KEY xs
   unfolding decodeCall keyWith
   key b p r w e f g = rw (← p, ← r, ← w, e, f, g, ← b)
 
-  pub key-read : {p : Presented} {r : Replacing} {c : Credential} → p ≡ credential (drop 2 xs) → r ≡ newKey (drop 19 xs) → p ≡ Presents c → r ≡ BadKey → Bad ≡ decodeCall port KEY xs
+  pub key-read : {p : Presented} {r : Replacing} {c : Credential}
+      → p ≡ credential (drop 2 xs) → r ≡ newKey (drop 19 xs) → p ≡ Presents c → r ≡ BadKey
+      → Bad ≡ decodeCall port KEY xs
   unfolding decodeCall keyWith
   key-read p r e f = rw (← p, ← r, e, f)
 
-  pub key-write : {p : Presented} {r w : Replacing} {c : Credential} {m : NewKey} → p ≡ credential (drop 2 xs) → r ≡ newKey (drop 19 xs) → w ≡ newKey (drop 36 xs) → p ≡ Presents c → r ≡ Replaces m → w ≡ BadKey → Bad ≡ decodeCall port KEY xs
+  pub key-write : {p : Presented} {r w : Replacing} {c : Credential} {m : NewKey}
+      → p ≡ credential (drop 2 xs) → r ≡ newKey (drop 19 xs) → w ≡ newKey (drop 36 xs) → p ≡ Presents c → r ≡ Replaces m
+      → w ≡ BadKey
+      → Bad ≡ decodeCall port KEY xs
   unfolding decodeCall keyWith
   key-write p r w e f g = rw (← p, ← r, ← w, e, f, g)
 
@@ -85,7 +108,10 @@ module _ (port : Port) (xs : List ℕ) where
 
   -- ---- calls without a credential
 
-  pub renew : {m b h l i : ℕ} → m ≡ getD xs 0 0 → b ≡ number 2 (drop 1 xs) → h ≡ number 8 (drop 3 xs) → l ≡ number 8 (drop 11 xs) → i ≡ number 4 (drop 19 xs) → Decoded port (Renew (record { mode = m; block = b; high = h; low = l; interval = i })) ≡ decodeCall port RENEW xs
+  pub renew : {m b h l i : ℕ}
+      → m ≡ getD xs 0 0 → b ≡ number 2 (drop 1 xs) → h ≡ number 8 (drop 3 xs) → l ≡ number 8 (drop 11 xs)
+      → i ≡ number 4 (drop 19 xs)
+      → Decoded port (Renew (record { mode = m; block = b; high = h; low = l; interval = i })) ≡ decodeCall port RENEW xs
   unfolding decodeCall
   renew m b h l i = rw (← m, ← b, ← h, ← l, ← i)
 
@@ -117,7 +143,9 @@ room e h = rw e at h
 -- ---- by the kind
 
 module _ (kind : ℕ) (xs : List ℕ) {known : Kind} (of-kind : known ≡ kindOf kind) where
-  pub whole : {port : Port} {name : Name} {l : ℕ} {d : Decoding} → known ≡ Known port name → l ≡ lengthOf name → l ≤ length xs → d ≡ decodeCall port name xs → d ≡ decodeBody kind xs
+  pub whole : {port : Port} {name : Name} {l : ℕ} {d : Decoding}
+      → known ≡ Known port name → l ≡ lengthOf name → l ≤ length xs → d ≡ decodeCall port name xs
+      → d ≡ decodeBody kind xs
   unfolding decodeBody decodeKnown
   whole {port} {name} e l h d = rw (← of-kind, e, ← l, le-leb _ _ h, d)
 
@@ -136,7 +164,9 @@ abbrev Named : Port → Name → Decoding → Type 0
 Named port name (Decoded p call) = (p ≡ port) × (nameOf call ≡ name)
 Named port name Bad = Unit {0}
 
-named-credential : (port : Port) (name : Name) (call : Credential → Call) → ((c : Credential) → nameOf (call c) ≡ name) → (q : Presented) → Named port name (withCredential port call q)
+named-credential : (port : Port) (name : Name) (call : Credential → Call)
+    → ((c : Credential) → nameOf (call c) ≡ name) → (q : Presented)
+    → Named port name (withCredential port call q)
 unfolding withCredential
 named-credential port name call h (Presents c) = (refl, h c)
 named-credential port name call h BadCredential = tt
@@ -176,7 +206,9 @@ pub record OfKind (known : Kind) (xs : List ℕ) (port : Port) (call : Call) : T
   pub kind : known ≡ Known port (nameOf call)
   pub whole : lengthOf (nameOf call) ≤ length xs
 
-of-decoded : (p port : Port) (name : Name) (call : Call) (xs : List ℕ) → Decoded p call ≡ decodeCall port name xs → lengthOf name ≤ length xs → OfKind (Known port name) xs p call
+of-decoded : (p port : Port) (name : Name) (call : Call) (xs : List ℕ)
+    → Decoded p call ≡ decodeCall port name xs → lengthOf name ≤ length xs
+    → OfKind (Known port name) xs p call
 of-decoded p port name call xs e h =
     let n : Named port name (Decoded p call) = subst (λ (d : Decoding). Named port name d) (sym e) (named port name xs) in
     record { kind = rw (n .0, n .1); whole = rw (n .1) h }
@@ -196,14 +228,18 @@ decoded-kind kind xs p call e = of-known (kindOf kind) xs p call e
 
 -- ---- an input gets shorter
 
-next-shorter : (xs : List ℕ) (d : Decoding) {port : Port} {call : Call} {payload rest : List ℕ} → nextOf xs d ≡ sent port call payload rest → length rest ≤ length xs
+next-shorter : (xs : List ℕ) (d : Decoding) {port : Port} {call : Call} {payload rest : List ℕ}
+    → nextOf xs d ≡ sent port call payload rest
+    → length rest ≤ length xs
 unfolding nextOf
 next-shorter xs (Decoded p call) {rest = rest} e =
     let left : drop (lengthOf (nameOf call)) xs ≡ rest = cc in
     omega (arith, ap length left, length-drop (lengthOf (nameOf call)) xs)
 next-shorter xs Bad e = let z : _≡_ {A = ℕ} 0 1 = cc in absurd (omega arith)
 
-pub decode-shorter : (xs : List ℕ) {port : Port} {call : Call} {payload rest : List ℕ} → decode xs ≡ sent port call payload rest → length rest < length xs
+pub decode-shorter : (xs : List ℕ) {port : Port} {call : Call} {payload rest : List ℕ}
+    → decode xs ≡ sent port call payload rest
+    → length rest < length xs
 unfolding decode
 decode-shorter [] e = let z : _≡_ {A = ℕ} 0 1 = cc in absurd (omega arith)
 decode-shorter (kind ∷ xs) e = let h = next-shorter xs (decodeBody kind xs) e in omega arith

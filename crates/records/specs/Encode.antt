@@ -1,8 +1,7 @@
 -- The bytes of a call record, as a host writes it.
 use Prim.Native.Nat.{ℕ, _<_, _^_}
-use mathlib.Core.Path.{_≡_}
-use mathlib.Core.List.{List, [], _∷_, _++_}
-use lib.ListN.{length, replicate}
+use mathlib.Core.List.{List, _∷_, _++_}
+use lib.ListN.{replicate}
 use Rattle.card.specs.declared.Port.{Port}
 use Rattle.card.specs.declared.Credential.{Credential}
 use Rattle.card.specs.declared.Credential.the-variants.{Nothing, Reference, Key as KeyCredential}
@@ -11,7 +10,7 @@ use Rattle.card.specs.declared.NewKey.the-variants.{Absent, Present}
 use Rattle.card.specs.declared.Call.{Call}
 use Rattle.card.specs.declared.Call.the-variants.{Read, Write, Alloc, Create, Delete, Key, Renew, Force, Free, Tick, Audit}
 use Rattle.records.specs.Bytes.{bytes}
-use Rattle.records.specs.Kinds.{kindNumber, dataLength}
+use Rattle.records.specs.Kinds.{kindNumber}
 use Rattle.records.specs.Decode.{nameOf}
 
 unfoldable pub credentialBytes : Credential → List ℕ

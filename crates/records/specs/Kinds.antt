@@ -1,7 +1,7 @@
 -- Document 01, "Call records and the player": the kinds of records, and the lengths of their bodies.
 use Prim.Native.Nat.{ℕ, _+_, _-_}
-use mathlib.Core.Bool.{Bool, true, false, cond}
-use mathlib.Core.List.{List, [], _∷_, _++_, map}
+use mathlib.Core.Bool.{Bool, cond}
+use mathlib.Core.List.{List, [], _∷_, map}
 use lib.Dec.{eqb}
 use Rattle.card.specs.Pointers.{contains}
 use Rattle.card.specs.declared.Port.{Port}
@@ -13,38 +13,24 @@ use Rattle.records.specs.declared.Kind.the-variants.{Known, Unknown}
 use Rattle.records.specs.declared.Length.{Length}
 use Rattle.records.specs.declared.Length.the-variants.{Bytes, Unknown as UnknownLength}
 
-infix 20 _body_
--- A kind at the host port, and the length of its body.
+infix 20 _body_payload_
+-- A kind at the host port, the length of its body, and how many of its bytes, the last, are data.
 pub data Row : Type 0 where
-  _body_ : ℕ → ℕ → Row
+  _body_payload_ : ℕ → ℕ → ℕ → Row
 
 -- The one table of the calls.
 unfoldable pub row : Name → Row
-row READ = 1 body 23
-row WRITE = 2 body 535
-row ALLOC = 3 body 22
-row CREATE = 4 body 38
-row DELETE = 5 body 21
-row KEY = 6 body 53
-row RENEW = 7 body 23
-row FORCE = 8 body 2
-row FREE = 9 body 0
-row TICK = 10 body 8
-row AUDIT = 11 body 0
-
--- The last bytes of a body that are no operand.
-unfoldable pub dataLength : Name → ℕ
-dataLength READ = 0
-dataLength WRITE = 512
-dataLength ALLOC = 0
-dataLength CREATE = 0
-dataLength DELETE = 0
-dataLength KEY = 0
-dataLength RENEW = 0
-dataLength FORCE = 0
-dataLength FREE = 0
-dataLength TICK = 0
-dataLength AUDIT = 0
+row READ = 1 body 23 payload 0
+row WRITE = 2 body 535 payload 512
+row ALLOC = 3 body 22 payload 0
+row CREATE = 4 body 38 payload 0
+row DELETE = 5 body 21 payload 0
+row KEY = 6 body 53 payload 0
+row RENEW = 7 body 23 payload 0
+row FORCE = 8 body 2 payload 0
+row FREE = 9 body 0 payload 0
+row TICK = 10 body 8 payload 0
+row AUDIT = 11 body 0 payload 0
 
 -- The calls that have a kind at each port.
 unfoldable pub names : Port → List Name
@@ -53,17 +39,23 @@ names Service = READ ∷ WRITE ∷ ALLOC ∷ CREATE ∷ DELETE ∷ KEY ∷ []
 
 -- Document 01, "Kinds 129 to 134 are 1 to 6 at the service port."
 abbrev pub kindAt : Port → Row → ℕ
-kindAt Host (kind body length) = kind
-kindAt Service (kind body length) = 128 + kind
+kindAt Host (kind body length payload extra) = kind
+kindAt Service (kind body length payload extra) = 128 + kind
 
 abbrev pub rowLength : Row → ℕ
-rowLength (kind body length) = length
+rowLength (kind body length payload extra) = length
+
+abbrev pub rowPayload : Row → ℕ
+rowPayload (kind body length payload extra) = extra
 
 unfoldable pub kindNumber : Port → Name → ℕ
 kindNumber port name = kindAt port (row name)
 
 unfoldable pub lengthOf : Name → ℕ
 lengthOf name = rowLength (row name)
+
+unfoldable pub dataLength : Name → ℕ
+dataLength name = rowPayload (row name)
 
 -- The length of a call's operands, which come first in its body.
 unfoldable pub operandsLength : Name → ℕ

@@ -6,3 +6,4 @@ pub mod Decode
 pub mod DecodeLaws
 pub mod Encode
 pub mod RoundTrip
+pub mod Samples

@@ -1,11 +1,11 @@
 -- Decoding an encoded call, whatever follows it, gives the call, its port, its data and what follows.
 -- Assumes nothing.
-use Prim.Native.Nat.{ℕ, zero, suc, _+_, _-_, _≤_, _<_, _^_, _%_}
+use Prim.Native.Nat.{ℕ, _+_, _≤_}
 use mathlib.Core.Path.{_≡_, refl, sym, ap, _∙_}
-use mathlib.Core.Bool.{Bool, true, false, false≢true}
-use mathlib.Core.List.{List, [], _∷_, _++_, map, append-assoc}
+use mathlib.Core.Bool.{true, false≢true}
+use mathlib.Core.List.{List, _++_, append-assoc}
 use native.Mathlib.Omega.{arith}
-use lib.ListN.{length, take, drop, getD, replicate, length-append}
+use lib.ListN.{length, drop, getD, replicate, length-append}
 use lib.Seq.{getD-drop, drop-drop, drop-at, take-at}
 use Rattle.card.specs.Pointers.{contains}
 use Rattle.card.specs.Lists.{any}
@@ -20,15 +20,14 @@ use Rattle.card.specs.declared.Call.the-variants.{Read, Write, Alloc, Create, D
 use Rattle.records.specs.Bytes.{number, bytes, zeroed}
 use Rattle.records.specs.BytesLaws.{length-bytes, number-bytes}
 use Rattle.records.specs.Kinds.{row, names, kindNumber, lengthOf, dataLength, operandsLength, hasKind, among, kindOf}
-use Rattle.records.specs.Decode.{credential, newKey, decodeCall, decodeBody, nameOf, dataOf, Next, sent, nextOf, decode}
+use Rattle.records.specs.Decode.{credential, newKey, decodeCall, nameOf, dataOf, sent, nextOf, decode}
 use Rattle.records.specs.DecodeLaws as laws
 use Rattle.records.specs.Encode.{credentialBytes, newKeyBytes, body, encode, Fits, FitsCredential, FitsNewKey, FitsCall}
 use Rattle.records.specs.declared.Name.{Name}
 use Rattle.records.specs.declared.Name.the-variants.{Read as READ, Write as WRITE, Alloc as ALLOC, Create as CREATE, Delete as DELETE, Key as KEY, Renew as RENEW, Force as FORCE, Free as FREE, Tick as TICK, Audit as AUDIT}
-use Rattle.records.specs.declared.Kind.the-variants.{Known, Unknown}
+use Rattle.records.specs.declared.Kind.the-variants.{Known}
 use Rattle.records.specs.declared.Presented.the-variants.{Good as Presents}
 use Rattle.records.specs.declared.Replacing.the-variants.{Good as Replaces}
-use Rattle.records.specs.declared.Decoding.{Decoding}
 use Rattle.records.specs.declared.Decoding.the-variants.{Decoded}
 
 -- ---- a list that is n elements, then others

@@ -125,6 +125,7 @@ pub fn body_length(kind: u8) -> Length
 
 // ---- numbers and filler
 
+// A byte as a wide number, of which its bound is known.
 fn wide(x: u8) -> u64
     ensures { λ r. ⌜ (r ≡ x) × (r < 256) ⌝ }
 {
@@ -217,6 +218,8 @@ fn new_key(bytes: &[u8], at: usize) -> Replacing
 }
 
 // ---- calls
+
+// Each function for one call looks at a body that is not cut short.
 
 fn decode_read(port: Port, body: &[u8]) -> Decoding
     requires { ⌜ 23 ≤ length (now body) ⌝ }

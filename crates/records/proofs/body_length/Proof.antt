@@ -18,7 +18,11 @@ enum-told : tie.Need-enum-told
 enum-told c = search needs
 
 returns : tie.Need-returns
-returns c = known-length _ (c .before .before .before .before .kind-of .ensures) (c .before .before .known .given .1) (c .length-of .ensures)
+returns c =
+    known-length _
+    (c .before .before .before .before .kind-of .ensures)
+    (c .before .before .known .given .1)
+    (c .length-of .ensures)
 
 returns-2 : tie.Need-returns-2
 returns-2 c = unknown-length _ (c .before .before .kind-of .ensures) (c .enum-told .given .1)

@@ -18,13 +18,24 @@ decode-call-requires : tie.Need-decode-call-requires
 decode-call-requires c κs = search needs
 
 returns : tie.Need-returns
-returns c = whole _ _ (c .before .before .before .before .before .before .kind-of .ensures) (c .before .before .before .before .known .given .1) (c .before .before .length-of .ensures) (c .before .if1 .taken) (c .decode-call .ensures)
+returns c =
+    whole _ _
+    (c .before .before .before .before .before .before .kind-of .ensures)
+    (c .before .before .before .before .known .given .1)
+    (c .before .before .length-of .ensures)
+    (c .before .if1 .taken)
+    (c .decode-call .ensures)
 
 enum-told : tie.Need-enum-told
 enum-told c = search needs
 
 returns-2 : tie.Need-returns-2
-returns-2 c = cut-short _ _ (c .before .before .before .before .before .kind-of .ensures) (c .before .before .before .known .given .1) (c .before .length-of .ensures) (c .if1 .left)
+returns-2 c =
+    cut-short _ _
+    (c .before .before .before .before .before .kind-of .ensures)
+    (c .before .before .before .known .given .1)
+    (c .before .length-of .ensures)
+    (c .if1 .left)
 
 returns-3 : tie.Need-returns-3
 returns-3 c = other-kind _ _ (c .before .before .kind-of .ensures) (c .enum-told .given .1)

@@ -26,7 +26,13 @@ enum-told : tie.Need-enum-told
 enum-told c = search needs
 
 returns : tie.Need-returns
-returns c = alloc _ _ (c .before .before .before .before .before .before .two .ensures) (c .before .before .before .before .before .two2 .ensures) refl (c .before .before .before .credential .ensures) (c .before .presented .given .1)
+returns c =
+    alloc _ _
+    (c .before .before .before .before .before .before .two .ensures)
+    (c .before .before .before .before .before .two2 .ensures)
+    refl
+    (c .before .before .before .credential .ensures)
+    (c .before .presented .given .1)
 
 returns-2 : tie.Need-returns-2
 unfolding decodeCall

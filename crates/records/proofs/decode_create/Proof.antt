@@ -33,10 +33,22 @@ enum-told-2 : tie.Need-enum-told-2
 enum-told-2 c = search needs
 
 returns-2 : tie.Need-returns-2
-returns-2 c = create-second _ _ (c .before .before .before .before .before .before .credential .ensures) (c .before .before .before .before .before .credential2 .ensures) (c .before .before .before .presented .given .1) (c .enum-told2 .given .1)
+returns-2 c =
+    create-second _ _
+    (c .before .before .before .before .before .before .credential .ensures)
+    (c .before .before .before .before .before .credential2 .ensures)
+    (c .before .before .before .presented .given .1)
+    (c .enum-told2 .given .1)
 
 returns-3 : tie.Need-returns-3
-returns-3 c = create _ _ (c .before .before .before .before .before .before .before .before .before .two .ensures) (c .before .before .before .before .before .before .before .before .two2 .ensures) (c .before .before .before .before .before .before .before .credential .ensures) (c .before .before .before .before .before .before .credential2 .ensures) (c .before .before .before .before .presented .given .1) (c .before .other .given .1)
+returns-3 c =
+    create _ _
+    (c .before .before .before .before .before .before .before .before .before .two .ensures)
+    (c .before .before .before .before .before .before .before .before .two2 .ensures)
+    (c .before .before .before .before .before .before .before .credential .ensures)
+    (c .before .before .before .before .before .before .credential2 .ensures)
+    (c .before .before .before .before .presented .given .1)
+    (c .before .other .given .1)
 
 pub decode-create-spec : {M : Type 1} → statement M
 decode-create-spec =

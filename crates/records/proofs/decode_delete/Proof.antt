@@ -22,7 +22,12 @@ enum-told : tie.Need-enum-told
 enum-told c = search needs
 
 returns : tie.Need-returns
-returns c = delete _ _ (c .before .before .before .before .before .two .ensures) (c .before .before .before .before .two2 .ensures) (c .before .before .before .credential .ensures) (c .before .presented .given .1)
+returns c =
+    delete _ _
+    (c .before .before .before .before .before .two .ensures)
+    (c .before .before .before .before .two2 .ensures)
+    (c .before .before .before .credential .ensures)
+    (c .before .presented .given .1)
 
 returns-2 : tie.Need-returns-2
 unfolding decodeCall

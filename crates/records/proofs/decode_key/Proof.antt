@@ -33,7 +33,12 @@ enum-told-2 : tie.Need-enum-told-2
 enum-told-2 c = search needs
 
 returns-2 : tie.Need-returns-2
-returns-2 c = key-read _ _ (c .before .before .before .before .before .before .before .credential .ensures) (c .before .before .before .before .before .before .new-key .ensures) (c .before .before .before .presented .given .1) (c .enum-told2 .given .1)
+returns-2 c =
+    key-read _ _
+    (c .before .before .before .before .before .before .before .credential .ensures)
+    (c .before .before .before .before .before .before .new-key .ensures)
+    (c .before .before .before .presented .given .1)
+    (c .enum-told2 .given .1)
 
 enum-known-writing : tie.Need-enum-known-writing
 enum-known-writing c = search needs
@@ -42,10 +47,25 @@ enum-told-3 : tie.Need-enum-told-3
 enum-told-3 c = search needs
 
 returns-3 : tie.Need-returns-3
-returns-3 c = key-write _ _ (c .before .before .before .before .before .before .before .before .before .before .credential .ensures) (c .before .before .before .before .before .before .before .before .before .new-key .ensures) (c .before .before .before .before .before .before .before .before .new-key2 .ensures) (c .before .before .before .before .before .before .presented .given .1) (c .before .before .before .reading .given .1) (c .enum-told3 .given .1)
+returns-3 c =
+    key-write _ _
+    (c .before .before .before .before .before .before .before .before .before .before .credential .ensures)
+    (c .before .before .before .before .before .before .before .before .before .new-key .ensures)
+    (c .before .before .before .before .before .before .before .before .new-key2 .ensures)
+    (c .before .before .before .before .before .before .presented .given .1)
+    (c .before .before .before .reading .given .1)
+    (c .enum-told3 .given .1)
 
 returns-4 : tie.Need-returns-4
-returns-4 c = key _ _ (c .before .before .before .before .before .before .before .before .before .before .before .before .two .ensures) (c .before .before .before .before .before .before .before .before .before .before .before .credential .ensures) (c .before .before .before .before .before .before .before .before .before .before .new-key .ensures) (c .before .before .before .before .before .before .before .before .before .new-key2 .ensures) (c .before .before .before .before .before .before .before .presented .given .1) (c .before .before .before .before .reading .given .1) (c .before .writing .given .1)
+returns-4 c =
+    key _ _
+    (c .before .before .before .before .before .before .before .before .before .before .before .before .two .ensures)
+    (c .before .before .before .before .before .before .before .before .before .before .before .credential .ensures)
+    (c .before .before .before .before .before .before .before .before .before .before .new-key .ensures)
+    (c .before .before .before .before .before .before .before .before .before .new-key2 .ensures)
+    (c .before .before .before .before .before .before .before .presented .given .1)
+    (c .before .before .before .before .reading .given .1)
+    (c .before .writing .given .1)
 
 pub decode-key-spec : {M : Type 1} → statement M
 decode-key-spec =

@@ -22,7 +22,12 @@ four-requires : tie.Need-four-requires
 four-requires c κs = search needs
 
 returns : tie.Need-returns
-returns c = renew _ _ refl (c .before .before .before .two .ensures) (c .before .before .eight .ensures) (c .before .eight2 .ensures) (c .four .ensures)
+returns c =
+    renew _ _ refl
+    (c .before .before .before .two .ensures)
+    (c .before .before .eight .ensures)
+    (c .before .eight2 .ensures)
+    (c .four .ensures)
 
 pub decode-renew-spec : {M : Type 1} → statement M
 decode-renew-spec =

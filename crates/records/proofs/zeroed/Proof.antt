@@ -22,7 +22,11 @@ shared-slice-read-if1 : tie.Need-shared-slice-read-if1 Inv-loop μ-loop
 shared-slice-read-if1 c = omega arith
 
 returns : tie.Need-returns Inv-loop μ-loop
-returns c = let a = c .before .before .before .before .args in filler-fault (a .bytes .now) (a .at) (c .before .before .loop-test .taken) (c .if1 .taken)
+returns c =
+    let a = c .before .before .before .before .args in
+    filler-fault (a .bytes .now) (a .at)
+    (c .before .before .loop-test .taken)
+    (c .if1 .taken)
 
 add-i : tie.Need-add-i Inv-loop μ-loop
 add-i c = omega arith

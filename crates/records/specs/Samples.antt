@@ -1,0 +1,65 @@
+-- Records in bytes, and what the rules decode them to: rows of one table, shown by one proof that is computed.
+-- Assumes nothing.
+use Prim.Native.Nat.{ℕ}
+use mathlib.Core.Path.{_≡_, refl}
+use mathlib.Core.List.{List, [], _∷_, _++_, map}
+use lib.ListN.{replicate}
+use Rattle.card.specs.declared.Port.the-variants.{Host, Service}
+use Rattle.card.specs.declared.Credential.the-variants.{Nothing, Reference, Key as KeyCredential}
+use Rattle.card.specs.declared.NewKey.the-variants.{Absent, Present}
+use Rattle.card.specs.declared.Call.the-variants.{Read, Alloc, Create, Key, Renew, Free, Tick}
+use Rattle.records.specs.Bytes.{number, zeroed}
+use Rattle.records.specs.Kinds.{row, dataLength, names, kindNumber, lengthOf, operandsLength, among, kindOf}
+use Rattle.records.specs.Decode.{credential, newKey, withCredential, createWith, keyWith, decodeCall, decodeKnown, decodeBody, nameOf, dataOf, Next, ended, refused, sent, nextOf, decode}
+
+infix 20 _gives_
+-- An input, and what it starts with.
+pub data Sample : Type 0 where
+  _gives_ : List ℕ → Next → Sample
+
+abbrev pub input : Sample → List ℕ
+input (xs gives next) = xs
+
+abbrev pub next : Sample → Next
+next (xs gives n) = n
+
+-- Sixteen bytes: zeros, the number 5 and 14 zeros, and a key of the words 1 and 2.
+abbrev zeros16 : List ℕ
+zeros16 = replicate 16 0
+
+abbrev five : List ℕ
+five = 0 ∷ 5 ∷ replicate 14 0
+
+abbrev keyBytes : List ℕ
+keyBytes = replicate 7 0 ++ (1 ∷ (replicate 7 0 ++ (2 ∷ [])))
+
+unfoldable pub table : List Sample
+table =
+    ([] gives ended)
+    -- another kind: 0, 12, and FREE at the service port
+    ∷ (0 ∷ [] gives refused)
+    ∷ (12 ∷ replicate 60 0 gives refused)
+    ∷ (137 ∷ [] gives refused)
+    ∷ (9 ∷ 7 ∷ [] gives sent Host Free [] (7 ∷ []))
+    -- READ 258 by reference 5, interval 16,909,060; the same one byte short, with filler, and with a wrong first byte
+    ∷ (1 ∷ 1 ∷ 2 ∷ 1 ∷ (five ++ (1 ∷ 2 ∷ 3 ∷ 4 ∷ 9 ∷ [])) gives sent Host (Read (record { block = 258; credential = Reference 5; interval = 16909060 })) [] (9 ∷ []))
+    ∷ (1 ∷ 1 ∷ 2 ∷ 1 ∷ (five ++ (1 ∷ 2 ∷ 3 ∷ [])) gives refused)
+    ∷ (1 ∷ 1 ∷ 2 ∷ 1 ∷ 0 ∷ 5 ∷ (replicate 13 0 ++ (1 ∷ 1 ∷ 2 ∷ 3 ∷ 4 ∷ [])) gives refused)
+    ∷ (1 ∷ 1 ∷ 2 ∷ 3 ∷ (five ++ (1 ∷ 2 ∷ 3 ∷ 4 ∷ [])) gives refused)
+    -- ALLOC at 0 by nothing, no hint, count 2
+    ∷ (131 ∷ 0 ∷ 0 ∷ 0 ∷ (zeros16 ++ (255 ∷ 255 ∷ 2 ∷ [])) gives sent Service (Alloc (record { reference = 0; credential = Nothing; hint = 65535; count = 2 })) [] [])
+    -- CREATE 3 to 4 by a key and a reference
+    ∷ (4 ∷ 0 ∷ 3 ∷ 2 ∷ (keyBytes ++ (0 ∷ 4 ∷ 1 ∷ five)) gives sent Host (Create (record { source = 3; credential = KeyCredential 1 2; destination = 4; second = Reference 5 })) [] [])
+    -- KEY of 1 with a write key only; a new key with a wrong first byte, and an absent one with filler
+    ∷ (134 ∷ 0 ∷ 1 ∷ 0 ∷ (zeros16 ++ (0 ∷ (zeros16 ++ (1 ∷ keyBytes)))) gives sent Service (Key (record { block = 1; credential = Nothing; read = Absent; write = Present 1 2 })) [] [])
+    ∷ (134 ∷ 0 ∷ 1 ∷ 0 ∷ (zeros16 ++ (0 ∷ (zeros16 ++ (2 ∷ keyBytes)))) gives refused)
+    ∷ (134 ∷ 0 ∷ 1 ∷ 0 ∷ (zeros16 ++ (0 ∷ (keyBytes ++ (1 ∷ keyBytes)))) gives refused)
+    -- RENEW of 7's write window for 10 seconds; TICK 10
+    ∷ (7 ∷ 1 ∷ 0 ∷ 7 ∷ (keyBytes ++ (0 ∷ 0 ∷ 0 ∷ 10 ∷ [])) gives sent Host (Renew (record { mode = 1; block = 7; high = 1; low = 2; interval = 10 })) [] [])
+    ∷ (10 ∷ 0 ∷ 0 ∷ 0 ∷ 0 ∷ 0 ∷ 0 ∷ 0 ∷ 10 ∷ [] gives sent Host (Tick (record { seconds = 10 })) [] [])
+    ∷ []
+
+-- Each input starts with just what is expected.
+pub samples : map (λ s. decode (input s)) table ≡ map next table
+unfolding table number zeroed row dataLength names kindNumber lengthOf operandsLength among kindOf credential newKey withCredential createWith keyWith decodeCall decodeKnown decodeBody nameOf dataOf nextOf decode
+samples = refl
