@@ -16,7 +16,7 @@ use Rattle.card.specs.declared.Answer.the-variants.{Refused, Done, Value}
 use Rattle.card.specs.declared.Call.{Call}
 use Rattle.lines.specs.declared.Shown.{Shown}
 use Rattle.lines.specs.declared.Shown.the-variants.{Nothing, Bytes, Blocks}
-use Rattle.lines.specs.Lines.{space, newline, decimal, spaced, line, lastLine}
+use Rattle.lines.specs.Lines.{space, newline, decimal, spaced, line, lineRoom, lastLine}
 use Rattle.lines.specs.LinesLaws.{decimal-length, spaced-one, spaced-length, spaced-append}
 use Rattle.lines.specs.Replied.{Lent, shownBy, valuesOf, replied, values-shown}
 use Rattle.lines.specs.Written.{Written, written-join, written-length}
@@ -134,6 +134,14 @@ module _ (ordinal kind : ℕ) (call : Call) (answer : Answer) (out places : List
   -- Room for the newline.
   pub room-last : {before after : List ℕ} {at behind : ℕ} → Written before at answer-bytes after behind → at + 1386 + 1 ≤ length before → behind + 1 ≤ length after
   room-last w h = room-behind 1386 1 w answer-short h
+
+  -- No line is longer than the room that is kept for it.
+  pub line-short : length (line ordinal kind call (replied answer out places)) ≤ lineRoom
+  unfolding line
+  line-short =
+      rw spaced-cons
+      (omega
+      (arith, length-append (decimal ordinal) (((space ∷ decimal kind) ++ answer-bytes) ++ (newline ∷ [])), length-append ((space ∷ decimal kind) ++ answer-bytes) (newline ∷ []), length-append (space ∷ decimal kind) answer-bytes, decimal-length ordinal, spaced-one kind, answer-short))
 
   pub line-written : {before one two three after : List ℕ} {at next behind last end : ℕ} → at + 2048 ≤ length before → Written before at (decimal ordinal) one next
       → Written one next (space ∷ decimal kind) two behind → Written two behind answer-bytes three last → Written three last (newline ∷ []) after end

@@ -1,0 +1,89 @@
+-- `player::find` meets its contract. Assumes nothing.
+use native.Mathlib.Omega.{arith}
+use Rattle.player.specs.FoundLaws.{operands-most, found-ended, found-unknown, found-short, found-bad, found-whole}
+use borrow.Author.Needs.{needs}
+use Rattle.player.proofs.find.Statement.{statement}
+use Rattle.player.proofs.find.Tie as tie
+
+returns : tie.Need-returns
+returns c = found-ended (c .before .before .args .input .now) (c .before .before .args .from) (c .if1 .taken)
+
+shared-slice-read-kind : tie.Need-shared-slice-read-kind
+shared-slice-read-kind c = search needs
+
+add-start : tie.Need-add-start
+add-start c = search needs
+
+sub-body : tie.Need-sub-body
+sub-body c = search needs
+
+part-body-start : tie.Need-part-body-start
+part-body-start c = search needs
+
+part-body-end : tie.Need-part-body-end
+part-body-end c = search needs
+
+body-length-requires : tie.Need-body-length-requires
+body-length-requires c κs = search needs
+
+enum-known-length : tie.Need-enum-known-length
+enum-known-length c = search needs
+
+enum-told : tie.Need-enum-told
+enum-told c = search needs
+
+returns-2 : tie.Need-returns-2
+returns-2 c = found-unknown (c .before .before .before .before .before .before .before .args .input .now) (c .before .before .before .before .before .before .before .args .from) (omega arith) (c .before .before .body-length .ensures) (c .enum-told .given .1)
+
+returns-3 : tie.Need-returns-3
+returns-3 c = found-short (c .before .before .before .before .before .before .before .before .before .args .input .now) (c .before .before .before .before .before .before .before .before .before .args .from) (omega arith) (c .before .before .before .before .body-length .ensures) (c .before .before .length .given .1) (c .if2 .taken)
+
+decode-requires : tie.Need-decode-requires
+decode-requires c κs = search needs
+
+enum-told-2 : tie.Need-enum-told-2
+enum-told-2 c = search needs
+
+enum-known-port : tie.Need-enum-known-port
+enum-known-port c = search needs
+
+operands-requires : tie.Need-operands-requires
+operands-requires c κs = search needs
+
+add-t23 : tie.Need-add-t23
+add-t23 c = omega (arith, c .operands .ensures, operands-most (c .before .before .before .before .before .before .before .length .given .0 .0), c .before .before .before .before .before .if2 .left)
+
+add-t24 : tie.Need-add-t24
+add-t24 c = search needs
+
+returns-4 : tie.Need-returns-4
+returns-4 c = found-bad (c .before .before .before .before .before .before .before .before .before .before .before .before .args .input .now) (c .before .before .before .before .before .before .before .before .before .before .before .before .args .from) (omega arith) (c .before .before .before .before .before .before .before .body-length .ensures) (c .before .before .before .before .before .length .given .1) (c .before .before .before .if2 .left) (c .before .before .decode .ensures) (c .enum-told2 .given .1)
+
+returns-5 : tie.Need-returns-5
+returns-5 c =
+    rw (c .operands .ensures)
+    (found-whole (c .before .before .before .before .before .before .before .before .before .before .before .before .before .before .args .input .now) (c .before .before .before .before .before .before .before .before .before .before .before .before .before .before .args .from) (omega arith) (c .before .before .before .before .before .before .before .before .before .body-length .ensures) (c .before .before .before .before .before .before .before .length .given .1) (c .before .before .before .before .before .if2 .left) (c .before .before .before .before .decode .ensures) (c .before .before .port .given .1))
+
+pub find-spec : {M : Type 1} → statement M
+find-spec =
+    tie.close
+    (tie.spec
+    returns
+    shared-slice-read-kind
+    add-start
+    sub-body
+    part-body-start
+    part-body-end
+    body-length-requires
+    enum-known-length
+    enum-told
+    returns-2
+    returns-3
+    decode-requires
+    enum-told-2
+    enum-known-port
+    operands-requires
+    add-t23
+    add-t24
+    returns-4
+    returns-5)

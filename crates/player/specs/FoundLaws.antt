@@ -1,0 +1,156 @@
+-- Laws of a record found in an input: from what the code finds to what the rules decode.
+-- Assumes nothing.
+use Prim.Native.Nat.{ℕ, zero, suc, _+_, _-_, _≤_, _<_}
+use mathlib.Core.Path.{_≡_, refl, sym, ap, ap₂, _∙_, subst}
+use mathlib.Core.Bool.{Bool, true, false, cond}
+use mathlib.Core.List.{List, [], _∷_}
+use native.Mathlib.Omega.{arith}
+use native.Mathlib.Numerals.{add-one}
+use lib.Dec.{eqb, ltb}
+use lib.ListN.{length, take, drop, getD, length-drop}
+use lib.Seq.{take-all, drop-cons, drop-drop, drop-length}
+use borrow.Author.Tests.{lt-ltb, le-ltb, lt-leb, eqb-true}
+use mathlib.Core.Logic.{⊎-elim}
+use Rattle.card.specs.ListsLaws.{not-cases}
+use Rattle.card.specs.declared.Port.{Port}
+use Rattle.card.specs.declared.Call.{Call}
+use Rattle.records.specs.Kinds.{row, lengthOf, dataLength, operandsLength, kindOf, kindLength, bodyLength}
+use Rattle.records.specs.Decode.{Next, ended, refused, sent, decodeKnown, decodeBody, nameOf, dataOf, nextOf, decode}
+use Rattle.records.specs.DecodeLaws.{OfKind, decoded-kind}
+use Rattle.records.specs.declared.Name.{Name}
+use Rattle.records.specs.declared.Name.the-variants.{Read as READ, Write as WRITE, Alloc as ALLOC, Create as CREATE, Delete as DELETE, Key as KEY, Renew as RENEW, Force as FORCE, Free as FREE, Tick as TICK, Audit as AUDIT}
+use Rattle.records.specs.declared.Kind.{Kind}
+use Rattle.records.specs.declared.Kind.the-variants.{Known, Unknown}
+use Rattle.records.specs.declared.Length.{Length}
+use Rattle.records.specs.declared.Length.the-variants.{Bytes, Unknown as UnknownLength}
+use Rattle.records.specs.declared.Decoding.{Decoding}
+use Rattle.records.specs.declared.Decoding.the-variants.{Decoded, Bad}
+use Rattle.player.specs.Play.{isShort, fault}
+use Rattle.player.specs.Found.{operandsWithin, WholeIs, NothingIs}
+use Rattle.player.specs.declared.Stop.{Stop}
+use Rattle.player.specs.declared.Stop.the-variants.{Short, Refused}
+use Rattle.player.specs.declared.Record.{Record}
+
+-- ---- a body's operands and data
+
+operands-right : (name : Name) → operandsLength name ≡ operandsWithin (lengthOf name)
+unfolding operandsLength lengthOf dataLength row
+operands-right READ = refl
+operands-right WRITE = refl
+operands-right ALLOC = refl
+operands-right CREATE = refl
+operands-right DELETE = refl
+operands-right KEY = refl
+operands-right RENEW = refl
+operands-right FORCE = refl
+operands-right FREE = refl
+operands-right TICK = refl
+operands-right AUDIT = refl
+
+data-right : (name : Name) → dataLength name ≡ lengthOf name - operandsWithin (lengthOf name)
+unfolding lengthOf dataLength row
+data-right READ = refl
+data-right WRITE = refl
+data-right ALLOC = refl
+data-right CREATE = refl
+data-right DELETE = refl
+data-right KEY = refl
+data-right RENEW = refl
+data-right FORCE = refl
+data-right FREE = refl
+data-right TICK = refl
+data-right AUDIT = refl
+
+pub operands-most : (n : ℕ) → operandsWithin n ≤ n
+operands-most n = ⊎-elim (λ (e : eqb n 535 ≡ true). rw e (omega (arith, eqb-true n 535 e))) (λ (e : eqb n 535 ≡ false). rw e (omega arith)) (not-cases (eqb n 535))
+
+-- ---- where the input is at its end
+
+pub found-ended : (input : List ℕ) (from : ℕ) → from ≡ length input → decode (drop from input) ≡ ended
+unfolding decode
+found-ended input from e = rw (e, drop-length input)
+
+-- ---- where a record starts
+
+unknown-kind : (k : Kind) (xs : List ℕ) → kindLength k ≡ UnknownLength → decodeKnown k xs ≡ Bad
+unfolding kindLength decodeKnown
+unknown-kind (Known port name) xs e = let z : _≡_ {A = ℕ} 0 1 = cc in absurd (omega arith)
+unknown-kind Unknown xs e = refl
+
+short-kind : (k : Kind) (xs : List ℕ) (n : ℕ) → kindLength k ≡ Bytes n → length xs < n → decodeKnown k xs ≡ Bad
+unfolding kindLength decodeKnown
+short-kind (Known port name) xs n e h =
+    let same : lengthOf name ≡ n = cc in
+    rw (lt-leb (lengthOf name) (length xs) (omega arith))
+short-kind Unknown xs n e h = refl
+
+module _ (input : List ℕ) (from : ℕ) (h : from < length input) where
+  -- The bytes behind the kind, as the code has them.
+  abbrev body : List ℕ
+  body = take (length input - (from + 1)) (drop (from + 1) input)
+
+  abbrev kind : ℕ
+  kind = getD input from 0
+
+  body-whole : body ≡ drop (from + 1) input
+  body-whole = take-all (length input - (from + 1)) (drop (from + 1) input) (omega (arith, length-drop (from + 1) input))
+
+  body-length : length body ≡ length input - (from + 1)
+  body-length = ap length body-whole ∙ length-drop (from + 1) input
+
+  pub starts : drop from input ≡ kind ∷ body
+  starts = drop-cons input from 0 h ∙ ap (λ (n : ℕ). kind ∷ drop n input) (sym (add-one from)) ∙ ap (λ (xs : List ℕ). kind ∷ xs) (sym body-whole)
+
+  decodes-next : decode (drop from input) ≡ nextOf body (decodeBody kind body)
+  unfolding decode
+  decodes-next = rw starts
+
+  fault-here : fault (drop from input) ≡ cond (isShort (bodyLength kind) (length body)) Short Refused
+  unfolding fault
+  fault-here = rw starts
+
+  pub found-unknown : {l : Length} → l ≡ bodyLength kind → l ≡ UnknownLength → NothingIs (drop from input) Refused
+  unfolding nextOf decodeBody bodyLength isShort
+  found-unknown e u =
+      (decodes-next ∙ ap (nextOf body) (unknown-kind (kindOf kind) body (sym e ∙ u)), fault-here ∙ ap (λ (l : Length). cond (isShort l (length body)) Short Refused) (sym e ∙ u))
+
+  pub found-short : {l : Length} {n : ℕ} → l ≡ bodyLength kind → l ≡ Bytes n → length body < n → NothingIs (drop from input) Short
+  unfolding nextOf decodeBody bodyLength isShort
+  found-short {n = n} e u s = (
+    decodes-next ∙ ap (nextOf body) (short-kind (kindOf kind) body n (sym e ∙ u) s),
+    fault-here ∙ ap (λ (l : Length). cond (isShort l (length body)) Short Refused) (sym e ∙ u) ∙ ap (λ (t : Bool). cond t Short Refused) (lt-ltb (length body) n s),
+  )
+
+  pub found-bad : {l : Length} {n : ℕ} {d : Decoding} → l ≡ bodyLength kind → l ≡ Bytes n → n ≤ length body → d ≡ decodeBody kind body → d ≡ Bad → NothingIs (drop from input) Refused
+  unfolding nextOf isShort
+  found-bad {n = n} e u s d b = (
+    decodes-next ∙ ap (nextOf body) (sym d ∙ b),
+    fault-here ∙ ap (λ (l : Length). cond (isShort l (length body)) Short Refused) (sym e ∙ u) ∙ ap (λ (t : Bool). cond t Short Refused) (le-ltb (length body) n s),
+  )
+
+  pub found-whole : {l : Length} {n : ℕ} {d : Decoding} {port : Port} {call : Call} → l ≡ bodyLength kind → l ≡ Bytes n → n ≤ length body → d ≡ decodeBody kind body → d ≡ Decoded port call
+      → WholeIs input from (record { kind = kind; port = port; call = call; payload = from + 1 + operandsWithin n; next = from + 1 + n })
+  unfolding nextOf dataOf bodyLength kindLength
+  found-whole {l} {n} {d} {port} {call} e u s q r =
+      let k = decoded-kind kind body port call (sym r ∙ q) in
+      let same : n ≡ lengthOf (nameOf call) = length-is n (lengthOf (nameOf call)) (sym u ∙ e ∙ ap kindLength (k .kind)) in
+      let size : dataLength (nameOf call) ≡ from + 1 + n - (from + 1 + operandsWithin n) =
+      data-right (nameOf call) ∙ sym (ap (λ (m : ℕ). m - operandsWithin m) same) ∙ shift n (operandsWithin n) in
+      let payload-is : take (dataLength (nameOf call)) (drop (operandsLength (nameOf call)) body) ≡ take (from + 1 + n - (from + 1 + operandsWithin n)) (drop (from + 1 + operandsWithin n) input) =
+      ap₂ (λ (m : ℕ) (ys : List ℕ). take m ys)
+      size
+      (ap₂ (λ (m : ℕ) (ys : List ℕ). drop m ys) (operands-right (nameOf call) ∙ ap operandsWithin (sym same)) body-whole ∙ drop-drop (operandsWithin n) (from + 1) input) in
+      let rest-is : drop (lengthOf (nameOf call)) body ≡ drop (from + 1 + n) input =
+      ap₂ (λ (m : ℕ) (ys : List ℕ). drop m ys) (sym same) body-whole ∙ drop-drop n (from + 1) input in
+      record {
+        decodes = decodes-next ∙ ap (nextOf body) (sym q ∙ r) ∙ ap₂ (sent port call) payload-is rest-is;
+        hasKind = rw starts;
+        payloadWithin = omega (arith, operands-most n);
+        nextWithin = omega (arith, body-length);
+      }
+    where
+      shift : (a b : ℕ) → a - b ≡ from + 1 + a - (from + 1 + b)
+      shift a b = omega arith
+
+      length-is : (a b : ℕ) → Bytes a ≡ Bytes b → a ≡ b
+      length-is a b p = cc

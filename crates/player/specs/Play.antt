@@ -1,0 +1,97 @@
+-- Document 01, "Call records and the player": the lines of an input, and the card that it leaves.
+use Prim.Native.Nat.{ℕ, zero, suc, _+_, _-_}
+use mathlib.Core.Bool.{Bool, true, false, cond}
+use mathlib.Core.List.{List, [], _∷_, _++_}
+use lib.Dec.{ltb}
+use lib.ListN.{length, getD}
+use Rattle.card.specs.Contents.{zeros}
+use Rattle.card.specs.Card.{Card}
+use Rattle.card.specs.Plan.{Result}
+use Rattle.card.specs.Session.{request, perform, reply}
+use Rattle.card.specs.declared.Port.{Port}
+use Rattle.card.specs.declared.Call.{Call}
+use Rattle.records.specs.Decode.{Next, ended, refused, sent, decode}
+use Rattle.records.specs.Kinds.{bodyLength}
+use Rattle.records.specs.declared.Length.{Length}
+use Rattle.records.specs.declared.Length.the-variants.{Bytes, Unknown}
+use Rattle.lines.specs.Lines.{line, lineRoom, lastLine}
+use Rattle.player.specs.declared.Stop.{Stop}
+use Rattle.player.specs.declared.Stop.the-variants.{Went, Ended, Short, Refused, Full}
+
+-- ---- one record
+
+-- "It lends READ 512 bytes and ALLOC 64 places."
+unfoldable pub played : Port → Card → Call → List ℕ → Result
+played port c call payload = perform port c (request call payload (zeros 512) (zeros 64))
+
+-- What an input's first record leads to: its line, the card after it and the input that is left, or why nothing was played.
+pub record Turn : Type 0 where
+  pub stop : Stop
+  pub lines : List ℕ
+  pub after : Card
+  pub left : List ℕ
+
+abbrev pub halted : Stop → Card → List ℕ → Turn
+halted stop c xs = record { stop = stop; lines = []; after = c; left = xs }
+
+-- The bytes of a body are fewer than its kind fixes.
+unfoldable pub isShort : Length → ℕ → Bool
+isShort (Bytes n) size = ltb size n
+isShort Unknown size = false
+
+-- Why an input that starts with no whole record is refused 13: it ends within the record, or the record is wrong.
+unfoldable pub fault : List ℕ → Stop
+fault [] = Refused
+fault (kind ∷ xs) = cond (isShort (bodyLength kind) (length xs)) Short Refused
+
+unfoldable pub turnOf : ℕ → Card → List ℕ → Next → Turn
+turnOf ordinal c xs ended = halted Ended c xs
+turnOf ordinal c xs refused = halted (fault xs) c xs
+turnOf ordinal c xs (sent port call payload rest) =
+    let r = played port c call payload in
+    record { stop = Went; lines = line ordinal (getD xs 0 0) call (reply r); after = r .after; left = rest }
+
+unfoldable pub turn : ℕ → Card → List ℕ → Turn
+turn ordinal c xs = turnOf ordinal c xs (decode xs)
+
+-- ---- an input
+
+-- The lines of an input, how many records were played, the card after them, what is left of the input, and why.
+pub record Play : Type 0 where
+  pub stop : Stop
+  pub lines : List ℕ
+  pub records : ℕ
+  pub after : Card
+  pub left : List ℕ
+
+-- What one turn and, where it went, the rest of the play come to.
+unfoldable pub goOn : Stop → Turn → ℕ → (ℕ → Card → List ℕ → ℕ → Play) → ℕ → Play
+goOn Went t records rest room =
+    let p = rest (records + 1) (t .after) (t .left) (room - length (t .lines)) in
+    record { stop = p .stop; lines = t .lines ++ p .lines; records = p .records; after = p .after; left = p .left }
+goOn Ended t records rest room = record { stop = Ended; lines = []; records = records; after = t .after; left = t .left }
+goOn Short t records rest room = record { stop = Short; lines = []; records = records; after = t .after; left = t .left }
+goOn Refused t records rest room = record { stop = Refused; lines = []; records = records; after = t .after; left = t .left }
+goOn Full t records rest room = record { stop = Full; lines = []; records = records; after = t .after; left = t .left }
+
+-- Record after record, while there is room for a line. Each record takes a byte of the input at least, so that it has at most as many.
+unfoldable pub playWithin : ℕ → ℕ → Card → List ℕ → ℕ → Play
+playWithin zero records c xs room = record { stop = Full; lines = []; records = records; after = c; left = xs }
+playWithin (suc most) records c xs room =
+    let t = cond (ltb room lineRoom) (halted Full c xs) (turn (records + 1) c xs) in
+    goOn (t .stop) t records (playWithin most) room
+
+unfoldable pub play : ℕ → Card → List ℕ → ℕ → Play
+play records c xs room = playWithin (suc (length xs)) records c xs room
+
+-- The number of the last line: 0 at the end of the input, else 13.
+abbrev pub endNumber : Stop → ℕ
+endNumber Went = 13
+endNumber Ended = 0
+endNumber Short = 13
+endNumber Refused = 13
+endNumber Full = 13
+
+-- The whole of what a player writes of an input that it has room for.
+unfoldable pub transcript : Card → List ℕ → ℕ → List ℕ
+transcript c xs room = let p = play 0 c xs room in p .lines ++ lastLine (p .records) (endNumber (p .stop))

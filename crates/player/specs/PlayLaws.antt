@@ -1,0 +1,135 @@
+-- Laws of playing an input: record after record, whatever bounds their number.
+-- Assumes nothing.
+use Prim.Native.Nat.{ℕ, zero, suc, _+_, _-_, _≤_, _<_}
+use mathlib.Core.Path.{_≡_, refl, sym, ap, ap₂, _∙_, subst}
+use mathlib.Core.Bool.{Bool, true, false, cond}
+use mathlib.Core.List.{List, [], _∷_, _++_, append-assoc, append-nil}
+use native.Mathlib.Omega.{arith}
+use lib.Dec.{ltb}
+use lib.ListN.{length, take, drop, getD, length-append}
+use borrow.Author.Tests.{lt-ltb, le-ltb, ltb-true, ltb-false}
+use Rattle.card.specs.Card.{Card}
+use Rattle.card.specs.ListsLaws.{not-cases}
+use Rattle.records.specs.Decode.{Next, ended, refused, sent, decode}
+use Rattle.records.specs.Kinds.{bodyLength}
+use Rattle.records.specs.DecodeLaws.{decode-shorter}
+use Rattle.lines.specs.Lines.{lineRoom}
+use Rattle.player.specs.Play.{isShort, fault, Turn, halted, turnOf, turn, Play, goOn, playWithin, play}
+use Rattle.player.specs.declared.Stop.{Stop}
+use Rattle.player.specs.declared.Stop.the-variants.{Went, Ended, Short, Refused, Full}
+
+-- ---- a turn that went leaves less of the input
+
+-- A fault is no turn that went.
+apart-short : Short ≡ Went → ⊥
+apart-short e = let z : _≡_ {A = ℕ} 0 1 = cc in omega arith
+
+apart-refused : Refused ≡ Went → ⊥
+apart-refused e = let z : _≡_ {A = ℕ} 0 1 = cc in omega arith
+
+pub fault-stops : (xs : List ℕ) → fault xs ≡ Went → ⊥
+unfolding fault
+fault-stops [] e = apart-refused e
+fault-stops (kind ∷ xs) e = go (isShort (bodyLength kind) (length xs)) e
+  where
+    go : (t : Bool) → cond t Short Refused ≡ Went → ⊥
+    go true h = apart-short h
+    go false h = apart-refused h
+
+next-left : (ordinal : ℕ) (c : Card) (xs : List ℕ) (n : Next) → decode xs ≡ n → turnOf ordinal c xs n .stop ≡ Went → length (turnOf ordinal c xs n .left) < length xs
+unfolding turnOf
+next-left ordinal c xs ended e w = let z : _≡_ {A = ℕ} 0 1 = cc in absurd (omega arith)
+next-left ordinal c xs refused e w = absurd (fault-stops xs w)
+next-left ordinal c xs (sent port call payload rest) e w = decode-shorter xs e
+
+pub turn-left : (ordinal : ℕ) (c : Card) (xs : List ℕ) → turn ordinal c xs .stop ≡ Went → length (turn ordinal c xs .left) < length xs
+unfolding turn
+turn-left ordinal c xs w = next-left ordinal c xs (decode xs) refl w
+
+-- ---- however many turns are allowed
+
+-- The turn that is tried where there is room for a line.
+abbrev tried : Bool → ℕ → Card → List ℕ → Turn
+tried full records c xs = cond full (halted Full c xs) (turn (records + 1) c xs)
+
+tried-left : (full : Bool) (records : ℕ) (c : Card) (xs : List ℕ) → tried full records c xs .stop ≡ Went → length (tried full records c xs .left) < length xs
+tried-left true records c xs w = let z : _≡_ {A = ℕ} 0 1 = cc in absurd (omega arith)
+tried-left false records c xs w = turn-left (records + 1) c xs w
+
+-- Where the rest of the play is the same, so is the play.
+goOn-same : (stop : Stop) (t : Turn) → t .stop ≡ stop → (records room : ℕ) (f g : ℕ → Card → List ℕ → ℕ → Play)
+    → (t .stop ≡ Went → f (records + 1) (t .after) (t .left) (room - length (t .lines)) ≡ g (records + 1) (t .after) (t .left) (room - length (t .lines)))
+    → goOn stop t records f room ≡ goOn stop t records g room
+unfolding goOn
+goOn-same Went t e records room f g h =
+    ap (λ (p : Play). record { stop = p .stop; lines = t .lines ++ p .lines; records = p .records; after = p .after; left = p .left }) (h e)
+goOn-same Ended t e records room f g h = refl
+goOn-same Short t e records room f g h = refl
+goOn-same Refused t e records room f g h = refl
+goOn-same Full t e records room f g h = refl
+
+within-same : (k m : ℕ) (records : ℕ) (c : Card) (xs : List ℕ) (room : ℕ) → length xs ≤ k → length xs ≤ m → playWithin (suc k) records c xs room ≡ playWithin (suc m) records c xs room
+unfolding playWithin
+within-same zero m records c xs room hk hm =
+    let t = tried (ltb room lineRoom) records c xs in
+    goOn-same (t .stop) t refl records room (playWithin zero) (playWithin m) (λ w. absurd (omega (arith, tried-left (ltb room lineRoom) records c xs w)))
+within-same (suc k) zero records c xs room hk hm =
+    let t = tried (ltb room lineRoom) records c xs in
+    goOn-same (t .stop) t refl records room (playWithin (suc k)) (playWithin zero) (λ w. absurd (omega (arith, tried-left (ltb room lineRoom) records c xs w)))
+within-same (suc k) (suc m) records c xs room hk hm =
+    let t = tried (ltb room lineRoom) records c xs in
+    goOn-same (t .stop) t refl records room (playWithin (suc k)) (playWithin (suc m))
+    (λ w.
+    within-same k m (records + 1) (t .after) (t .left) (room - length (t .lines)) (omega (arith, tried-left (ltb room lineRoom) records c xs w))
+    (omega (arith, tried-left (ltb room lineRoom) records c xs w)))
+
+-- ---- a play, turn by turn
+
+-- A play with lines before it.
+abbrev pub behind : List ℕ → Play → Play
+behind lines p = record { stop = p .stop; lines = lines ++ p .lines; records = p .records; after = p .after; left = p .left }
+
+-- A play that stops at once.
+abbrev pub stopped : Stop → ℕ → Card → List ℕ → Play
+stopped stop records c xs = record { stop = stop; lines = []; records = records; after = c; left = xs }
+
+play-tried : (full : Bool) (records : ℕ) (c : Card) (xs : List ℕ) (room : ℕ) → ltb room lineRoom ≡ full
+    → play records c xs room ≡ goOn (tried full records c xs .stop) (tried full records c xs) records (playWithin (length xs)) room
+unfolding play playWithin
+play-tried full records c xs room e = rw e
+
+pub play-full : (records : ℕ) (c : Card) (xs : List ℕ) (room : ℕ) → room < lineRoom → play records c xs room ≡ stopped Full records c xs
+unfolding goOn
+play-full records c xs room h = play-tried true records c xs room (lt-ltb room lineRoom h)
+
+module _ (records : ℕ) (c : Card) (xs : List ℕ) (room : ℕ) (h : lineRoom ≤ room) where
+  abbrev one : Turn
+  one = turn (records + 1) c xs
+
+  -- The play goes on behind the turn's line.
+  pub play-went : one .stop ≡ Went → play records c xs room ≡ behind (one .lines) (play (records + 1) (one .after) (one .left) (room - length (one .lines)))
+  unfolding goOn play
+  play-went w =
+      play-tried false records c xs room (le-ltb room lineRoom h)
+      ∙ ap (λ (s : Stop). goOn s one records (playWithin (length xs)) room) w
+      ∙ ap (behind (one .lines)) (shorter (length xs) (turn-left (records + 1) c xs w))
+    where
+      shorter : (k : ℕ) → length (one .left) < k
+          → playWithin k (records + 1) (one .after) (one .left) (room - length (one .lines)) ≡ playWithin (suc (length (one .left))) (records + 1) (one .after) (one .left) (room - length (one .lines))
+      shorter zero l = absurd (omega arith)
+      shorter (suc k) l = within-same k (length (one .left)) (records + 1) (one .after) (one .left) (room - length (one .lines)) (omega arith) (omega arith)
+
+  -- The play stops with the turn.
+  pub play-stopped : (stop : Stop) → (stop ≡ Went → ⊥) → one .stop ≡ stop → one .after ≡ c → one .left ≡ xs → play records c xs room ≡ stopped stop records c xs
+  unfolding goOn
+  play-stopped stop n e a l =
+      play-tried false records c xs room (le-ltb room lineRoom h)
+      ∙ ap (λ (s : Stop). goOn s one records (playWithin (length xs)) room) e
+      ∙ halts stop n
+    where
+      halts : (s : Stop) → (s ≡ Went → ⊥) → goOn s one records (playWithin (length xs)) room ≡ stopped s records c xs
+      halts Went n = absurd (n refl)
+      halts Ended n = ap₂ (λ (d : Card) (ys : List ℕ). stopped Ended records d ys) a l
+      halts Short n = ap₂ (λ (d : Card) (ys : List ℕ). stopped Short records d ys) a l
+      halts Refused n = ap₂ (λ (d : Card) (ys : List ℕ). stopped Refused records d ys) a l
+      halts Full n = ap₂ (λ (d : Card) (ys : List ℕ). stopped Full records d ys) a l
