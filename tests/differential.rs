@@ -214,12 +214,29 @@ fn damage(rnd: &mut Random, card: &mut Card, which: usize) -> bool {
         card.pointers[at] = new;
         card.pointers[..m].sort();
     };
+    // Gives every table the length that the record then asks for, so that only the range fails. Costly, so not always.
+    let fit = |rnd: &mut Random, card: &mut Card| {
+        let (n, b) = (card.info[0] as usize, card.info[2] as usize);
+        if n * b <= 1 << 22 && rnd.percent(30) {
+            card.flags.resize(n, 0);
+            card.keys.resize(4 * n, 0);
+            card.counts.resize(n, 0);
+            card.windows.resize(2 * n, 0);
+            card.contents.resize(n * b, 0);
+        }
+    };
     match DAMAGES[which] {
         "record short" => card.info.truncate(4),
         "record long" => card.info.push(0),
         "record empty" => card.info.clear(),
-        "N 15" => card.info[0] = 15,
-        "N 4097" => card.info[0] = 4_097,
+        "N 15" => {
+            card.info[0] = 15;
+            fit(rnd, card);
+        }
+        "N 4097" => {
+            card.info[0] = 4_097;
+            fit(rnd, card);
+        }
         "N one more" => card.info[0] += 1,
         "N one less" => card.info[0] -= 1,
         "N 2^62" => card.info[0] = 1 << 62,
@@ -227,10 +244,22 @@ fn damage(rnd: &mut Random, card: &mut Card, which: usize) -> bool {
         "R 0" => card.info[1] = 0,
         "R 9" => card.info[1] = 9,
         "R 2^64 - 1" => card.info[1] = u64::MAX,
-        "B 256" => card.info[2] = 256,
-        "B 131072" => card.info[2] = 131_072,
-        "B no power of two" => card.info[2] += rnd.of(&[1, 256, 2]),
-        "B 0" => card.info[2] = 0,
+        "B 256" => {
+            card.info[2] = 256;
+            fit(rnd, card);
+        }
+        "B 131072" => {
+            card.info[2] = 131_072;
+            fit(rnd, card);
+        }
+        "B no power of two" => {
+            card.info[2] += rnd.of(&[1, 256, 2]);
+            fit(rnd, card);
+        }
+        "B 0" => {
+            card.info[2] = 0;
+            fit(rnd, card);
+        }
         "B twice" => card.info[2] *= 2,
         "B 2^63" => card.info[2] = 1 << 63,
         "T 2^40" => card.info[4] = TIME_END,
@@ -373,6 +402,7 @@ impl Chooser {
             0 => rnd.of(&edge) as u16,
             1 => rnd.below(n) as u16,
             2 => rnd.below(card.info[1]) as u16,
+            3..=12 if self.host_only => self.some(rnd, card, |b| self.near(card, b)).unwrap_or(0) as u16,
             _ => self.some(rnd, card, |b| card.allocated(b) && !card.root(b)).unwrap_or(0) as u16,
         }
     }
@@ -382,6 +412,17 @@ impl Chooser {
         let n = card.blocks();
         let start = rnd.below(n as u64) as usize;
         (0..n).map(|i| (start + i) % n).find(|&b| property(b))
+    }
+
+    /// Whether a host with the known keys may well open the block, or lead a pointer to it.
+    fn near(&self, card: &Card, b: usize) -> bool {
+        let known = |o| card.key(b, o).is_some_and(|k| self.known.contains(&k));
+        let open = |o| {
+            card.key(b, o).is_none()
+                && card.pointers[..card.used()].iter().any(|&p| ends(p).1 == b && card.window_open(ends(p).0, o))
+        };
+        let (r, w) = (Operation::Reading, Operation::Writing);
+        card.allocated(b) && !card.root(b) && (known(r) || known(w) || open(r) || open(w))
     }
 
     fn source_of(&self, rnd: &mut Random, card: &Card, b: usize, open: Option<Operation>) -> Option<u16> {
@@ -899,16 +940,17 @@ fn differential(rnd: &mut Random, size: Size, calls: u64, reached: &mut Reached)
         return Err("the random card is not sound by the model".to_string());
     }
     for ordinal in 1..=calls {
-        let call = if rnd.percent(1) { random_format(rnd, &bench.model) } else { chooser.call(rnd, &bench.model) };
-        let lent = buffers(rnd, &bench.model, Some(&call));
         let damaged = rnd.percent(12);
-        let step = if !damaged && rnd.percent(10) {
+        let format = rnd.percent(if damaged { 8 } else { 1 });
+        let call = if format { random_format(rnd, &bench.model) } else { chooser.call(rnd, &bench.model) };
+        let lent = buffers(rnd, &bench.model, Some(&call));
+        let mut step = if !damaged && rnd.percent(10) {
             let (kind, body) = spoilt_record(rnd, &call);
             Step::Record(kind, body)
         } else {
             Step::Call(call)
         };
-        let report = |note: &str, difference: String| {
+        let report = |step: &Step, note: &str, difference: String| {
             let mut shown = format!("{step:?}");
             shown.truncate(600);
             format!("call {ordinal} on the card{note}: {shown}\n  {difference}")
@@ -920,21 +962,25 @@ fn differential(rnd: &mut Random, size: Size, calls: u64, reached: &mut Reached)
             if !damage(rnd, &mut card, which) {
                 continue;
             }
+            let note = format!(", damaged ({})", DAMAGES[which]);
             let expected = if which < 34 { model::SHAPE } else { model::UNSOUND };
             if card.audit() != Err(expected) {
-                return Err(report(&format!(", damaged ({})", DAMAGES[which]), "the model has not refused it".into()));
+                return Err(report(&step, &note, format!("the model has not refused it {expected}")));
+            }
+            // FORMAT with operands that fit tables out of range.
+            if let (Step::Call(Direct::Format { blocks, roots, bytes }), [n, r, b, ..]) = (&mut step, &card.info[..]) {
+                (*blocks, *roots, *bytes) = (*n, *r, *b);
             }
             bench.load(card);
-            let note = format!(", damaged ({})", DAMAGES[which]);
-            let answer = bench.step(&step, &lent, reached).map_err(|d| report(&note, d))?;
+            let answer = bench.step(&step, &lent, reached).map_err(|d| report(&step, &note, d))?;
             if answer == expected {
                 *reached.damages.entry(which).or_default() += 1;
             }
             bench.load(sound);
         } else {
-            bench.step(&step, &lent, reached).map_err(|d| report("", d))?;
+            bench.step(&step, &lent, reached).map_err(|d| report(&step, "", d))?;
             if bench.model.contents.len() <= 1 << 16 && bench.model.audit().is_err() {
-                return Err(report("", "the card is no longer sound by the model".to_string()));
+                return Err(report(&step, "", "the card is no longer sound by the model".to_string()));
             }
         }
     }
@@ -993,7 +1039,7 @@ fn secrecy(rnd: &mut Random, seen: &mut Secrecy) -> Result<(), String> {
     start.audit().map_err(|a| format!("the starting card is refused {a} by the model"))?;
 
     // The session is chosen along the model's card, of which it sees no contents.
-    let known: Vec<Key> = (0..rnd.below(4)).map(|_| rnd.of(&KEYS)).collect();
+    let known: Vec<Key> = (0..rnd.below(5)).map(|_| rnd.of(&KEYS)).collect();
     let chooser = Chooser::any(true, &known);
     let mut guide = start.clone();
     let mut session = Vec::new();
