@@ -654,7 +654,12 @@ impl Chooser {
         if card.used() == 0 {
             return (0, self.block(rnd, card));
         }
-        let (s, d) = ends(card.pointers[rnd.below(card.info[3]) as usize]);
+        let (mut s, mut d) = ends(card.pointers[rnd.below(card.info[3]) as usize]);
+        for _ in 0..if self.host_only { 6 } else { 0 } {
+            if !self.near(card, s) {
+                (s, d) = ends(card.pointers[rnd.below(card.info[3]) as usize]);
+            }
+        }
         (s as u16, d as u16)
     }
 }
@@ -1083,6 +1088,7 @@ fn secrecy(rnd: &mut Random, seen: &mut Secrecy) -> Result<(), String> {
             value: buffers2.value.values()[0],
         };
         if let Some(difference) = buffers1.difference(&second) {
+            let difference = difference.replace("library", "one card").replace("model", "the other");
             return Err(format!("{}\n  buffers of the two cards differ: {difference}", shown()));
         }
         if answers.0 == 0 {
@@ -1104,6 +1110,7 @@ fn secrecy(rnd: &mut Random, seen: &mut Secrecy) -> Result<(), String> {
         contents: two.contents.values().to_vec(),
     };
     if let Some(difference) = one.difference_but_contents(&second) {
+        let difference = difference.replace("library", "one card").replace("model", "the other");
         return Err(format!("secrecy: after the session the two cards' tables differ: {difference}"));
     }
     for b in 0..start.blocks() {
