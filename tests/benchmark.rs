@@ -395,18 +395,14 @@ fn repeated(side: &mut Side, calls: usize, call: &Direct, plain: impl Fn(&mut Ca
     in_turns(
         side,
         calls,
-        [
-            &|s| library_batch(s, calls, call),
-            &|s| timed(|| (0..calls).for_each(|_| plain(&mut s.plain))),
-            &|s| {
-                timed(|| {
-                    for _ in 0..calls {
-                        done(s.tables.call(&Direct::Audit, &mut s.buffers));
-                        copy_block(&s.plain);
-                    }
-                })
-            },
-        ],
+        [&|s| library_batch(s, calls, call), &|s| timed(|| (0..calls).for_each(|_| plain(&mut s.plain))), &|s| {
+            timed(|| {
+                for _ in 0..calls {
+                    done(s.tables.call(&Direct::Audit, &mut s.buffers));
+                    copy_block(&s.plain);
+                }
+            })
+        }],
     )
 }
 
@@ -433,9 +429,17 @@ fn rows(size: Size) -> Vec<Row> {
     let s = &mut side_full;
     let data = vec![3u8; 512];
 
-    let [pass] = in_turns(s, calls, [&|s| {
-        timed(|| (0..calls).for_each(|_| { black_box(plain::pass(black_box(&s.plain))); }))
-    }]);
+    let [pass] = in_turns(
+        s,
+        calls,
+        [&|s| {
+            timed(|| {
+                (0..calls).for_each(|_| {
+                    black_box(plain::pass(black_box(&s.plain)));
+                })
+            })
+        }],
+    );
     let [copy] = in_turns(s, 100, [&|s| timed(|| (0..100).for_each(|_| copy_block(&s.plain)))]);
 
     let audit = repeated(s, calls, &Direct::Audit, |c| done(plain::audit(black_box(c))));
@@ -456,7 +460,8 @@ fn rows(size: Size) -> Vec<Row> {
     let batch = size.batch;
     let mut side_spare = side(size, batch);
     let s = &mut side_spare;
-    let destinations: Vec<u16> = (2..size.blocks).filter(|&b| s.plain.flags[b] != 0).take(batch).map(|b| b as u16).collect();
+    let destinations: Vec<u16> =
+        (2..size.blocks).filter(|&b| s.plain.flags[b] != 0).take(batch).map(|b| b as u16).collect();
     let creates: Vec<Direct> = destinations
         .iter()
         .map(|&d| Direct::Create {
@@ -471,8 +476,10 @@ fn rows(size: Size) -> Vec<Row> {
         .iter()
         .map(|&d| Direct::Delete { port: 0, source: 1, credential: key(WRITER), destination: d })
         .collect();
-    let library_all = |s: &mut Side, calls: &[Direct]| timed(|| calls.iter().for_each(|c| done(s.tables.call(c, &mut s.buffers))));
-    let plain_create = |s: &mut Side| timed(|| destinations.iter().for_each(|&d| done(plain::create(&mut s.plain, 1, d, WRITER))));
+    let library_all =
+        |s: &mut Side, calls: &[Direct]| timed(|| calls.iter().for_each(|c| done(s.tables.call(c, &mut s.buffers))));
+    let plain_create =
+        |s: &mut Side| timed(|| destinations.iter().for_each(|&d| done(plain::create(&mut s.plain, 1, d, WRITER))));
     let plain_delete = |s: &mut Side| {
         let mut value = 0;
         timed(|| destinations.iter().for_each(|&d| done(plain::delete(&mut s.plain, 1, d, WRITER, &mut value))))
@@ -480,12 +487,7 @@ fn rows(size: Size) -> Vec<Row> {
     let [create, plain_create, delete, plain_delete] = in_turns(
         s,
         batch,
-        [
-            &|s| library_all(s, &creates),
-            &|s| plain_create(s),
-            &|s| library_all(s, &deletes),
-            &|s| plain_delete(s),
-        ],
+        [&|s| library_all(s, &creates), &|s| plain_create(s), &|s| library_all(s, &deletes), &|s| plain_delete(s)],
     );
     assert_eq!(s.tables.difference(&s.plain), None, "library and plain version differ");
 
@@ -497,22 +499,32 @@ fn rows(size: Size) -> Vec<Row> {
         let figures = in_turns(
             &mut side,
             1,
-            [&|s| {
-                let time = timed(|| done(s.tables.call(&request, &mut s.buffers)));
-                for i in 0..count as usize {
-                    let destination = s.buffers.places.values()[i];
-                    let undo = Direct::Delete { port: 1, source: 1, credential: RawCredential::from(Credential::Nothing), destination };
-                    done(s.tables.call(&undo, &mut s.buffers));
-                }
-                time
-            },
-            &|s| {
-                let mut places = [0u16; 64];
-                let time = timed(|| done(plain::alloc(&mut s.plain, 1, WRITER, hint, count, black_box(&mut places))));
-                let mut value = 0;
-                places[..count as usize].iter().for_each(|&d| done(plain::delete(&mut s.plain, 1, d, WRITER, &mut value)));
-                time
-            }],
+            [
+                &|s| {
+                    let time = timed(|| done(s.tables.call(&request, &mut s.buffers)));
+                    for i in 0..count as usize {
+                        let destination = s.buffers.places.values()[i];
+                        let undo = Direct::Delete {
+                            port: 1,
+                            source: 1,
+                            credential: RawCredential::from(Credential::Nothing),
+                            destination,
+                        };
+                        done(s.tables.call(&undo, &mut s.buffers));
+                    }
+                    time
+                },
+                &|s| {
+                    let mut places = [0u16; 64];
+                    let time =
+                        timed(|| done(plain::alloc(&mut s.plain, 1, WRITER, hint, count, black_box(&mut places))));
+                    let mut value = 0;
+                    places[..count as usize]
+                        .iter()
+                        .for_each(|&d| done(plain::delete(&mut s.plain, 1, d, WRITER, &mut value)));
+                    time
+                },
+            ],
         );
         assert_eq!(side.tables.difference(&side.plain), None, "library and plain version differ");
         figures
@@ -545,12 +557,24 @@ fn main() {
     println!("| --- | --- | ---: | ---: | ---: | ---: | ---: | ---: | ---: | ---: |");
     for r in &all {
         let (ratio, target) = match r.target {
-            Some(t) => (format!("{:.2}", r.library / r.against), format!("{t:.1}{}", if r.library / r.against > t { " (above)" } else { "" })),
+            Some(t) => (
+                format!("{:.2}", r.library / r.against),
+                format!("{t:.1}{}", if r.library / r.against > t { " (above)" } else { "" }),
+            ),
             None => ("".to_string(), "".to_string()),
         };
         println!(
             "| {} | {} | {} | {} | {:.0} | {:.0} | {:.0} | {:.2} | {} | {} |",
-            r.call, r.size.name, r.size.blocks, r.size.places, r.library, r.plain, r.floor, r.library / r.plain, ratio, target
+            r.call,
+            r.size.name,
+            r.size.blocks,
+            r.size.places,
+            r.library,
+            r.plain,
+            r.floor,
+            r.library / r.plain,
+            ratio,
+            target
         );
     }
     println!();

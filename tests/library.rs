@@ -128,10 +128,31 @@ pub struct RawNewKey {
 /// A call of the C interface.
 #[derive(Clone, Debug, PartialEq)]
 pub enum Direct {
-    Format { blocks: u64, roots: u64, bytes: u64 },
-    Read { port: u8, block: u16, credential: RawCredential, interval: u32 },
-    Write { port: u8, block: u16, credential: RawCredential, interval: u32, data: Vec<u8> },
-    Alloc { port: u8, reference: u16, credential: RawCredential, hint: u16, count: u8 },
+    Format {
+        blocks: u64,
+        roots: u64,
+        bytes: u64,
+    },
+    Read {
+        port: u8,
+        block: u16,
+        credential: RawCredential,
+        interval: u32,
+    },
+    Write {
+        port: u8,
+        block: u16,
+        credential: RawCredential,
+        interval: u32,
+        data: Vec<u8>,
+    },
+    Alloc {
+        port: u8,
+        reference: u16,
+        credential: RawCredential,
+        hint: u16,
+        count: u8,
+    },
     Create {
         port: u8,
         source: u16,
@@ -139,12 +160,32 @@ pub enum Direct {
         destination: u16,
         destination_credential: RawCredential,
     },
-    Delete { port: u8, source: u16, credential: RawCredential, destination: u16 },
-    Key { port: u8, block: u16, credential: RawCredential, read: RawNewKey, write: RawNewKey },
-    Renew { mode: u8, block: u16, key: Key, interval: u32 },
-    Force { block: u16 },
+    Delete {
+        port: u8,
+        source: u16,
+        credential: RawCredential,
+        destination: u16,
+    },
+    Key {
+        port: u8,
+        block: u16,
+        credential: RawCredential,
+        read: RawNewKey,
+        write: RawNewKey,
+    },
+    Renew {
+        mode: u8,
+        block: u16,
+        key: Key,
+        interval: u32,
+    },
+    Force {
+        block: u16,
+    },
     Free,
-    Tick { seconds: u64 },
+    Tick {
+        seconds: u64,
+    },
     Audit,
 }
 
@@ -226,30 +267,89 @@ impl Tables {
         match call {
             Direct::Format { blocks, roots, bytes } => with_tables!(negvask_format, self, *blocks, *roots, *bytes),
             Direct::Read { port, block, credential: c, interval } => with_tables!(
-                negvask_read, self, *port, *block, c.kind, c.block, c.high, c.low, *interval,
-                lent.out.pointer(), lent.out.length()
+                negvask_read,
+                self,
+                *port,
+                *block,
+                c.kind,
+                c.block,
+                c.high,
+                c.low,
+                *interval,
+                lent.out.pointer(),
+                lent.out.length()
             ),
             Direct::Write { port, block, credential: c, interval, data } => with_tables!(
-                negvask_write, self, *port, *block, c.kind, c.block, c.high, c.low, *interval,
-                data.as_ptr(), data.len()
+                negvask_write,
+                self,
+                *port,
+                *block,
+                c.kind,
+                c.block,
+                c.high,
+                c.low,
+                *interval,
+                data.as_ptr(),
+                data.len()
             ),
             Direct::Alloc { port, reference, credential: c, hint, count } => with_tables!(
-                negvask_alloc, self, *port, *reference, c.kind, c.block, c.high, c.low, *hint, *count,
-                lent.places.pointer(), lent.places.length()
+                negvask_alloc,
+                self,
+                *port,
+                *reference,
+                c.kind,
+                c.block,
+                c.high,
+                c.low,
+                *hint,
+                *count,
+                lent.places.pointer(),
+                lent.places.length()
             ),
             Direct::Create { port, source, source_credential: c, destination, destination_credential: d } => {
                 with_tables!(
-                    negvask_create, self, *port, *source, c.kind, c.block, c.high, c.low,
-                    *destination, d.kind, d.block, d.high, d.low
+                    negvask_create,
+                    self,
+                    *port,
+                    *source,
+                    c.kind,
+                    c.block,
+                    c.high,
+                    c.low,
+                    *destination,
+                    d.kind,
+                    d.block,
+                    d.high,
+                    d.low
                 )
             }
             Direct::Delete { port, source, credential: c, destination } => with_tables!(
-                negvask_delete, self, *port, *source, c.kind, c.block, c.high, c.low, *destination,
+                negvask_delete,
+                self,
+                *port,
+                *source,
+                c.kind,
+                c.block,
+                c.high,
+                c.low,
+                *destination,
                 lent.value.pointer()
             ),
             Direct::Key { port, block, credential: c, read, write } => with_tables!(
-                negvask_key, self, *port, *block, c.kind, c.block, c.high, c.low,
-                read.present, read.high, read.low, write.present, write.high, write.low
+                negvask_key,
+                self,
+                *port,
+                *block,
+                c.kind,
+                c.block,
+                c.high,
+                c.low,
+                read.present,
+                read.high,
+                read.low,
+                write.present,
+                write.high,
+                write.low
             ),
             Direct::Renew { mode, block, key, interval } => {
                 with_tables!(negvask_renew, self, *mode, *block, key.high, key.low, *interval)
@@ -264,8 +364,16 @@ impl Tables {
     /// One call record.
     pub fn serve(&mut self, kind: u8, body: &[u8], lent: &mut LentBuffers) -> u32 {
         with_tables!(
-            negvask_serve, self, kind, body.as_ptr(), body.len(), lent.out.pointer(), lent.out.length(),
-            lent.places.pointer(), lent.places.length(), lent.value.pointer()
+            negvask_serve,
+            self,
+            kind,
+            body.as_ptr(),
+            body.len(),
+            lent.out.pointer(),
+            lent.out.length(),
+            lent.places.pointer(),
+            lent.places.length(),
+            lent.value.pointer()
         )
     }
 }
@@ -359,27 +467,16 @@ impl Direct {
     pub fn plain(&self) -> Option<(Port, Call)> {
         Some(match self {
             Direct::Format { .. } => return None,
-            Direct::Read { port, block, credential, interval } => (
-                plain_port(*port)?,
-                Call::Read { block: *block, credential: credential.plain()?, interval: *interval },
-            ),
+            Direct::Read { port, block, credential, interval } => {
+                (plain_port(*port)?, Call::Read { block: *block, credential: credential.plain()?, interval: *interval })
+            }
             Direct::Write { port, block, credential, interval, data } => (
                 plain_port(*port)?,
-                Call::Write {
-                    block: *block,
-                    credential: credential.plain()?,
-                    interval: *interval,
-                    data: data.clone(),
-                },
+                Call::Write { block: *block, credential: credential.plain()?, interval: *interval, data: data.clone() },
             ),
             Direct::Alloc { port, reference, credential, hint, count } => (
                 plain_port(*port)?,
-                Call::Alloc {
-                    reference: *reference,
-                    credential: credential.plain()?,
-                    hint: *hint,
-                    count: *count,
-                },
+                Call::Alloc { reference: *reference, credential: credential.plain()?, hint: *hint, count: *count },
             ),
             Direct::Create { port, source, source_credential, destination, destination_credential } => (
                 plain_port(*port)?,
@@ -403,10 +500,9 @@ impl Direct {
                     write: write.plain()?,
                 },
             ),
-            Direct::Renew { mode, block, key, interval } => (
-                Port::Host,
-                Call::Renew { mode: *mode, block: *block, key: *key, interval: *interval },
-            ),
+            Direct::Renew { mode, block, key, interval } => {
+                (Port::Host, Call::Renew { mode: *mode, block: *block, key: *key, interval: *interval })
+            }
             Direct::Force { block } => (Port::Host, Call::Force { block: *block }),
             Direct::Free => (Port::Host, Call::Free),
             Direct::Tick { seconds } => (Port::Host, Call::Tick { seconds: *seconds }),

@@ -92,7 +92,11 @@ pub struct Buffers {
 }
 
 fn refuse_if(condition: bool, number: u32) -> Answer {
-    if condition { Err(number) } else { Ok(()) }
+    if condition {
+        Err(number)
+    } else {
+        Ok(())
+    }
 }
 
 pub fn number(answer: Answer) -> u32 {
@@ -163,8 +167,7 @@ impl Card {
         let root = b < self.roots();
         let allocated = flags & ALLOCATED != 0;
 
-        let unallocated_is_zero =
-            flags == 0 && keys == [0, 0, 0, 0] && self.counts[b] == 0 && windows == [0, 0];
+        let unallocated_is_zero = flags == 0 && keys == [0, 0, 0, 0] && self.counts[b] == 0 && windows == [0, 0];
 
         flags < 8
             && (!root || allocated)
@@ -178,10 +181,7 @@ impl Card {
 
     fn pointer_sound(&self, pointer: u32) -> bool {
         let (source, destination) = ends(pointer);
-        self.allocated(source)
-            && self.allocated(destination)
-            && destination >= self.roots()
-            && source != destination
+        self.allocated(source) && self.allocated(destination) && destination >= self.roots() && source != destination
     }
 
     /// The refusal that every call but FORMAT makes first.
@@ -498,9 +498,7 @@ impl Card {
             Call::Read { block, credential, interval } => {
                 self.read(port, *block, *credential, *interval, &mut lent.out)
             }
-            Call::Write { block, credential, interval, data } => {
-                self.write(port, *block, *credential, *interval, data)
-            }
+            Call::Write { block, credential, interval, data } => self.write(port, *block, *credential, *interval, data),
             Call::Alloc { reference, credential, hint, count } => {
                 self.alloc(port, *reference, *credential, *hint, *count, &mut lent.places)
             }
@@ -510,9 +508,7 @@ impl Card {
             Call::Delete { source, credential, destination } => {
                 self.delete(port, *source, *credential, *destination, &mut lent.value)
             }
-            Call::Key { block, credential, read, write } => {
-                self.set_keys(port, *block, *credential, *read, *write)
-            }
+            Call::Key { block, credential, read, write } => self.set_keys(port, *block, *credential, *read, *write),
             Call::Renew { mode, block, key, interval } => self.renew(*mode, *block, *key, *interval),
             Call::Force { block } => self.force(*block),
             Call::Free => self.free(&mut lent.value),
