@@ -293,7 +293,7 @@ struct Size {
     name: &'static str,
     blocks: usize,
     places: usize,
-    /// Calls in a batch of CREATE, DELETE or ALLOC, undone after it.
+    /// Calls in a batch of CREATE, then of DELETE, which undoes it.
     batch: usize,
 }
 
@@ -317,7 +317,7 @@ fn card(size: Size, spare: usize) -> Card {
         contents: vec![1; n * 512],
     };
     card.flags[0] = ALLOCATED;
-    // Block 1 and every eighth block from the end on are taken or left free in a regular way.
+    // The free blocks lie scattered, so that ALLOC has to look for them.
     let free_every = n / (n - used);
     let taken: Vec<usize> = (1..n).filter(|b| *b < 6 || b % free_every != free_every - 1).take(used - 1).collect();
     for &b in &taken {
@@ -350,12 +350,14 @@ struct Side {
     tables: Tables,
     buffers: LentBuffers,
     plain: Card,
+    /// Where the plain version reads to.
+    out: Vec<u8>,
 }
 
 fn side(size: Size, spare: usize) -> Side {
     let card = card(size, spare);
     let lent = Buffers { out: vec![0; 512], places: vec![0; 64], value: 0 };
-    Side { tables: Tables::new(&card), buffers: LentBuffers::new(&lent), plain: card }
+    Side { tables: Tables::new(&card), buffers: LentBuffers::new(&lent), plain: card, out: vec![0; 512] }
 }
 
 /// How long each row is measured.
@@ -391,24 +393,27 @@ fn library_batch(side: &mut Side, calls: usize, call: &Direct) -> Duration {
 }
 
 /// Such a call by the library, the plain version, and the library's audit followed by a copy of a block.
-fn repeated(side: &mut Side, calls: usize, call: &Direct, plain: impl Fn(&mut Card)) -> [f64; 3] {
+fn repeated(side: &mut Side, calls: usize, call: &Direct, plain: impl Fn(&mut Card, &mut [u8])) -> [f64; 3] {
     in_turns(
         side,
         calls,
-        [&|s| library_batch(s, calls, call), &|s| timed(|| (0..calls).for_each(|_| plain(&mut s.plain))), &|s| {
-            timed(|| {
-                for _ in 0..calls {
-                    done(s.tables.call(&Direct::Audit, &mut s.buffers));
-                    copy_block(&s.plain);
-                }
-            })
-        }],
+        [
+            &|s| library_batch(s, calls, call),
+            &|s| timed(|| (0..calls).for_each(|_| plain(&mut s.plain, &mut s.out))),
+            &|s| {
+                timed(|| {
+                    for _ in 0..calls {
+                        done(s.tables.call(&Direct::Audit, &mut s.buffers));
+                        copy_block(s);
+                    }
+                })
+            },
+        ],
     )
 }
 
-fn copy_block(card: &Card) {
-    let mut out = [0u8; 512];
-    black_box(&mut out).copy_from_slice(black_box(&card.contents[512..1_024]));
+fn copy_block(side: &mut Side) {
+    black_box(&mut side.out[..]).copy_from_slice(black_box(&side.plain.contents[512..1_024]));
 }
 
 struct Row {
@@ -440,20 +445,17 @@ fn rows(size: Size) -> Vec<Row> {
             })
         }],
     );
-    let [copy] = in_turns(s, 100, [&|s| timed(|| (0..100).for_each(|_| copy_block(&s.plain)))]);
+    let [copy] = in_turns(s, 100, [&|s| timed(|| (0..100).for_each(|_| copy_block(s)))]);
 
-    let audit = repeated(s, calls, &Direct::Audit, |c| done(plain::audit(black_box(c))));
+    let audit = repeated(s, calls, &Direct::Audit, |c, _| done(plain::audit(black_box(c))));
     let read = Direct::Read { port: 0, block: 2, credential: key(READER), interval: 10 };
-    let read = repeated(s, calls, &read, |c| {
-        let mut out = [0u8; 512];
-        done(plain::read(c, 2, READER, 10, black_box(&mut out)))
-    });
+    let read = repeated(s, calls, &read, |c, out| done(plain::read(c, 2, READER, 10, black_box(out))));
     let write = Direct::Write { port: 0, block: 2, credential: key(WRITER), interval: 10, data: data.clone() };
-    let write = repeated(s, calls, &write, |c| done(plain::write(c, 2, WRITER, 10, black_box(&data))));
+    let write = repeated(s, calls, &write, |c, _| done(plain::write(c, 2, WRITER, 10, black_box(&data))));
     let new = |k| RawNewKey::from(Some(k));
     let keys = Direct::Key { port: 0, block: 2, credential: key(WRITER), read: new(READER), write: new(WRITER) };
-    let keys = repeated(s, calls, &keys, |c| done(plain::set_keys(c, 2, WRITER, READER, WRITER)));
-    let tick = repeated(s, calls, &Direct::Tick { seconds: 0 }, |c| done(plain::tick(c, 0, black_box(&mut 0))));
+    let keys = repeated(s, calls, &keys, |c, _| done(plain::set_keys(c, 2, WRITER, READER, WRITER)));
+    let tick = repeated(s, calls, &Direct::Tick { seconds: 0 }, |c, _| done(plain::tick(c, 0, black_box(&mut 0))));
     assert_eq!(s.tables.difference(&s.plain), None, "library and plain version differ");
 
     // CREATE from block 1 to a batch of blocks, then DELETE: pointers near the front, so that most of the table moves.
