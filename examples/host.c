@@ -1,0 +1,96 @@
+/*
+ * A short host: formats a card, has a block allotted and keyed by the service port, then writes and reads as a host,
+ * by key and by reference within a window, and is refused once the window has ended.
+ *
+ *   cc -I include examples/host.c path/to/libinterface.a -o host && ./host
+ *
+ * Its output is stored in host.expected.
+ */
+#include <stdio.h>
+#include <string.h>
+#include "negvask.h"
+
+#define BLOCKS 16
+#define BYTES  512
+#define PLACES 32
+
+static uint64_t info[5];
+static uint8_t flags[BLOCKS];
+static uint64_t keys[4 * BLOCKS];
+static uint16_t counts[BLOCKS];
+static uint32_t pointers[PLACES];
+static uint64_t windows[2 * BLOCKS];
+static uint8_t contents[BLOCKS * BYTES];
+
+#define CARD info, 5, flags, BLOCKS, keys, 4 * BLOCKS, counts, BLOCKS, \
+	pointers, PLACES, windows, 2 * BLOCKS, contents, BLOCKS * BYTES
+
+/* The two keys of the observatory. */
+#define READ_HIGH  0x0123456789ABCDEFu
+#define READ_LOW   0x0000000000000001u
+#define WRITE_HIGH 0x0123456789ABCDEFu
+#define WRITE_LOW  0x0000000000000002u
+
+static void show(const char *what, uint32_t answer)
+{
+	printf("%-44s %u\n", what, (unsigned)answer);
+}
+
+int main(void)
+{
+	uint16_t places[2] = { 0, 0 };
+	uint8_t data[BYTES] = { 0 }, out[BYTES] = { 0 };
+	uint64_t value = 0;
+	uint32_t answer;
+
+	show("format, 16 blocks, 1 root, 512 bytes", negvask_format(CARD, BLOCKS, 1, BYTES));
+
+	/* The service port allots two blocks below the root and gives the first both keys. */
+	show("service: allot 2 blocks below root 0",
+		negvask_alloc(CARD, NEGVASK_SERVICE, 0, NEGVASK_BY_NOTHING, NEGVASK_NO_HINT, 2, places, 2));
+	printf("  blocks %u and %u\n", (unsigned)places[0], (unsigned)places[1]);
+	show("service: set both keys of the first",
+		negvask_key(CARD, NEGVASK_SERVICE, places[0], NEGVASK_BY_NOTHING,
+			NEGVASK_NEW_KEY(READ_HIGH, READ_LOW), NEGVASK_NEW_KEY(WRITE_HIGH, WRITE_LOW)));
+	memcpy(data, "listing of the second block", 28);
+	show("service: write the second block",
+		negvask_write(CARD, NEGVASK_SERVICE, places[1], NEGVASK_BY_NOTHING, 0, data, BYTES));
+
+	/* The host writes and reads the first block by its keys. */
+	memset(data, 0, sizeof data);
+	memcpy(data, "waveform 17", 12);
+	show("host: write the first by its write key",
+		negvask_write(CARD, NEGVASK_HOST, places[0], NEGVASK_BY_KEY(WRITE_HIGH, WRITE_LOW), 0, data, BYTES));
+	show("host: read it by its read key",
+		negvask_read(CARD, NEGVASK_HOST, places[0], NEGVASK_BY_KEY(READ_HIGH, READ_LOW), 0, out, BYTES));
+	printf("  \"%s\"\n", (const char *)out);
+	show("host: write it by its read key",
+		negvask_write(CARD, NEGVASK_HOST, places[0], NEGVASK_BY_KEY(READ_HIGH, READ_LOW), 0, data, BYTES));
+
+	/* The second block has no key: it is read by reference to the root, while the root's read window is open. */
+	show("host: read the second by reference to root 0",
+		negvask_read(CARD, NEGVASK_HOST, places[1], NEGVASK_BY_REFERENCE(0), 0, out, BYTES));
+	show("host: read root 0, window of 10 seconds",
+		negvask_read(CARD, NEGVASK_HOST, 0, NEGVASK_BY_NOTHING, 10, out, BYTES));
+	answer = negvask_tick(CARD, 9, &value);
+	show("9 seconds pass", answer);
+	show("host: read the second by reference again",
+		negvask_read(CARD, NEGVASK_HOST, places[1], NEGVASK_BY_REFERENCE(0), 0, out, BYTES));
+	printf("  \"%s\" at time %lu\n", (const char *)out, (unsigned long)value);
+	answer = negvask_tick(CARD, 1, &value);
+	show("1 second passes", answer);
+	memset(out, 0, sizeof out);
+	show("host: read the second by reference again",
+		negvask_read(CARD, NEGVASK_HOST, places[1], NEGVASK_BY_REFERENCE(0), 0, out, BYTES));
+	printf("  refused and \"%s\" read at time %lu\n", (const char *)out, (unsigned long)value);
+
+	/* The last pointer to a block goes, and the block with it. */
+	answer = negvask_delete(CARD, NEGVASK_SERVICE, 0, NEGVASK_BY_NOTHING, places[1], &value);
+	show("service: delete the pointer to the second", answer);
+	printf("  freed: %lu\n", (unsigned long)value);
+	answer = negvask_free(CARD, &value);
+	show("count the unallocated blocks", answer);
+	printf("  %lu of %d\n", (unsigned long)value, BLOCKS);
+	show("audit", negvask_audit(CARD));
+	return 0;
+}

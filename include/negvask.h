@@ -1,0 +1,566 @@
+/*
+ * negvask.h: the C interface of the type-safe storage card.
+ *
+ * The card allocates blocks, keeps the pointers between them, frees a
+ * block when its last pointer goes, and opens a block only to a key, or
+ * to one who lately opened a block that points to it.
+ *
+ * Common to all functions
+ * -----------------------
+ *
+ * All state is in memory provided by the caller: a record of five
+ * numbers and six tables. The functions keep nothing between calls,
+ * allocate nothing and use no other global state. Two calls on the same
+ * card must not run at the same time.
+ *
+ * Lengths are counted in elements, not in bytes. A pointer must be valid
+ * for its length and aligned for its type, and must not be null even
+ * where the length is 0. The record, the tables and the buffers of one
+ * call must not overlap. Nothing else is asked of the caller: tables
+ * and operands of any content are answered, and a bad one is refused.
+ *
+ * Every function returns NEGVASK_DONE (0) or the number of a refusal. A
+ * function that refuses changes nothing: no table, no part of the
+ * record, no buffer and no result. Where several refusals apply, the
+ * first one in the order given at the function is returned.
+ *
+ * The record, `info`, has exactly five numbers:
+ *
+ *   info[0]   N, the number of blocks, 16 to 4,096
+ *   info[1]   R, the number of roots, 1 to 8; blocks 0 to R-1 are roots
+ *   info[2]   B, the bytes of a block, a power of two, 512 to 65,536
+ *   info[3]   M, the number of pointers in use
+ *   info[4]   T, the time in seconds, below 2^40
+ *
+ * The tables, always all six and in this order:
+ *
+ *   flags     N bytes: 1 allocated, 2 has a read key, 4 has a write key,
+ *             added up
+ *   keys      4 * N words: read key high, low, write key high, low
+ *   counts    N numbers: how many pointers lead to the block
+ *   pointers  P numbers, P from 1 to 16,384 as the caller chooses, each
+ *             source * 65,536 + destination: the first M strictly
+ *             ascending, the rest 0
+ *   windows   2 * N numbers: for each block the end of its read window,
+ *             then of its write window, in seconds
+ *   contents  N * B bytes: block b from b * B on
+ *
+ * A caller makes a card with negvask_format() and after that leaves
+ * record and tables to these functions; it may store them and lend them
+ * again later. A window is open while T is less than its end.
+ *
+ * Ports: NEGVASK_HOST for calls that come from a host, NEGVASK_SERVICE
+ * for the maker's and operator's own. Calls at the service port skip
+ * credentials and open no window; their operands are checked as a
+ * host's are, and a credential passed there must still be well formed.
+ *
+ * A credential is four values, `kind`, `ref`, `high` and `low`:
+ *
+ *   NEGVASK_NOTHING    nothing: 0, 0, 0, 0
+ *   NEGVASK_REFERENCE  a reference block: 1, the block, 0, 0
+ *   NEGVASK_KEY        a key: 2, 0, the key's high and low word
+ *
+ * The macros NEGVASK_BY_NOTHING, NEGVASK_BY_REFERENCE(r) and
+ * NEGVASK_BY_KEY(high, low) write the four out. A credential opens block
+ * b for reading or for writing thus:
+ *
+ *   - if b has a key for that operation, only a key equal to it does;
+ *     for reading, b's write key does too, if b has one;
+ *   - if b is a root without such a key, only nothing does;
+ *   - otherwise only a reference to an allocated block that points to b
+ *     and whose window for the same operation is open.
+ *
+ * A new key is three values, `present`, `high` and `low`: 1 and the key,
+ * or 0, 0, 0 for none. A key is 128 bits of any value, zero included.
+ * The macros NEGVASK_NEW_KEY(high, low) and NEGVASK_NO_KEY write the
+ * three out.
+ *
+ * Worked example
+ * --------------
+ *
+ * A card of 16 blocks with one root, 512 bytes a block and 32 pointers:
+ *
+ *   uint64_t info[5];
+ *   uint8_t flags[16];
+ *   uint64_t keys[64];
+ *   uint16_t counts[16];
+ *   uint32_t pointers[32];
+ *   uint64_t windows[32];
+ *   uint8_t contents[8192];
+ *   #define CARD info, 5, flags, 16, keys, 64, counts, 16, \
+ *                pointers, 32, windows, 32, contents, 8192
+ *
+ *   uint16_t place[1];
+ *   uint8_t data[512] = { 42 }, out[512];
+ *   uint32_t answer;
+ *
+ *   negvask_format(CARD, 16, 1, 512);
+ *
+ *   // The operator allots a block below root 0 and gives it two keys.
+ *   negvask_alloc(CARD, NEGVASK_SERVICE, 0, NEGVASK_BY_NOTHING,
+ *                 NEGVASK_NO_HINT, 1, place, 1);
+ *   negvask_key(CARD, NEGVASK_SERVICE, place[0], NEGVASK_BY_NOTHING,
+ *               NEGVASK_NEW_KEY(1, 2), NEGVASK_NEW_KEY(3, 4));
+ *
+ *   // A host writes by the write key and reads by the read key.
+ *   negvask_write(CARD, NEGVASK_HOST, place[0], NEGVASK_BY_KEY(3, 4),
+ *                 0, data, sizeof data);
+ *   negvask_read(CARD, NEGVASK_HOST, place[0], NEGVASK_BY_KEY(1, 2),
+ *                0, out, sizeof out);
+ *
+ *   // Without a key it is refused, and `out` is left as it was.
+ *   answer = negvask_read(CARD, NEGVASK_HOST, place[0],
+ *                         NEGVASK_BY_NOTHING, 0, out, sizeof out);
+ *   // answer == NEGVASK_NOT_OPENED
+ *
+ * examples/host.c is a whole program of this kind.
+ */
+
+#ifndef NEGVASK_H
+#define NEGVASK_H
+
+#include <stddef.h>
+#include <stdint.h>
+
+#ifdef __cplusplus
+extern "C" {
+#endif
+
+/* Answers. */
+
+/** The call is done. */
+#define NEGVASK_DONE             0
+/** Record or tables are out of shape: a number out of its range, a table
+    of another length, or M above P. */
+#define NEGVASK_SHAPE            1
+/** The tables contradict each other: the card is not sound. */
+#define NEGVASK_UNSOUND          2
+/** A block number is not below N, or the block is not allocated. */
+#define NEGVASK_NO_BLOCK         3
+/** An operand is out of its range, or a buffer has the wrong length. */
+#define NEGVASK_BAD_OPERAND      4
+/** The credential does not open the block. */
+#define NEGVASK_NOT_OPENED       5
+/** The call is not allowed on a root. */
+#define NEGVASK_ROOT             6
+/** The two ends are equal, or the pointer exists. */
+#define NEGVASK_POINTER_EXISTS   7
+/** There is no such pointer. */
+#define NEGVASK_NO_POINTER       8
+/** The last pointer to a block that has pointers of its own. */
+#define NEGVASK_HAS_POINTERS     9
+/** Fewer blocks are unallocated than asked for. */
+#define NEGVASK_NO_SPACE        10
+/** The pointer table has too few places left. */
+#define NEGVASK_NO_PLACE        11
+/** The time would reach 2^40. */
+#define NEGVASK_CLOCK           12
+/** A record, credential, new key or port is ill formed. */
+#define NEGVASK_MALFORMED       13
+
+/* Operands. */
+
+#define NEGVASK_HOST             0
+#define NEGVASK_SERVICE          1
+
+#define NEGVASK_NOTHING          0
+#define NEGVASK_REFERENCE        1
+#define NEGVASK_KEY              2
+
+#define NEGVASK_BY_NOTHING              NEGVASK_NOTHING, 0, 0, 0
+#define NEGVASK_BY_REFERENCE(ref)       NEGVASK_REFERENCE, (ref), 0, 0
+#define NEGVASK_BY_KEY(high, low)       NEGVASK_KEY, 0, (high), (low)
+
+#define NEGVASK_NO_KEY                  0, 0, 0
+#define NEGVASK_NEW_KEY(high, low)      1, (high), (low)
+
+/** No hint: ALLOC takes the lowest unallocated block. */
+#define NEGVASK_NO_HINT      65535
+/** The longest interval of a window, in seconds. */
+#define NEGVASK_DAY          86400
+
+/** Modes of negvask_renew(). */
+#define NEGVASK_RENEW_READ       0
+#define NEGVASK_RENEW_WRITE      1
+
+/*
+ * The record and the six tables, as the parameters with which every
+ * function begins. They are described at the top of this file.
+ */
+#define NEGVASK_TABLES \
+	uint64_t *info, size_t info_len, \
+	uint8_t *flags, size_t flags_len, \
+	uint64_t *keys, size_t keys_len, \
+	uint16_t *counts, size_t counts_len, \
+	uint32_t *pointers, size_t pointers_len, \
+	uint64_t *windows, size_t windows_len, \
+	uint8_t *contents, size_t contents_len
+
+/* The same, for the functions that leave all of them unmodified. */
+#define NEGVASK_CONST_TABLES \
+	const uint64_t *info, size_t info_len, \
+	const uint8_t *flags, size_t flags_len, \
+	const uint64_t *keys, size_t keys_len, \
+	const uint16_t *counts, size_t counts_len, \
+	const uint32_t *pointers, size_t pointers_len, \
+	const uint64_t *windows, size_t windows_len, \
+	const uint8_t *contents, size_t contents_len
+
+/* A credential, as parameters. */
+#define NEGVASK_CREDENTIAL \
+	uint8_t kind, uint16_t ref, uint64_t high, uint64_t low
+
+/**
+ * \brief Format a card: the maker's call, never a host's.
+ *
+ * Time and M become 0; roots are allocated, all other blocks are not;
+ * keys, counts, pointers and windows become 0, and so do the contents of
+ * the roots. Unmodified: the contents of the other blocks.
+ *
+ * The caller provides the record and the tables with any values in them;
+ * the table lengths must fit `blocks` and `bytes`. What the record and
+ * the tables hold is not looked at.
+ *
+ * Refusals:
+ *   1   the record has not five numbers; `blocks`, `roots` or `bytes` is
+ *       out of its range; a table's length does not fit
+ *
+ * \param blocks  N, 16 to 4,096.
+ * \param roots   R, 1 to 8.
+ * \param bytes   B, a power of two, 512 to 65,536.
+ * \return  0 or a refusal.
+ */
+uint32_t negvask_format(NEGVASK_TABLES,
+	uint64_t blocks, uint64_t roots, uint64_t bytes);
+
+/**
+ * \brief Check record and tables whole.
+ *
+ * Takes time linear in N and P. Every other function but
+ * negvask_format() begins with the same check, so that a caller need not
+ * make it first. Unmodified: everything. Contents are not looked at, only
+ * their length.
+ *
+ * Refusals, in order:
+ *   1   out of shape
+ *   2   unsound
+ *
+ * \return  0 or a refusal.
+ */
+uint32_t negvask_audit(NEGVASK_CONST_TABLES);
+
+/**
+ * \brief Read a block.
+ *
+ * Copies the B bytes of the block to `out`. If `interval` is not 0 and
+ * the call is a host's, the block's read window then ends at
+ * T + `interval`, even if sooner than before; 0 leaves the window as it
+ * is. Unmodified: all tables but that window, and the record.
+ *
+ * The caller provides `out` with exactly B places and keeps it.
+ *
+ * Refusals, in order:
+ *   13  `port` is neither 0 nor 1; the credential is ill formed
+ *   1   out of shape
+ *   2   unsound
+ *   4   `out_len` is not B, or `interval` is above 86,400
+ *   3   `block` is not below N or not allocated
+ *   5   a host's credential does not open the block for reading
+ *
+ * \param port      NEGVASK_HOST or NEGVASK_SERVICE.
+ * \param block     the block's number.
+ * \param kind      the credential, with `ref`, `high` and `low`.
+ * \param interval  seconds to open the read window for, 0 to 86,400.
+ * \param out       receives the block.
+ * \param out_len   B.
+ * \return  0 or a refusal.
+ */
+uint32_t negvask_read(NEGVASK_TABLES,
+	uint8_t port, uint16_t block, NEGVASK_CREDENTIAL, uint32_t interval,
+	uint8_t *out, size_t out_len);
+
+/**
+ * \brief Write a block.
+ *
+ * Copies `data` to the B bytes of the block. If `interval` is not 0 and
+ * the call is a host's, the block's write window then ends at
+ * T + `interval`, even if sooner than before; 0 leaves the window as it
+ * is. Unmodified: `data`, the contents of all other blocks, all other
+ * tables but that window, and the record.
+ *
+ * Refusals, in order:
+ *   13  `port` is neither 0 nor 1; the credential is ill formed
+ *   1   out of shape
+ *   2   unsound
+ *   4   `data_len` is not B, or `interval` is above 86,400
+ *   3   `block` is not below N or not allocated
+ *   5   a host's credential does not open the block for writing
+ *
+ * \param port      NEGVASK_HOST or NEGVASK_SERVICE.
+ * \param block     the block's number.
+ * \param kind      the credential, with `ref`, `high` and `low`.
+ * \param interval  seconds to open the write window for, 0 to 86,400.
+ * \param data      the bytes to write.
+ * \param data_len  B.
+ * \return  0 or a refusal.
+ */
+uint32_t negvask_write(NEGVASK_TABLES,
+	uint8_t port, uint16_t block, NEGVASK_CREDENTIAL, uint32_t interval,
+	const uint8_t *data, size_t data_len);
+
+/**
+ * \brief Allocate blocks below a reference block.
+ *
+ * Takes `count` blocks one by one, each the unallocated block nearest
+ * the hint, the lower on a tie; without a hint the lowest. Each is
+ * filled with zeros, and the reference block points to it. Its number is
+ * put in the next place of `places`. Unmodified: the places after the
+ * first `count`, keys, windows, and the contents of all other blocks.
+ *
+ * The caller provides `places` with at least `count` places and keeps it.
+ *
+ * Refusals, in order:
+ *   13  `port` is neither 0 nor 1; the credential is ill formed
+ *   1   out of shape
+ *   2   unsound
+ *   4   `count` is 0 or above 64; `hint` is neither below N nor
+ *       NEGVASK_NO_HINT; `places_len` is less than `count`
+ *   3   `reference` is not below N or not allocated
+ *   6   `reference` is a root and the call is a host's
+ *   5   a host's credential does not open `reference` for writing
+ *   10  fewer than `count` blocks are unallocated
+ *   11  M + `count` is above P
+ *
+ * \param port        NEGVASK_HOST or NEGVASK_SERVICE.
+ * \param reference   the block that is to point to the new ones.
+ * \param kind        the credential, with `ref`, `high` and `low`.
+ * \param hint        a block number, or NEGVASK_NO_HINT.
+ * \param count       how many, 1 to 64.
+ * \param places      receives the numbers in the order taken.
+ * \param places_len  the number of places.
+ * \return  0 or a refusal.
+ */
+uint32_t negvask_alloc(NEGVASK_TABLES,
+	uint8_t port, uint16_t reference, NEGVASK_CREDENTIAL,
+	uint16_t hint, uint8_t count, uint16_t *places, size_t places_len);
+
+/**
+ * \brief Make a pointer from one block to another.
+ *
+ * The pointer is added, M and the destination's count grow by 1.
+ * Unmodified: flags, keys, windows, contents, and the record but for M.
+ *
+ * Refusals, in order:
+ *   13  `port` is neither 0 nor 1; a credential is ill formed
+ *   1   out of shape
+ *   2   unsound
+ *   3   `source` is not below N or not allocated, then `destination`
+ *   6   `destination` is a root; or `source` is one and the call is a
+ *       host's
+ *   5   a host's credential does not open `source` for writing, then
+ *       `destination` for writing
+ *   7   `source` equals `destination`, or the pointer exists
+ *   11  M equals P
+ *
+ * \param port         NEGVASK_HOST or NEGVASK_SERVICE.
+ * \param source       the block that is to point.
+ * \param kind         its credential, with `ref`, `high` and `low`.
+ * \param destination  the block to point to.
+ * \param dest_kind    its credential, with `dest_ref`, `dest_high` and
+ *                     `dest_low`.
+ * \return  0 or a refusal.
+ */
+uint32_t negvask_create(NEGVASK_TABLES,
+	uint8_t port, uint16_t source, NEGVASK_CREDENTIAL,
+	uint16_t destination, uint8_t dest_kind, uint16_t dest_ref,
+	uint64_t dest_high, uint64_t dest_low);
+
+/**
+ * \brief Take a pointer away, and free the block it led to if it was the
+ * last one.
+ *
+ * M and the destination's count shrink by 1. At count 0 the destination
+ * is freed: its flags, keys and windows become 0. `*value` is set to 1 if
+ * it was freed, else to 0. Unmodified: contents, those of a freed block
+ * too, and the rows of all other blocks.
+ *
+ * Refusals, in order:
+ *   13  `port` is neither 0 nor 1; the credential is ill formed
+ *   1   out of shape
+ *   2   unsound
+ *   3   `source` is not below N or not allocated, then `destination`
+ *   6   `source` is a root and the call is a host's
+ *   5   a host's credential does not open `source` for writing
+ *   8   there is no such pointer
+ *   9   the destination's count is 1 and it has pointers of its own
+ *
+ * \param port         NEGVASK_HOST or NEGVASK_SERVICE.
+ * \param source       the block that points.
+ * \param kind         its credential, with `ref`, `high` and `low`.
+ * \param destination  the block pointed to.
+ * \param value        receives 1 or 0; unmodified when refused.
+ * \return  0 or a refusal.
+ */
+uint32_t negvask_delete(NEGVASK_TABLES,
+	uint8_t port, uint16_t source, NEGVASK_CREDENTIAL,
+	uint16_t destination, uint64_t *value);
+
+/**
+ * \brief Replace both keys of a block.
+ *
+ * Each of the two is set to the new key, or taken away if there is none.
+ * Both windows of the block become 0. Unmodified: counts, pointers,
+ * contents, the record, and the rows of all other blocks.
+ *
+ * Refusals, in order:
+ *   13  `port` is neither 0 nor 1; the credential or a new key is ill
+ *       formed
+ *   1   out of shape
+ *   2   unsound
+ *   3   `block` is not below N or not allocated
+ *   6   `block` is a root and the call is a host's
+ *   5   a host's credential does not open `block` for writing
+ *
+ * \param port        NEGVASK_HOST or NEGVASK_SERVICE.
+ * \param block       the block's number.
+ * \param kind        the credential, with `ref`, `high` and `low`.
+ * \param read        1 if there is to be a read key, else 0.
+ * \param read_high   its high word, else 0.
+ * \param read_low    its low word, else 0.
+ * \param write       1 if there is to be a write key, else 0.
+ * \param write_high  its high word, else 0.
+ * \param write_low   its low word, else 0.
+ * \return  0 or a refusal.
+ */
+uint32_t negvask_key(NEGVASK_TABLES,
+	uint8_t port, uint16_t block, NEGVASK_CREDENTIAL,
+	uint8_t read, uint64_t read_high, uint64_t read_low,
+	uint8_t write, uint64_t write_high, uint64_t write_low);
+
+/**
+ * \brief Renew a window by a key, without reading or writing: a host's
+ * call.
+ *
+ * The block's window for the mode then ends at T + `interval`, even if
+ * sooner than before. Unmodified: all else.
+ *
+ * Refusals, in order:
+ *   1   out of shape
+ *   2   unsound
+ *   4   `mode` is neither 0 nor 1; `interval` is 0 or above 86,400
+ *   3   `block` is not below N or not allocated
+ *   5   the block has no key for the mode, or this key does not open it
+ *
+ * \param mode      NEGVASK_RENEW_READ or NEGVASK_RENEW_WRITE.
+ * \param block     the block's number.
+ * \param high      the key's high word.
+ * \param low       the key's low word.
+ * \param interval  seconds, 1 to 86,400.
+ * \return  0 or a refusal.
+ */
+uint32_t negvask_renew(NEGVASK_TABLES,
+	uint8_t mode, uint16_t block, uint64_t high, uint64_t low,
+	uint32_t interval);
+
+/**
+ * \brief Close both windows of a block: a host's call, without a
+ * credential.
+ *
+ * Both windows become 0. Unmodified: all else.
+ *
+ * Refusals, in order:
+ *   1   out of shape
+ *   2   unsound
+ *   3   `block` is not below N or not allocated
+ *
+ * \param block  the block's number.
+ * \return  0 or a refusal.
+ */
+uint32_t negvask_force(NEGVASK_TABLES, uint16_t block);
+
+/**
+ * \brief Count the unallocated blocks.
+ *
+ * Unmodified: the record and all tables.
+ *
+ * Refusals, in order:
+ *   1   out of shape
+ *   2   unsound
+ *
+ * \param value  receives the number; unmodified when refused.
+ * \return  0 or a refusal.
+ */
+uint32_t negvask_free(NEGVASK_CONST_TABLES, uint64_t *value);
+
+/**
+ * \brief Let time pass.
+ *
+ * T grows by `seconds`. Unmodified: all tables, and the record but for T.
+ *
+ * Refusals, in order:
+ *   1   out of shape
+ *   2   unsound
+ *   12  T + `seconds` reaches 2^40
+ *
+ * \param seconds  any number.
+ * \param value    receives the new T; unmodified when refused.
+ * \return  0 or a refusal.
+ */
+uint32_t negvask_tick(NEGVASK_TABLES, uint64_t seconds, uint64_t *value);
+
+/**
+ * \brief Perform one call record.
+ *
+ * A record is one byte of kind, then a body whose length the kind fixes;
+ * `body` may be longer, and its further bytes are not looked at. Numbers
+ * in a body are big-endian. Kinds, and the bytes of their bodies:
+ *
+ *    1  READ    23    block 2, credential 17, interval 4
+ *    2  WRITE  535    block 2, credential 17, interval 4, data 512
+ *    3  ALLOC   22    reference 2, credential 17, hint 2, count 1
+ *    4  CREATE  38    source 2, credential 17, destination 2,
+ *                     credential 17
+ *    5  DELETE  21    source 2, credential 17, destination 2
+ *    6  KEY     53    block 2, credential 17, new read key 17, new write
+ *                     key 17
+ *    7  RENEW   23    mode 1, block 2, key 16, interval 4
+ *    8  FORCE    2    block 2
+ *    9  FREE     0
+ *   10  TICK     8    seconds 8
+ *   11  AUDIT    0
+ *
+ * Kinds 129 to 134 are 1 to 6 at the service port. A credential is 0 and
+ * 16 zeros; 1, the block's number in 2 bytes and 14 zeros; or 2 and the
+ * key. A new key is 0 and 16 zeros, or 1 and the key.
+ *
+ * The record's call is performed as by its function above, with `out`
+ * lent to READ, `places` to ALLOC and `value` to DELETE, FREE and TICK.
+ * Unmodified: what that function leaves unmodified, `body`, and the
+ * buffers that the call does not use.
+ *
+ * Refusals, in order:
+ *   13  another kind; a body cut short; in a credential or new key a
+ *       wrong first byte or filler that is not zero
+ *   1 to 12  as the function of that call
+ *
+ * \param kind        the record's first byte.
+ * \param body        the rest of the record.
+ * \param body_len    the number of bytes in it.
+ * \param out         receives READ's block.
+ * \param out_len     the number of bytes; READ is refused 4 unless B.
+ * \param places      receives ALLOC's block numbers.
+ * \param places_len  the number of places; ALLOC is refused 4 if less
+ *                    than its count.
+ * \param value       receives the result of DELETE, FREE or TICK.
+ * \return  0 or a refusal.
+ */
+uint32_t negvask_serve(NEGVASK_TABLES,
+	uint8_t kind, const uint8_t *body, size_t body_len,
+	uint8_t *out, size_t out_len, uint16_t *places, size_t places_len,
+	uint64_t *value);
+
+#ifdef __cplusplus
+}
+#endif
+
+#endif

@@ -1,0 +1,602 @@
+//! Benchmark: each call by the library beside a plain linear version of it, in one run.
+//!
+//! The plain version is what a C programmer would write: the same audit before every call, in one walk over pointers
+//! and blocks, then the call's own work with binary search and block moves. The floor is what no version can
+//! undercut by much: one addition for every word of the tables but contents, and the copy or fill of the call.
+//! Times are the best of many batches, taken in turns; none is asserted.
+
+#[allow(dead_code)]
+mod library;
+#[allow(dead_code)]
+mod model;
+
+use library::{Direct, LentBuffers, RawCredential, RawNewKey, Tables};
+use model::{ends, word, Buffers, Card, Credential, Key, ALLOCATED, DAY, READ_KEY, TIME_END, WRITE_KEY};
+use std::collections::BTreeSet;
+use std::hint::black_box;
+use std::time::{Duration, Instant};
+
+const READER: Key = Key { high: 11, low: 12 };
+const WRITER: Key = Key { high: 21, low: 22 };
+
+// ---- The plain version ----
+
+mod plain {
+    use super::*;
+
+    pub fn audit(card: &Card) -> u32 {
+        let &[n, r, b, m, t] = card.info.as_slice() else { return 1 };
+        let places = card.pointers.len();
+        if !(16..=4_096).contains(&n) || !(1..=8).contains(&r) || !(512..=65_536).contains(&b) || b & (b - 1) != 0 {
+            return 1;
+        }
+        let (n, r, m) = (n as usize, r as usize, m as usize);
+        if t >= TIME_END
+            || card.flags.len() != n
+            || card.keys.len() != 4 * n
+            || card.counts.len() != n
+            || places < 1
+            || places > 16_384
+            || card.windows.len() != 2 * n
+            || card.contents.len() != n * b as usize
+            || m > places
+        {
+            return 1;
+        }
+        let flags = &card.flags[..n];
+        let mut found = [0u16; 4_096];
+        let mut last = 0;
+        for &p in &card.pointers[..m] {
+            let (s, d) = ((p >> 16) as usize, (p & 65_535) as usize);
+            if p <= last || s >= n || d >= n || d < r || s == d || flags[s] & 1 == 0 || flags[d] & 1 == 0 {
+                return 2;
+            }
+            found[d] += 1;
+            last = p;
+        }
+        if card.pointers[m..].iter().any(|&p| p != 0) {
+            return 2;
+        }
+        let latest = t + DAY;
+        let keys = card.keys.chunks_exact(4);
+        let windows = card.windows.chunks_exact(2);
+        for ((((b, &f), &count), k), w) in (0..n).zip(flags).zip(&card.counts).zip(keys).zip(windows) {
+            if f >= 8 || count != found[b] || w[0] > latest || w[1] > latest {
+                return 2;
+            }
+            if f & 1 == 0 {
+                if b < r || f != 0 || count != 0 || k[0] | k[1] | k[2] | k[3] | w[0] | w[1] != 0 {
+                    return 2;
+                }
+            } else if (b >= r && count == 0)
+                || (f & READ_KEY == 0 && k[0] | k[1] != 0)
+                || (f & WRITE_KEY == 0 && k[2] | k[3] != 0)
+            {
+                return 2;
+            }
+        }
+        0
+    }
+
+    fn allocated(card: &Card, b: u16) -> bool {
+        (b as usize) < card.flags.len() && card.flags[b as usize] & 1 != 0
+    }
+
+    fn is_key(card: &Card, b: u16, at: usize, key: Key) -> bool {
+        let at = 4 * b as usize + at;
+        card.keys[at] == key.high && card.keys[at + 1] == key.low
+    }
+
+    pub fn read(card: &mut Card, b: u16, key: Key, interval: u32, out: &mut [u8]) -> u32 {
+        match audit(card) {
+            0 => {}
+            refusal => return refusal,
+        }
+        let bytes = card.info[2] as usize;
+        if out.len() != bytes || interval as u64 > DAY {
+            return 4;
+        }
+        if !allocated(card, b) {
+            return 3;
+        }
+        let f = card.flags[b as usize];
+        if f & READ_KEY == 0 || !(is_key(card, b, 0, key) || (f & WRITE_KEY != 0 && is_key(card, b, 2, key))) {
+            return 5;
+        }
+        out.copy_from_slice(&card.contents[b as usize * bytes..][..bytes]);
+        card.windows[2 * b as usize] = card.info[4] + interval as u64;
+        0
+    }
+
+    pub fn write(card: &mut Card, b: u16, key: Key, interval: u32, data: &[u8]) -> u32 {
+        match audit(card) {
+            0 => {}
+            refusal => return refusal,
+        }
+        let bytes = card.info[2] as usize;
+        if data.len() != bytes || interval as u64 > DAY {
+            return 4;
+        }
+        if !allocated(card, b) {
+            return 3;
+        }
+        if card.flags[b as usize] & WRITE_KEY == 0 || !is_key(card, b, 2, key) {
+            return 5;
+        }
+        card.contents[b as usize * bytes..][..bytes].copy_from_slice(data);
+        card.windows[2 * b as usize + 1] = card.info[4] + interval as u64;
+        0
+    }
+
+    fn insert(card: &mut Card, pointer: u32) {
+        let m = card.info[3] as usize;
+        let at = card.pointers[..m].binary_search(&pointer).unwrap_or_else(|at| at);
+        card.pointers.copy_within(at..m, at + 1);
+        card.pointers[at] = pointer;
+        card.info[3] += 1;
+        card.counts[(pointer & 65_535) as usize] += 1;
+    }
+
+    pub fn alloc(card: &mut Card, r: u16, key: Key, hint: u16, count: u8, places: &mut [u16]) -> u32 {
+        match audit(card) {
+            0 => {}
+            refusal => return refusal,
+        }
+        let (n, bytes) = (card.flags.len(), card.info[2] as usize);
+        if count == 0 || count > 64 || hint as usize >= n || places.len() < count as usize {
+            return 4;
+        }
+        if !allocated(card, r) {
+            return 3;
+        }
+        if (r as u64) < card.info[1] {
+            return 6;
+        }
+        if card.flags[r as usize] & WRITE_KEY == 0 || !is_key(card, r, 2, key) {
+            return 5;
+        }
+        if card.flags.iter().filter(|&&f| f & 1 == 0).count() < count as usize {
+            return 10;
+        }
+        if card.info[3] as usize + count as usize > card.pointers.len() {
+            return 11;
+        }
+        // Outward from the hint, below before above; what was taken stays behind.
+        let (mut below, mut above) = (hint as isize, hint as usize + 1);
+        for place in &mut places[..count as usize] {
+            while below >= 0 && card.flags[below as usize] & 1 != 0 {
+                below -= 1;
+            }
+            while above < n && card.flags[above] & 1 != 0 {
+                above += 1;
+            }
+            let lower = below >= 0 && (above >= n || hint as isize - below <= above as isize - hint as isize);
+            let b = if lower { below as usize } else { above };
+            card.flags[b] = ALLOCATED;
+            card.contents[b * bytes..][..bytes].fill(0);
+            insert(card, word(r as usize, b));
+            *place = b as u16;
+        }
+        0
+    }
+
+    pub fn create(card: &mut Card, s: u16, d: u16, key: Key) -> u32 {
+        match audit(card) {
+            0 => {}
+            refusal => return refusal,
+        }
+        if !allocated(card, s) || !allocated(card, d) {
+            return 3;
+        }
+        if (d as u64) < card.info[1] || (s as u64) < card.info[1] {
+            return 6;
+        }
+        for b in [s, d] {
+            if card.flags[b as usize] & WRITE_KEY == 0 || !is_key(card, b, 2, key) {
+                return 5;
+            }
+        }
+        let m = card.info[3] as usize;
+        let pointer = word(s as usize, d as usize);
+        if s == d || card.pointers[..m].binary_search(&pointer).is_ok() {
+            return 7;
+        }
+        if m == card.pointers.len() {
+            return 11;
+        }
+        insert(card, pointer);
+        0
+    }
+
+    pub fn delete(card: &mut Card, s: u16, d: u16, key: Key, value: &mut u64) -> u32 {
+        match audit(card) {
+            0 => {}
+            refusal => return refusal,
+        }
+        if !allocated(card, s) || !allocated(card, d) {
+            return 3;
+        }
+        if (s as u64) < card.info[1] {
+            return 6;
+        }
+        if card.flags[s as usize] & WRITE_KEY == 0 || !is_key(card, s, 2, key) {
+            return 5;
+        }
+        let m = card.info[3] as usize;
+        let Ok(at) = card.pointers[..m].binary_search(&word(s as usize, d as usize)) else { return 8 };
+        let own = card.pointers[..m].partition_point(|&p| p < word(d as usize, 0));
+        if card.counts[d as usize] == 1 && own < m && card.pointers[own] >> 16 == d as u32 {
+            return 9;
+        }
+        card.pointers.copy_within(at + 1..m, at);
+        card.pointers[m - 1] = 0;
+        card.info[3] -= 1;
+        let d = d as usize;
+        card.counts[d] -= 1;
+        *value = (card.counts[d] == 0) as u64;
+        if card.counts[d] == 0 {
+            card.flags[d] = 0;
+            card.keys[4 * d..4 * d + 4].fill(0);
+            card.windows[2 * d..2 * d + 2].fill(0);
+        }
+        0
+    }
+
+    pub fn set_keys(card: &mut Card, b: u16, key: Key, read: Key, write: Key) -> u32 {
+        match audit(card) {
+            0 => {}
+            refusal => return refusal,
+        }
+        if !allocated(card, b) {
+            return 3;
+        }
+        if (b as u64) < card.info[1] {
+            return 6;
+        }
+        if card.flags[b as usize] & WRITE_KEY == 0 || !is_key(card, b, 2, key) {
+            return 5;
+        }
+        let b = b as usize;
+        card.flags[b] = ALLOCATED | READ_KEY | WRITE_KEY;
+        card.keys[4 * b..4 * b + 4].copy_from_slice(&[read.high, read.low, write.high, write.low]);
+        card.windows[2 * b..2 * b + 2].fill(0);
+        0
+    }
+
+    pub fn tick(card: &mut Card, seconds: u64, value: &mut u64) -> u32 {
+        match audit(card) {
+            0 => {}
+            refusal => return refusal,
+        }
+        if seconds >= TIME_END - card.info[4] {
+            return 12;
+        }
+        card.info[4] += seconds;
+        *value = card.info[4];
+        0
+    }
+
+    /// One addition for every word of the tables but contents.
+    pub fn pass(card: &Card) -> u64 {
+        let wide = card.keys.iter().chain(&card.windows).fold(0u64, |a, &w| a.wrapping_add(w));
+        let pointers = card.pointers.iter().fold(0u32, |a, &p| a.wrapping_add(p));
+        let counts = card.counts.iter().fold(0u16, |a, &c| a.wrapping_add(c));
+        let flags = card.flags.iter().fold(0u8, |a, &f| a.wrapping_add(f));
+        wide.wrapping_add(pointers as u64).wrapping_add(counts as u64).wrapping_add(flags as u64)
+    }
+}
+
+// ---- Cards ----
+
+#[derive(Clone, Copy)]
+struct Size {
+    name: &'static str,
+    blocks: usize,
+    places: usize,
+    /// Calls in a batch of CREATE, then of DELETE, which undoes it.
+    batch: usize,
+}
+
+const SIZES: [Size; 3] = [
+    Size { name: "small", blocks: 16, places: 32, batch: 4 },
+    Size { name: "middle", blocks: 512, places: 2_048, batch: 16 },
+    Size { name: "full", blocks: 4_096, places: 16_384, batch: 16 },
+];
+
+/// A sound card with all non-root blocks under the same two keys, block 1 pointing to none, and `spare` places left.
+fn card(size: Size, spare: usize) -> Card {
+    let n = size.blocks;
+    let used = if n == 16 { 11 } else { n - n / 8 };
+    let mut card = Card {
+        info: vec![n as u64, 1, 512, 0, 1_000],
+        flags: vec![0; n],
+        keys: vec![0; 4 * n],
+        counts: vec![0; n],
+        pointers: vec![0; size.places],
+        windows: vec![0; 2 * n],
+        contents: vec![1; n * 512],
+    };
+    card.flags[0] = ALLOCATED;
+    // The free blocks lie scattered, so that ALLOC has to look for them.
+    let free_every = n / (n - used);
+    let taken: Vec<usize> = (1..n).filter(|b| *b < 6 || b % free_every != free_every - 1).take(used - 1).collect();
+    for &b in &taken {
+        card.flags[b] = ALLOCATED | READ_KEY | WRITE_KEY;
+        card.keys[4 * b..4 * b + 4].copy_from_slice(&[READER.high, READER.low, WRITER.high, WRITER.low]);
+        card.windows[2 * b..2 * b + 2].fill(1_000 + b as u64);
+    }
+    let mut pointers: BTreeSet<u32> = taken.iter().map(|&b| word(0, b)).collect();
+    let mut state = 1u64;
+    while pointers.len() < size.places - spare {
+        state = state.wrapping_mul(6_364_136_223_846_793_005).wrapping_add(1_442_695_040_888_963_407);
+        let s = taken[(state >> 33) as usize % taken.len()];
+        let d = taken[(state >> 45) as usize % taken.len()];
+        if s != 1 && s != d {
+            pointers.insert(word(s, d));
+        }
+    }
+    card.info[3] = pointers.len() as u64;
+    for (i, p) in pointers.into_iter().enumerate() {
+        card.pointers[i] = p;
+        card.counts[ends(p).1] += 1;
+    }
+    assert_eq!(plain::audit(&card), 0);
+    card
+}
+
+// ---- Measuring ----
+
+struct Side {
+    tables: Tables,
+    buffers: LentBuffers,
+    plain: Card,
+    /// Where the plain version reads to.
+    out: Vec<u8>,
+}
+
+fn side(size: Size, spare: usize) -> Side {
+    let card = card(size, spare);
+    let lent = Buffers { out: vec![0; 512], places: vec![0; 64], value: 0 };
+    Side { tables: Tables::new(&card), buffers: LentBuffers::new(&lent), plain: card, out: vec![0; 512] }
+}
+
+/// How long each row is measured.
+const SHARE: Duration = Duration::from_millis(150);
+
+/// The best time of a batch of each work, taken in turns for a while; nanoseconds a call.
+fn in_turns<const W: usize>(side: &mut Side, calls: usize, works: [&dyn Fn(&mut Side) -> Duration; W]) -> [f64; W] {
+    let mut best = [Duration::MAX; W];
+    let start = Instant::now();
+    let mut rounds = 0;
+    while rounds < 5 || (start.elapsed() < SHARE && rounds < 20_000) {
+        for (best, work) in best.iter_mut().zip(works) {
+            *best = work(side).min(*best);
+        }
+        rounds += 1;
+    }
+    best.map(|d| d.as_nanos() as f64 / calls as f64)
+}
+
+fn timed(mut work: impl FnMut()) -> Duration {
+    let start = Instant::now();
+    work();
+    start.elapsed()
+}
+
+fn done(answer: u32) {
+    assert_eq!(black_box(answer), 0, "a call of the benchmark was refused");
+}
+
+/// A batch of a call that leaves the card fit for the next one.
+fn library_batch(side: &mut Side, calls: usize, call: &Direct) -> Duration {
+    timed(|| (0..calls).for_each(|_| done(side.tables.call(call, &mut side.buffers))))
+}
+
+/// Such a call by the library, the plain version, and the library's audit followed by a copy of a block.
+fn repeated(side: &mut Side, calls: usize, call: &Direct, plain: impl Fn(&mut Card, &mut [u8])) -> [f64; 3] {
+    in_turns(
+        side,
+        calls,
+        [
+            &|s| library_batch(s, calls, call),
+            &|s| timed(|| (0..calls).for_each(|_| plain(&mut s.plain, &mut s.out))),
+            &|s| {
+                timed(|| {
+                    for _ in 0..calls {
+                        done(s.tables.call(&Direct::Audit, &mut s.buffers));
+                        copy_block(s);
+                    }
+                })
+            },
+        ],
+    )
+}
+
+fn copy_block(side: &mut Side) {
+    black_box(&mut side.out[..]).copy_from_slice(black_box(&side.plain.contents[512..1_024]));
+}
+
+struct Row {
+    call: &'static str,
+    size: Size,
+    library: f64,
+    plain: f64,
+    floor: f64,
+    /// What the target is measured against, and the target.
+    against: f64,
+    target: Option<f64>,
+}
+
+fn rows(size: Size) -> Vec<Row> {
+    let key = |k: Key| RawCredential::from(Credential::Key(k));
+    let calls = if size.blocks == 16 { 64 } else { 4 };
+    let mut side_full = side(size, 0);
+    let s = &mut side_full;
+    let data = vec![3u8; 512];
+
+    let [pass] = in_turns(
+        s,
+        calls,
+        [&|s| {
+            timed(|| {
+                (0..calls).for_each(|_| {
+                    black_box(plain::pass(black_box(&s.plain)));
+                })
+            })
+        }],
+    );
+    let [copy] = in_turns(s, 100, [&|s| timed(|| (0..100).for_each(|_| copy_block(s)))]);
+
+    let audit = repeated(s, calls, &Direct::Audit, |c, _| done(plain::audit(black_box(c))));
+    let read = Direct::Read { port: 0, block: 2, credential: key(READER), interval: 10 };
+    let read = repeated(s, calls, &read, |c, out| done(plain::read(c, 2, READER, 10, black_box(out))));
+    let write = Direct::Write { port: 0, block: 2, credential: key(WRITER), interval: 10, data: data.clone() };
+    let write = repeated(s, calls, &write, |c, _| done(plain::write(c, 2, WRITER, 10, black_box(&data))));
+    let new = |k| RawNewKey::from(Some(k));
+    let keys = Direct::Key { port: 0, block: 2, credential: key(WRITER), read: new(READER), write: new(WRITER) };
+    let keys = repeated(s, calls, &keys, |c, _| done(plain::set_keys(c, 2, WRITER, READER, WRITER)));
+    let tick = repeated(s, calls, &Direct::Tick { seconds: 0 }, |c, _| done(plain::tick(c, 0, black_box(&mut 0))));
+    assert_eq!(s.tables.difference(&s.plain), None, "library and plain version differ");
+
+    // CREATE from block 1 to a batch of blocks, then DELETE: pointers near the front, so that most of the table moves.
+    let batch = size.batch;
+    let mut side_spare = side(size, batch);
+    let s = &mut side_spare;
+    let destinations: Vec<u16> =
+        (2..size.blocks).filter(|&b| s.plain.flags[b] != 0).take(batch).map(|b| b as u16).collect();
+    let creates: Vec<Direct> = destinations
+        .iter()
+        .map(|&d| Direct::Create {
+            port: 0,
+            source: 1,
+            source_credential: key(WRITER),
+            destination: d,
+            destination_credential: key(WRITER),
+        })
+        .collect();
+    let deletes: Vec<Direct> = destinations
+        .iter()
+        .map(|&d| Direct::Delete { port: 0, source: 1, credential: key(WRITER), destination: d })
+        .collect();
+    let library_all =
+        |s: &mut Side, calls: &[Direct]| timed(|| calls.iter().for_each(|c| done(s.tables.call(c, &mut s.buffers))));
+    let plain_create =
+        |s: &mut Side| timed(|| destinations.iter().for_each(|&d| done(plain::create(&mut s.plain, 1, d, WRITER))));
+    let plain_delete = |s: &mut Side| {
+        let mut value = 0;
+        timed(|| destinations.iter().for_each(|&d| done(plain::delete(&mut s.plain, 1, d, WRITER, &mut value))))
+    };
+    let [create, plain_create, delete, plain_delete] = in_turns(
+        s,
+        batch,
+        [&|s| library_all(s, &creates), &|s| plain_create(s), &|s| library_all(s, &deletes), &|s| plain_delete(s)],
+    );
+    assert_eq!(s.tables.difference(&s.plain), None, "library and plain version differ");
+
+    // ALLOC from block 1 by a hint in the middle; the blocks are freed again outside the time.
+    let hint = size.blocks as u16 / 2;
+    let alloc = |count: u8| {
+        let mut side = side(size, 64.min(size.places / 4));
+        let request = Direct::Alloc { port: 0, reference: 1, credential: key(WRITER), hint, count };
+        let figures = in_turns(
+            &mut side,
+            1,
+            [
+                &|s| {
+                    let time = timed(|| done(s.tables.call(&request, &mut s.buffers)));
+                    for i in 0..count as usize {
+                        let destination = s.buffers.places.values()[i];
+                        let undo = Direct::Delete {
+                            port: 1,
+                            source: 1,
+                            credential: RawCredential::from(Credential::Nothing),
+                            destination,
+                        };
+                        done(s.tables.call(&undo, &mut s.buffers));
+                    }
+                    time
+                },
+                &|s| {
+                    let mut places = [0u16; 64];
+                    let time =
+                        timed(|| done(plain::alloc(&mut s.plain, 1, WRITER, hint, count, black_box(&mut places))));
+                    let mut value = 0;
+                    places[..count as usize]
+                        .iter()
+                        .for_each(|&d| done(plain::delete(&mut s.plain, 1, d, WRITER, &mut value)));
+                    time
+                },
+            ],
+        );
+        assert_eq!(side.tables.difference(&side.plain), None, "library and plain version differ");
+        figures
+    };
+
+    let row = |call, library, plain, floor, against, target| Row { call, size, library, plain, floor, against, target };
+    let mut rows = vec![
+        row("AUDIT", audit[0], audit[1], pass, audit[1], Some(1.5)),
+        row("READ", read[0], read[1], pass + copy, read[2], Some(1.1)),
+        row("WRITE", write[0], write[1], pass + copy, write[2], Some(1.1)),
+    ];
+    let [one, plain_one] = alloc(1);
+    rows.push(row("ALLOC 1", one, plain_one, pass + copy, plain_one, None));
+    if size.blocks > 80 {
+        let [many, plain_many] = alloc(64);
+        rows.push(row("ALLOC 64", many, plain_many, pass + 64.0 * copy, plain_many, Some(1.5)));
+    }
+    rows.push(row("CREATE", create, plain_create, pass, plain_create, Some(1.5)));
+    rows.push(row("DELETE", delete, plain_delete, pass, plain_delete, Some(1.5)));
+    rows.push(row("KEY", keys[0], keys[1], pass, keys[1], None));
+    rows.push(row("TICK", tick[0], tick[1], pass, tick[1], None));
+    rows
+}
+
+fn main() {
+    let all: Vec<Row> = SIZES.iter().flat_map(|&size| rows(size)).collect();
+    println!("Nanoseconds a call, best of many batches taken in turns. B is 512.");
+    println!();
+    println!("| call | size | N | P | library | plain | floor | library / plain | ratio for the target | target |");
+    println!("| --- | --- | ---: | ---: | ---: | ---: | ---: | ---: | ---: | ---: |");
+    for r in &all {
+        let (ratio, target) = match r.target {
+            Some(t) => (
+                format!("{:.2}", r.library / r.against),
+                format!("{t:.1}{}", if r.library / r.against > t { " (above)" } else { "" }),
+            ),
+            None => ("".to_string(), "".to_string()),
+        };
+        println!(
+            "| {} | {} | {} | {} | {:.0} | {:.0} | {:.0} | {:.2} | {} | {} |",
+            r.call,
+            r.size.name,
+            r.size.blocks,
+            r.size.places,
+            r.library,
+            r.plain,
+            r.floor,
+            r.library / r.plain,
+            ratio,
+            target
+        );
+    }
+    println!();
+    println!("Targets: AUDIT against the plain audit; READ and WRITE against the library's own audit plus a copy of");
+    println!("B bytes; ALLOC 64, CREATE and DELETE against the plain call, audit included.");
+    println!();
+    println!("| growth of | from | to | N + P grows | library grows | plain grows |");
+    println!("| --- | --- | --- | ---: | ---: | ---: |");
+    for call in ["AUDIT", "READ", "CREATE", "DELETE", "ALLOC 64"] {
+        let of: Vec<&Row> = all.iter().filter(|r| r.call == call).collect();
+        for pair in of.windows(2) {
+            let words = |r: &Row| (r.size.blocks + r.size.places) as f64;
+            println!(
+                "| {call} | {} | {} | {:.1} | {:.1} | {:.1} |",
+                pair[0].size.name,
+                pair[1].size.name,
+                words(pair[1]) / words(pair[0]),
+                pair[1].library / pair[0].library,
+                pair[1].plain / pair[0].plain
+            );
+        }
+    }
+}

@@ -1,0 +1,249 @@
+//! Damage to a sound card, one clause of shape or soundness at a time.
+
+use crate::model::{ends, word, Card, ALLOCATED, DAY, READ_KEY, TIME_END, WRITE_KEY};
+use crate::random_card::Random;
+
+/// Ways to damage a sound card, by clause of shape and of soundness.
+pub const DAMAGES: [&str; 54] = [
+    "record short",
+    "record long",
+    "record empty",
+    "N 15",
+    "N 4097",
+    "N one more",
+    "N one less",
+    "N 2^62",
+    "N 2^64 - 1",
+    "R 0",
+    "R 9",
+    "R 2^64 - 1",
+    "B 256",
+    "B 131072",
+    "B no power of two",
+    "B 0",
+    "B twice",
+    "B 2^63",
+    "T 2^40",
+    "T 2^64 - 1",
+    "M above P",
+    "M 2^64 - 1",
+    "flags short",
+    "flags long",
+    "keys short",
+    "keys long",
+    "counts short",
+    "counts long",
+    "no pointers",
+    "16385 pointers",
+    "windows short",
+    "windows long",
+    "contents short",
+    "contents long",
+    "flags 8 and above",
+    "root unallocated",
+    "unallocated with a key flag",
+    "unallocated with a key word",
+    "unallocated with a count",
+    "unallocated with a window",
+    "absent key not 0",
+    "pointers not ascending",
+    "pointer twice",
+    "pointer past M",
+    "M one more",
+    "M one less",
+    "source past N or free",
+    "destination past N or free",
+    "destination a root",
+    "equal ends",
+    "count too high",
+    "count too low",
+    "allocated without pointer",
+    "window past T + 86400",
+];
+
+/// The first of them are faults of shape, the others of soundness.
+pub const SHAPE_DAMAGES: usize = 34;
+
+/// Damages the card; false where this card has no place for it.
+pub fn damage(rnd: &mut Random, card: &mut Card, which: usize) -> bool {
+    let (n, r, m, p) = (card.blocks(), card.roots(), card.used(), card.pointers.len());
+    let all: Vec<usize> = (0..n).collect();
+    let allocated: Vec<usize> = all.iter().copied().filter(|&b| card.allocated(b)).collect();
+    let free: Vec<usize> = all.iter().copied().filter(|&b| !card.allocated(b)).collect();
+    // Replaces one pointer, keeping order and counts right, so that only the clause in question fails.
+    let replace = |card: &mut Card, at: usize, new: u32| {
+        let old = card.pointers[at];
+        card.counts[ends(old).1] -= 1;
+        if ends(new).1 < n {
+            card.counts[ends(new).1] += 1;
+        }
+        card.pointers[at] = new;
+        card.pointers[..m].sort();
+    };
+    // Gives every table the length that the record then asks for, so that only the range fails. Costly, so not always.
+    let fit = |rnd: &mut Random, card: &mut Card| {
+        let (n, b) = (card.info[0] as usize, card.info[2] as usize);
+        if n * b <= 1 << 22 && rnd.percent(30) {
+            card.flags.resize(n, 0);
+            card.keys.resize(4 * n, 0);
+            card.counts.resize(n, 0);
+            card.windows.resize(2 * n, 0);
+            card.contents.resize(n * b, 0);
+        }
+    };
+    match DAMAGES[which] {
+        "record short" => card.info.truncate(4),
+        "record long" => card.info.push(0),
+        "record empty" => card.info.clear(),
+        "N 15" => {
+            card.info[0] = 15;
+            fit(rnd, card);
+        }
+        "N 4097" => {
+            card.info[0] = 4_097;
+            fit(rnd, card);
+        }
+        "N one more" => card.info[0] += 1,
+        "N one less" => card.info[0] -= 1,
+        "N 2^62" => card.info[0] = 1 << 62,
+        "N 2^64 - 1" => card.info[0] = u64::MAX,
+        "R 0" => card.info[1] = 0,
+        "R 9" => card.info[1] = 9,
+        "R 2^64 - 1" => card.info[1] = u64::MAX,
+        "B 256" => {
+            card.info[2] = 256;
+            fit(rnd, card);
+        }
+        "B 131072" => {
+            card.info[2] = 131_072;
+            fit(rnd, card);
+        }
+        "B no power of two" => {
+            card.info[2] += rnd.of(&[1, 256, 2]);
+            fit(rnd, card);
+        }
+        "B 0" => {
+            card.info[2] = 0;
+            fit(rnd, card);
+        }
+        "B twice" => card.info[2] *= 2,
+        "B 2^63" => card.info[2] = 1 << 63,
+        "T 2^40" => card.info[4] = TIME_END,
+        "T 2^64 - 1" => card.info[4] = u64::MAX,
+        "M above P" => card.info[3] = p as u64 + 1,
+        "M 2^64 - 1" => card.info[3] = u64::MAX,
+        "flags short" => card.flags.truncate(n - 1),
+        "flags long" => card.flags.push(0),
+        "keys short" => card.keys.truncate(4 * n - 1),
+        "keys long" => card.keys.push(0),
+        "counts short" => card.counts.truncate(n - 1),
+        "counts long" => card.counts.push(0),
+        "no pointers" => {
+            card.pointers.clear();
+            card.info[3] = 0;
+        }
+        "16385 pointers" => card.pointers.resize(16_385, 0),
+        "windows short" => card.windows.truncate(2 * n - 1),
+        "windows long" => card.windows.push(0),
+        "contents short" => card.contents.truncate(card.contents.len() - 1),
+        "contents long" => card.contents.push(0),
+        "flags 8 and above" => {
+            let b = rnd.of(&all);
+            card.flags[b] |= rnd.of(&[8, 16, 32, 64, 128, 248]);
+        }
+        "root unallocated" => {
+            let b = rnd.below(r as u64) as usize;
+            card.flags[b] = 0;
+            card.keys[4 * b..4 * b + 4].fill(0);
+            card.windows[2 * b..2 * b + 2].fill(0);
+        }
+        "unallocated with a key flag" if !free.is_empty() => {
+            card.flags[rnd.of(&free)] = rnd.of(&[READ_KEY, WRITE_KEY, READ_KEY | WRITE_KEY]);
+        }
+        "unallocated with a key word" if !free.is_empty() => {
+            card.keys[4 * rnd.of(&free) + rnd.below(4) as usize] = rnd.of(&[1, 1 << 63, u64::MAX]);
+        }
+        "unallocated with a count" if !free.is_empty() => card.counts[rnd.of(&free)] = rnd.of(&[1, 256, 65_535]),
+        "unallocated with a window" if !free.is_empty() => {
+            card.windows[2 * rnd.of(&free) + rnd.below(2) as usize] =
+                rnd.of(&[1, card.info[4].max(1), card.info[4] + 1]);
+        }
+        "absent key not 0" => {
+            let b = rnd.of(&allocated);
+            let flag = rnd.below(2) as usize;
+            if card.flags[b] & [READ_KEY, WRITE_KEY][flag] != 0 {
+                return false;
+            }
+            card.keys[4 * b + 2 * flag + rnd.below(2) as usize] = rnd.of(&[1, 1 << 32, u64::MAX]);
+        }
+        "pointers not ascending" if m >= 2 => {
+            let i = rnd.below(m as u64 - 1) as usize;
+            card.pointers.swap(i, i + 1);
+        }
+        "pointer twice" if m >= 1 && m < p => {
+            let i = rnd.below(m as u64) as usize;
+            let pointer = card.pointers[i];
+            card.pointers[m] = pointer;
+            card.info[3] += 1;
+            card.pointers[..m + 1].sort();
+            card.counts[ends(pointer).1] += 1;
+        }
+        "pointer past M" if m < p => {
+            let i = rnd.of(&[m as u64, p as u64 - 1]) as usize;
+            card.pointers[i] = rnd.of(&[1, 65_536, u32::MAX, word(n - 1, n - 2)]);
+        }
+        "M one more" if m < p => card.info[3] += 1,
+        "M one less" if m > 0 => card.info[3] -= 1,
+        "source past N or free" if m > 0 => {
+            let i = rnd.below(m as u64) as usize;
+            let destination = ends(card.pointers[i]).1;
+            let source = if free.is_empty() || rnd.percent(50) { rnd.of(&[n, 65_535]) } else { rnd.of(&free) };
+            replace(card, i, word(source, destination));
+        }
+        "destination past N or free" if m > 0 => {
+            let i = rnd.below(m as u64) as usize;
+            let source = ends(card.pointers[i]).0;
+            let destination = if free.is_empty() || rnd.percent(50) { rnd.of(&[n, 65_535]) } else { rnd.of(&free) };
+            replace(card, i, word(source, destination));
+        }
+        "destination a root" if m < p => {
+            let destination = rnd.below(r as u64) as usize;
+            let source = rnd.of(&allocated);
+            if source == destination {
+                return false;
+            }
+            card.pointers[m] = word(source, destination);
+            card.info[3] += 1;
+            card.pointers[..m + 1].sort();
+            card.counts[destination] += 1;
+        }
+        "equal ends" if m < p => {
+            let b = rnd.of(&allocated);
+            if b < r {
+                return false;
+            }
+            card.pointers[m] = word(b, b);
+            card.info[3] += 1;
+            card.pointers[..m + 1].sort();
+            card.counts[b] += 1;
+        }
+        "count too high" => {
+            let b = rnd.of(&allocated);
+            card.counts[b] = rnd.of(&[card.counts[b] + 1, card.counts[b] + 256, 65_535]);
+        }
+        "count too low" => {
+            let b = rnd.of(&allocated);
+            if card.counts[b] == 0 {
+                return false;
+            }
+            card.counts[b] -= 1;
+        }
+        "allocated without pointer" if !free.is_empty() => card.flags[rnd.of(&free)] = ALLOCATED,
+        "window past T + 86400" => {
+            let end = rnd.of(&[card.info[4] + DAY + 1, TIME_END + DAY + 1, u64::MAX]);
+            card.windows[2 * rnd.of(&allocated) + rnd.below(2) as usize] = end;
+        }
+        _ => return false,
+    }
+    true
+}

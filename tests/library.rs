@@ -1,0 +1,600 @@
+//! The library's C interface as Rust sees it: lent tables with guards around them, and every call with raw operands.
+
+use crate::model::{Buffers, Call, Card, Credential, Key, Port};
+
+/// Declares functions that all begin with the record and the six tables.
+macro_rules! library {
+    ($($name:ident($($operand:ident: $kind:ty),*);)*) => {
+        extern "C" {
+            $(fn $name(
+                info: *mut u64, info_len: usize,
+                flags: *mut u8, flags_len: usize,
+                keys: *mut u64, keys_len: usize,
+                counts: *mut u16, counts_len: usize,
+                pointers: *mut u32, pointers_len: usize,
+                windows: *mut u64, windows_len: usize,
+                contents: *mut u8, contents_len: usize,
+                $($operand: $kind),*
+            ) -> u32;)*
+        }
+    };
+}
+
+library! {
+    negvask_format(blocks: u64, roots: u64, bytes: u64);
+    negvask_audit();
+    negvask_read(port: u8, block: u16, kind: u8, reference: u16, high: u64, low: u64, interval: u32,
+                 out: *mut u8, out_len: usize);
+    negvask_write(port: u8, block: u16, kind: u8, reference: u16, high: u64, low: u64, interval: u32,
+                  data: *const u8, data_len: usize);
+    negvask_alloc(port: u8, block: u16, kind: u8, reference: u16, high: u64, low: u64, hint: u16, count: u8,
+                  places: *mut u16, places_len: usize);
+    negvask_create(port: u8, source: u16, kind: u8, reference: u16, high: u64, low: u64,
+                   destination: u16, kind2: u8, reference2: u16, high2: u64, low2: u64);
+    negvask_delete(port: u8, source: u16, kind: u8, reference: u16, high: u64, low: u64, destination: u16,
+                   value: *mut u64);
+    negvask_key(port: u8, block: u16, kind: u8, reference: u16, high: u64, low: u64,
+                read: u8, read_high: u64, read_low: u64, write: u8, write_high: u64, write_low: u64);
+    negvask_renew(mode: u8, block: u16, high: u64, low: u64, interval: u32);
+    negvask_force(block: u16);
+    negvask_free(value: *mut u64);
+    negvask_tick(seconds: u64, value: *mut u64);
+    negvask_serve(kind: u8, body: *const u8, body_len: usize, out: *mut u8, out_len: usize,
+                  places: *mut u16, places_len: usize, value: *mut u64);
+}
+
+const GUARDS: usize = 16;
+
+/// Lent memory with guard elements on both sides, so that a write outside of it is seen.
+pub struct Lent<T> {
+    memory: Vec<T>,
+    guard: T,
+}
+
+impl<T: Copy + PartialEq> Lent<T> {
+    pub fn new(values: &[T], guard: T) -> Self {
+        let mut lent = Lent { memory: Vec::new(), guard };
+        lent.load(values);
+        lent
+    }
+    pub fn load(&mut self, values: &[T]) {
+        self.memory.clear();
+        self.memory.reserve(values.len() + 2 * GUARDS);
+        self.memory.extend([self.guard; GUARDS]);
+        self.memory.extend_from_slice(values);
+        self.memory.extend([self.guard; GUARDS]);
+    }
+    pub fn values(&self) -> &[T] {
+        &self.memory[GUARDS..self.memory.len() - GUARDS]
+    }
+    pub fn pointer(&mut self) -> *mut T {
+        self.memory[GUARDS..].as_mut_ptr()
+    }
+    pub fn length(&self) -> usize {
+        self.memory.len() - 2 * GUARDS
+    }
+    pub fn guards_kept(&self) -> bool {
+        let end = self.memory.len() - GUARDS;
+        self.memory[..GUARDS].iter().chain(&self.memory[end..]).all(|&v| v == self.guard)
+    }
+}
+
+/// The record and tables as lent to the library.
+pub struct Tables {
+    pub info: Lent<u64>,
+    pub flags: Lent<u8>,
+    pub keys: Lent<u64>,
+    pub counts: Lent<u16>,
+    pub pointers: Lent<u32>,
+    pub windows: Lent<u64>,
+    pub contents: Lent<u8>,
+}
+
+/// Calls a function of the library with the record, the tables and the operands.
+macro_rules! with_tables {
+    ($name:ident, $t:expr $(, $operand:expr)*) => {
+        unsafe {
+            $name(
+                $t.info.pointer(), $t.info.length(),
+                $t.flags.pointer(), $t.flags.length(),
+                $t.keys.pointer(), $t.keys.length(),
+                $t.counts.pointer(), $t.counts.length(),
+                $t.pointers.pointer(), $t.pointers.length(),
+                $t.windows.pointer(), $t.windows.length(),
+                $t.contents.pointer(), $t.contents.length(),
+                $($operand),*
+            )
+        }
+    };
+}
+
+/// A credential as the C interface passes it; it need not be well formed.
+#[derive(Clone, Copy, Debug, PartialEq)]
+pub struct RawCredential {
+    pub kind: u8,
+    pub block: u16,
+    pub high: u64,
+    pub low: u64,
+}
+
+/// A new key or none as the C interface passes it.
+#[derive(Clone, Copy, Debug, PartialEq)]
+pub struct RawNewKey {
+    pub present: u8,
+    pub high: u64,
+    pub low: u64,
+}
+
+/// A call of the C interface.
+#[derive(Clone, Debug, PartialEq)]
+pub enum Direct {
+    Format {
+        blocks: u64,
+        roots: u64,
+        bytes: u64,
+    },
+    Read {
+        port: u8,
+        block: u16,
+        credential: RawCredential,
+        interval: u32,
+    },
+    Write {
+        port: u8,
+        block: u16,
+        credential: RawCredential,
+        interval: u32,
+        data: Vec<u8>,
+    },
+    Alloc {
+        port: u8,
+        reference: u16,
+        credential: RawCredential,
+        hint: u16,
+        count: u8,
+    },
+    Create {
+        port: u8,
+        source: u16,
+        source_credential: RawCredential,
+        destination: u16,
+        destination_credential: RawCredential,
+    },
+    Delete {
+        port: u8,
+        source: u16,
+        credential: RawCredential,
+        destination: u16,
+    },
+    Key {
+        port: u8,
+        block: u16,
+        credential: RawCredential,
+        read: RawNewKey,
+        write: RawNewKey,
+    },
+    Renew {
+        mode: u8,
+        block: u16,
+        key: Key,
+        interval: u32,
+    },
+    Force {
+        block: u16,
+    },
+    Free,
+    Tick {
+        seconds: u64,
+    },
+    Audit,
+}
+
+/// The buffers as lent to the library.
+pub struct LentBuffers {
+    pub out: Lent<u8>,
+    pub places: Lent<u16>,
+    pub value: Lent<u64>,
+}
+
+impl LentBuffers {
+    pub fn new(buffers: &Buffers) -> Self {
+        LentBuffers {
+            out: Lent::new(&buffers.out, 0xA5),
+            places: Lent::new(&buffers.places, 0xA5A5),
+            value: Lent::new(&[buffers.value], 0xA5A5_A5A5_A5A5_A5A5),
+        }
+    }
+
+    /// The first place where the buffers are not as the model has them.
+    pub fn difference(&self, model: &Buffers) -> Option<String> {
+        differs("out", &self.out, &model.out)
+            .or_else(|| differs("places", &self.places, &model.places))
+            .or_else(|| differs("value", &self.value, &[model.value]))
+    }
+}
+
+fn differs<T: Copy + PartialEq + std::fmt::Debug>(name: &str, library: &Lent<T>, model: &[T]) -> Option<String> {
+    if !library.guards_kept() {
+        return Some(format!("memory beside {name} was written to"));
+    }
+    let values = library.values();
+    if values == model {
+        return None;
+    }
+    let at = values.iter().zip(model).position(|(a, b)| a != b)?;
+    Some(format!("{name}[{at}]: library {:?}, model {:?}", values[at], model[at]))
+}
+
+impl Tables {
+    pub fn new(card: &Card) -> Self {
+        Tables {
+            info: Lent::new(&card.info, 0xA5A5_A5A5_A5A5_A5A5),
+            flags: Lent::new(&card.flags, 0xA5),
+            keys: Lent::new(&card.keys, 0xA5A5_A5A5_A5A5_A5A5),
+            counts: Lent::new(&card.counts, 0xA5A5),
+            pointers: Lent::new(&card.pointers, 0xA5A5_A5A5),
+            windows: Lent::new(&card.windows, 0xA5A5_A5A5_A5A5_A5A5),
+            contents: Lent::new(&card.contents, 0xA5),
+        }
+    }
+
+    pub fn load(&mut self, card: &Card) {
+        self.info.load(&card.info);
+        self.flags.load(&card.flags);
+        self.keys.load(&card.keys);
+        self.counts.load(&card.counts);
+        self.pointers.load(&card.pointers);
+        self.windows.load(&card.windows);
+        self.contents.load(&card.contents);
+    }
+
+    /// The first place where record or tables, but for contents, are not as the model has them.
+    pub fn difference_but_contents(&self, model: &Card) -> Option<String> {
+        differs("info", &self.info, &model.info)
+            .or_else(|| differs("flags", &self.flags, &model.flags))
+            .or_else(|| differs("keys", &self.keys, &model.keys))
+            .or_else(|| differs("counts", &self.counts, &model.counts))
+            .or_else(|| differs("pointers", &self.pointers, &model.pointers))
+            .or_else(|| differs("windows", &self.windows, &model.windows))
+    }
+
+    pub fn difference(&self, model: &Card) -> Option<String> {
+        self.difference_but_contents(model).or_else(|| differs("contents", &self.contents, &model.contents))
+    }
+
+    /// One call of the C interface.
+    pub fn call(&mut self, call: &Direct, lent: &mut LentBuffers) -> u32 {
+        match call {
+            Direct::Format { blocks, roots, bytes } => with_tables!(negvask_format, self, *blocks, *roots, *bytes),
+            Direct::Read { port, block, credential: c, interval } => with_tables!(
+                negvask_read,
+                self,
+                *port,
+                *block,
+                c.kind,
+                c.block,
+                c.high,
+                c.low,
+                *interval,
+                lent.out.pointer(),
+                lent.out.length()
+            ),
+            Direct::Write { port, block, credential: c, interval, data } => with_tables!(
+                negvask_write,
+                self,
+                *port,
+                *block,
+                c.kind,
+                c.block,
+                c.high,
+                c.low,
+                *interval,
+                data.as_ptr(),
+                data.len()
+            ),
+            Direct::Alloc { port, reference, credential: c, hint, count } => with_tables!(
+                negvask_alloc,
+                self,
+                *port,
+                *reference,
+                c.kind,
+                c.block,
+                c.high,
+                c.low,
+                *hint,
+                *count,
+                lent.places.pointer(),
+                lent.places.length()
+            ),
+            Direct::Create { port, source, source_credential: c, destination, destination_credential: d } => {
+                with_tables!(
+                    negvask_create,
+                    self,
+                    *port,
+                    *source,
+                    c.kind,
+                    c.block,
+                    c.high,
+                    c.low,
+                    *destination,
+                    d.kind,
+                    d.block,
+                    d.high,
+                    d.low
+                )
+            }
+            Direct::Delete { port, source, credential: c, destination } => with_tables!(
+                negvask_delete,
+                self,
+                *port,
+                *source,
+                c.kind,
+                c.block,
+                c.high,
+                c.low,
+                *destination,
+                lent.value.pointer()
+            ),
+            Direct::Key { port, block, credential: c, read, write } => with_tables!(
+                negvask_key,
+                self,
+                *port,
+                *block,
+                c.kind,
+                c.block,
+                c.high,
+                c.low,
+                read.present,
+                read.high,
+                read.low,
+                write.present,
+                write.high,
+                write.low
+            ),
+            Direct::Renew { mode, block, key, interval } => {
+                with_tables!(negvask_renew, self, *mode, *block, key.high, key.low, *interval)
+            }
+            Direct::Force { block } => with_tables!(negvask_force, self, *block),
+            Direct::Free => with_tables!(negvask_free, self, lent.value.pointer()),
+            Direct::Tick { seconds } => with_tables!(negvask_tick, self, *seconds, lent.value.pointer()),
+            Direct::Audit => with_tables!(negvask_audit, self),
+        }
+    }
+
+    /// One call record.
+    pub fn serve(&mut self, kind: u8, body: &[u8], lent: &mut LentBuffers) -> u32 {
+        with_tables!(
+            negvask_serve,
+            self,
+            kind,
+            body.as_ptr(),
+            body.len(),
+            lent.out.pointer(),
+            lent.out.length(),
+            lent.places.pointer(),
+            lent.places.length(),
+            lent.value.pointer()
+        )
+    }
+}
+
+// ---- Raw operands and what they mean ----
+
+impl RawCredential {
+    pub fn from(credential: Credential) -> Self {
+        match credential {
+            Credential::Nothing => RawCredential { kind: 0, block: 0, high: 0, low: 0 },
+            Credential::Reference(block) => RawCredential { kind: 1, block, high: 0, low: 0 },
+            Credential::Key(k) => RawCredential { kind: 2, block: 0, high: k.high, low: k.low },
+        }
+    }
+
+    /// The credential, unless its kind is none of the three or a part that the kind does not use is not 0.
+    pub fn plain(&self) -> Option<Credential> {
+        match *self {
+            RawCredential { kind: 0, block: 0, high: 0, low: 0 } => Some(Credential::Nothing),
+            RawCredential { kind: 1, block, high: 0, low: 0 } => Some(Credential::Reference(block)),
+            RawCredential { kind: 2, block: 0, high, low } => Some(Credential::Key(Key { high, low })),
+            _ => None,
+        }
+    }
+}
+
+impl RawNewKey {
+    pub fn from(key: Option<Key>) -> Self {
+        match key {
+            None => RawNewKey { present: 0, high: 0, low: 0 },
+            Some(k) => RawNewKey { present: 1, high: k.high, low: k.low },
+        }
+    }
+
+    pub fn plain(&self) -> Option<Option<Key>> {
+        match *self {
+            RawNewKey { present: 0, high: 0, low: 0 } => Some(None),
+            RawNewKey { present: 1, high, low } => Some(Some(Key { high, low })),
+            _ => None,
+        }
+    }
+}
+
+fn plain_port(port: u8) -> Option<Port> {
+    match port {
+        0 => Some(Port::Host),
+        1 => Some(Port::Service),
+        _ => None,
+    }
+}
+
+impl Direct {
+    pub fn from(port: Port, call: &Call) -> Self {
+        let port = port as u8;
+        match call.clone() {
+            Call::Read { block, credential, interval } => {
+                Direct::Read { port, block, credential: RawCredential::from(credential), interval }
+            }
+            Call::Write { block, credential, interval, data } => {
+                Direct::Write { port, block, credential: RawCredential::from(credential), interval, data }
+            }
+            Call::Alloc { reference, credential, hint, count } => {
+                Direct::Alloc { port, reference, credential: RawCredential::from(credential), hint, count }
+            }
+            Call::Create { source, source_credential, destination, destination_credential } => Direct::Create {
+                port,
+                source,
+                source_credential: RawCredential::from(source_credential),
+                destination,
+                destination_credential: RawCredential::from(destination_credential),
+            },
+            Call::Delete { source, credential, destination } => {
+                Direct::Delete { port, source, credential: RawCredential::from(credential), destination }
+            }
+            Call::Key { block, credential, read, write } => Direct::Key {
+                port,
+                block,
+                credential: RawCredential::from(credential),
+                read: RawNewKey::from(read),
+                write: RawNewKey::from(write),
+            },
+            Call::Renew { mode, block, key, interval } => Direct::Renew { mode, block, key, interval },
+            Call::Force { block } => Direct::Force { block },
+            Call::Free => Direct::Free,
+            Call::Tick { seconds } => Direct::Tick { seconds },
+            Call::Audit => Direct::Audit,
+        }
+    }
+
+    /// The call that the raw operands stand for; None where the interface refuses them 13. FORMAT is not among them.
+    pub fn plain(&self) -> Option<(Port, Call)> {
+        Some(match self {
+            Direct::Format { .. } => return None,
+            Direct::Read { port, block, credential, interval } => {
+                (plain_port(*port)?, Call::Read { block: *block, credential: credential.plain()?, interval: *interval })
+            }
+            Direct::Write { port, block, credential, interval, data } => (
+                plain_port(*port)?,
+                Call::Write { block: *block, credential: credential.plain()?, interval: *interval, data: data.clone() },
+            ),
+            Direct::Alloc { port, reference, credential, hint, count } => (
+                plain_port(*port)?,
+                Call::Alloc { reference: *reference, credential: credential.plain()?, hint: *hint, count: *count },
+            ),
+            Direct::Create { port, source, source_credential, destination, destination_credential } => (
+                plain_port(*port)?,
+                Call::Create {
+                    source: *source,
+                    source_credential: source_credential.plain()?,
+                    destination: *destination,
+                    destination_credential: destination_credential.plain()?,
+                },
+            ),
+            Direct::Delete { port, source, credential, destination } => (
+                plain_port(*port)?,
+                Call::Delete { source: *source, credential: credential.plain()?, destination: *destination },
+            ),
+            Direct::Key { port, block, credential, read, write } => (
+                plain_port(*port)?,
+                Call::Key {
+                    block: *block,
+                    credential: credential.plain()?,
+                    read: read.plain()?,
+                    write: write.plain()?,
+                },
+            ),
+            Direct::Renew { mode, block, key, interval } => {
+                (Port::Host, Call::Renew { mode: *mode, block: *block, key: *key, interval: *interval })
+            }
+            Direct::Force { block } => (Port::Host, Call::Force { block: *block }),
+            Direct::Free => (Port::Host, Call::Free),
+            Direct::Tick { seconds } => (Port::Host, Call::Tick { seconds: *seconds }),
+            Direct::Audit => (Port::Host, Call::Audit),
+        })
+    }
+
+    /// The same call as a record, ill formed where the call is; None where no record has the form.
+    pub fn record(&self) -> Option<(u8, Vec<u8>)> {
+        let mut body = Vec::new();
+        let (port, kind) = match self {
+            Direct::Format { .. } => return None,
+            Direct::Read { port, block, credential, interval } => {
+                body.extend(block.to_be_bytes());
+                put_credential(&mut body, credential);
+                body.extend(interval.to_be_bytes());
+                (*port, 1)
+            }
+            Direct::Write { port, block, credential, interval, data } => {
+                if data.len() != 512 {
+                    return None;
+                }
+                body.extend(block.to_be_bytes());
+                put_credential(&mut body, credential);
+                body.extend(interval.to_be_bytes());
+                body.extend(data);
+                (*port, 2)
+            }
+            Direct::Alloc { port, reference, credential, hint, count } => {
+                body.extend(reference.to_be_bytes());
+                put_credential(&mut body, credential);
+                body.extend(hint.to_be_bytes());
+                body.push(*count);
+                (*port, 3)
+            }
+            Direct::Create { port, source, source_credential, destination, destination_credential } => {
+                body.extend(source.to_be_bytes());
+                put_credential(&mut body, source_credential);
+                body.extend(destination.to_be_bytes());
+                put_credential(&mut body, destination_credential);
+                (*port, 4)
+            }
+            Direct::Delete { port, source, credential, destination } => {
+                body.extend(source.to_be_bytes());
+                put_credential(&mut body, credential);
+                body.extend(destination.to_be_bytes());
+                (*port, 5)
+            }
+            Direct::Key { port, block, credential, read, write } => {
+                body.extend(block.to_be_bytes());
+                put_credential(&mut body, credential);
+                for new in [read, write] {
+                    body.push(new.present);
+                    body.extend(new.high.to_be_bytes());
+                    body.extend(new.low.to_be_bytes());
+                }
+                (*port, 6)
+            }
+            Direct::Renew { mode, block, key, interval } => {
+                body.push(*mode);
+                body.extend(block.to_be_bytes());
+                body.extend(key.high.to_be_bytes());
+                body.extend(key.low.to_be_bytes());
+                body.extend(interval.to_be_bytes());
+                (0, 7)
+            }
+            Direct::Force { block } => {
+                body.extend(block.to_be_bytes());
+                (0, 8)
+            }
+            Direct::Free => (0, 9),
+            Direct::Tick { seconds } => {
+                body.extend(seconds.to_be_bytes());
+                (0, 10)
+            }
+            Direct::Audit => (0, 11),
+        };
+        match port {
+            0 => Some((kind, body)),
+            1 => Some((kind + 128, body)),
+            _ => None,
+        }
+    }
+}
+
+fn put_credential(body: &mut Vec<u8>, credential: &RawCredential) {
+    body.push(credential.kind);
+    if credential.kind != 2 {
+        body.extend(credential.block.to_be_bytes());
+        body.extend(&credential.high.to_be_bytes()[2..]);
+    } else {
+        body.extend(credential.high.to_be_bytes());
+    }
+    body.extend(credential.low.to_be_bytes());
+}

@@ -1,0 +1,664 @@
+//! An independent model of the storage card, written from document 01 alone.
+//!
+//! It favours plain rules over speed: a question about pointers is answered by looking through the pointers.
+//! Every call first names its refusal, in the document's order, and changes the card only when there is none.
+
+pub const DAY: u64 = 86_400;
+pub const TIME_END: u64 = 1 << 40;
+pub const NO_HINT: u16 = 65_535;
+
+pub const ALLOCATED: u8 = 1;
+pub const READ_KEY: u8 = 2;
+pub const WRITE_KEY: u8 = 4;
+
+pub const SHAPE: u32 = 1;
+pub const UNSOUND: u32 = 2;
+pub const NO_BLOCK: u32 = 3;
+pub const BAD_OPERAND: u32 = 4;
+pub const NOT_OPENED: u32 = 5;
+pub const ROOT: u32 = 6;
+pub const POINTER_EXISTS: u32 = 7;
+pub const NO_POINTER: u32 = 8;
+pub const HAS_POINTERS: u32 = 9;
+pub const NO_SPACE: u32 = 10;
+pub const NO_PLACE: u32 = 11;
+pub const CLOCK: u32 = 12;
+pub const MALFORMED: u32 = 13;
+
+/// What a call answers: done, or the refusal's number.
+pub type Answer = Result<(), u32>;
+
+/// The record and the six tables that the caller lends.
+#[derive(Clone, Debug, PartialEq, Default)]
+pub struct Card {
+    /// N, R, B, M, T. A record of another length is out of shape.
+    pub info: Vec<u64>,
+    pub flags: Vec<u8>,
+    pub keys: Vec<u64>,
+    pub counts: Vec<u16>,
+    pub pointers: Vec<u32>,
+    pub windows: Vec<u64>,
+    pub contents: Vec<u8>,
+}
+
+#[derive(Clone, Copy, Debug, PartialEq)]
+pub struct Key {
+    pub high: u64,
+    pub low: u64,
+}
+
+#[derive(Clone, Copy, Debug, PartialEq)]
+pub enum Credential {
+    Nothing,
+    Reference(u16),
+    Key(Key),
+}
+
+#[derive(Clone, Copy, Debug, PartialEq)]
+pub enum Port {
+    Host,
+    Service,
+}
+
+#[derive(Clone, Copy, Debug, PartialEq)]
+pub enum Operation {
+    Reading,
+    Writing,
+}
+use Operation::{Reading, Writing};
+
+/// Every call that a record can carry. The lent buffers are not part of it, save the data of WRITE.
+#[derive(Clone, Debug, PartialEq)]
+pub enum Call {
+    Read { block: u16, credential: Credential, interval: u32 },
+    Write { block: u16, credential: Credential, interval: u32, data: Vec<u8> },
+    Alloc { reference: u16, credential: Credential, hint: u16, count: u8 },
+    Create { source: u16, source_credential: Credential, destination: u16, destination_credential: Credential },
+    Delete { source: u16, credential: Credential, destination: u16 },
+    Key { block: u16, credential: Credential, read: Option<Key>, write: Option<Key> },
+    Renew { mode: u8, block: u16, key: Key, interval: u32 },
+    Force { block: u16 },
+    Free,
+    Tick { seconds: u64 },
+    Audit,
+}
+
+/// What a caller lends besides the tables.
+#[derive(Clone, Debug, PartialEq)]
+pub struct Buffers {
+    pub out: Vec<u8>,
+    pub places: Vec<u16>,
+    pub value: u64,
+}
+
+fn refuse_if(condition: bool, number: u32) -> Answer {
+    if condition {
+        Err(number)
+    } else {
+        Ok(())
+    }
+}
+
+pub fn number(answer: Answer) -> u32 {
+    match answer {
+        Ok(()) => 0,
+        Err(n) => n,
+    }
+}
+
+fn ranges_hold(blocks: u64, roots: u64, bytes: u64) -> bool {
+    (16..=4_096).contains(&blocks)
+        && (1..=8).contains(&roots)
+        && (512..=65_536).contains(&bytes)
+        && bytes.is_power_of_two()
+}
+
+impl Card {
+    pub fn blocks(&self) -> usize {
+        self.info[0] as usize
+    }
+    pub fn roots(&self) -> usize {
+        self.info[1] as usize
+    }
+    pub fn bytes(&self) -> usize {
+        self.info[2] as usize
+    }
+    pub fn used(&self) -> usize {
+        self.info[3] as usize
+    }
+    pub fn time(&self) -> u64 {
+        self.info[4]
+    }
+
+    // ---- Shape and soundness ----
+
+    fn lengths_fit(&self, blocks: u64, bytes: u64) -> bool {
+        let n = blocks as usize;
+        self.flags.len() == n
+            && self.keys.len() == 4 * n
+            && self.counts.len() == n
+            && (1..=16_384).contains(&self.pointers.len())
+            && self.windows.len() == 2 * n
+            && self.contents.len() == n * bytes as usize
+    }
+
+    pub fn shaped(&self) -> bool {
+        if self.info.len() != 5 {
+            return false;
+        }
+        let (n, r, b, m, t) = (self.info[0], self.info[1], self.info[2], self.info[3], self.info[4]);
+        ranges_hold(n, r, b) && t < TIME_END && self.lengths_fit(n, b) && m <= self.pointers.len() as u64
+    }
+
+    /// Soundness of a card in shape.
+    pub fn sound(&self) -> bool {
+        let used = &self.pointers[..self.used()];
+        let rest = &self.pointers[self.used()..];
+        (0..self.blocks()).all(|b| self.block_sound(b))
+            && used.windows(2).all(|pair| pair[0] < pair[1])
+            && rest.iter().all(|&p| p == 0)
+            && used.iter().all(|&p| self.pointer_sound(p))
+    }
+
+    fn block_sound(&self, b: usize) -> bool {
+        let flags = self.flags[b];
+        let keys = &self.keys[4 * b..4 * b + 4];
+        let windows = &self.windows[2 * b..2 * b + 2];
+        let root = b < self.roots();
+        let allocated = flags & ALLOCATED != 0;
+
+        let unallocated_is_zero = flags == 0 && keys == [0, 0, 0, 0] && self.counts[b] == 0 && windows == [0, 0];
+
+        flags < 8
+            && (!root || allocated)
+            && (allocated || unallocated_is_zero)
+            && (flags & READ_KEY != 0 || keys[..2] == [0, 0])
+            && (flags & WRITE_KEY != 0 || keys[2..] == [0, 0])
+            && self.counts[b] as usize == self.pointers_to(b)
+            && (!allocated || root || self.counts[b] >= 1)
+            && windows.iter().all(|&end| end <= self.time() + DAY)
+    }
+
+    fn pointer_sound(&self, pointer: u32) -> bool {
+        let (source, destination) = ends(pointer);
+        self.allocated(source) && self.allocated(destination) && destination >= self.roots() && source != destination
+    }
+
+    /// The refusal that every call but FORMAT makes first.
+    pub fn audit(&self) -> Answer {
+        refuse_if(!self.shaped(), SHAPE)?;
+        refuse_if(!self.sound(), UNSOUND)
+    }
+
+    // ---- Questions about a card in shape ----
+
+    /// Allocated; a number not below N is not.
+    pub fn allocated(&self, b: usize) -> bool {
+        b < self.blocks() && self.flags[b] & ALLOCATED != 0
+    }
+
+    pub fn root(&self, b: usize) -> bool {
+        b < self.roots()
+    }
+
+    pub fn pointers_to(&self, b: usize) -> usize {
+        self.pointers[..self.used()].iter().filter(|&&p| ends(p).1 == b).count()
+    }
+
+    pub fn has_pointers(&self, b: usize) -> bool {
+        self.pointers[..self.used()].iter().any(|&p| ends(p).0 == b)
+    }
+
+    pub fn points(&self, source: usize, destination: usize) -> bool {
+        self.pointers[..self.used()].iter().any(|&p| ends(p) == (source, destination))
+    }
+
+    pub fn free_blocks(&self) -> usize {
+        (0..self.blocks()).filter(|&b| !self.allocated(b)).count()
+    }
+
+    pub fn key(&self, b: usize, operation: Operation) -> Option<Key> {
+        let (flag, at) = match operation {
+            Reading => (READ_KEY, 4 * b),
+            Writing => (WRITE_KEY, 4 * b + 2),
+        };
+        (self.flags[b] & flag != 0).then(|| Key { high: self.keys[at], low: self.keys[at + 1] })
+    }
+
+    pub fn window(&self, b: usize, operation: Operation) -> u64 {
+        self.windows[2 * b + operation as usize]
+    }
+
+    pub fn window_open(&self, b: usize, operation: Operation) -> bool {
+        self.time() < self.window(b, operation)
+    }
+
+    /// Document 01, "Credentials", for an allocated block.
+    pub fn opens(&self, credential: Credential, b: usize, operation: Operation) -> bool {
+        if let Some(own) = self.key(b, operation) {
+            let also = if operation == Reading { self.key(b, Writing) } else { None };
+            return match credential {
+                Credential::Key(k) => k == own || Some(k) == also,
+                _ => false,
+            };
+        }
+        if self.root(b) {
+            return credential == Credential::Nothing;
+        }
+        match credential {
+            Credential::Reference(r) => {
+                let r = r as usize;
+                self.allocated(r) && self.points(r, b) && self.window_open(r, operation)
+            }
+            _ => false,
+        }
+    }
+
+    fn admitted(&self, port: Port, credential: Credential, b: usize, operation: Operation) -> bool {
+        port == Port::Service || self.opens(credential, b, operation)
+    }
+
+    // ---- Changes ----
+
+    fn part(&self, b: usize) -> std::ops::Range<usize> {
+        b * self.bytes()..(b + 1) * self.bytes()
+    }
+
+    fn set_window(&mut self, b: usize, operation: Operation, end: u64) {
+        self.windows[2 * b + operation as usize] = end;
+    }
+
+    fn set_pointers(&mut self, mut used: Vec<u32>) {
+        used.sort();
+        self.info[3] = used.len() as u64;
+        self.pointers.fill(0);
+        self.pointers[..used.len()].copy_from_slice(&used);
+    }
+
+    fn add_pointer(&mut self, source: usize, destination: usize) {
+        let mut used = self.pointers[..self.used()].to_vec();
+        used.push(word(source, destination));
+        self.set_pointers(used);
+        self.counts[destination] += 1;
+    }
+
+    fn drop_pointer(&mut self, source: usize, destination: usize) {
+        let mut used = self.pointers[..self.used()].to_vec();
+        used.retain(|&p| p != word(source, destination));
+        self.set_pointers(used);
+        self.counts[destination] -= 1;
+    }
+
+    /// The unallocated block nearest the hint, the lower on a tie; the lowest when there is no hint.
+    fn nearest_free(&self, hint: u16) -> usize {
+        let distance = |b: usize| if hint == NO_HINT { b } else { b.abs_diff(hint as usize) };
+        (0..self.blocks()).filter(|&b| !self.allocated(b)).min_by_key(|&b| (distance(b), b)).unwrap()
+    }
+
+    // ---- Calls ----
+
+    pub fn format(&mut self, blocks: u64, roots: u64, bytes: u64) -> Answer {
+        let fits = self.info.len() == 5 && ranges_hold(blocks, roots, bytes) && self.lengths_fit(blocks, bytes);
+        refuse_if(!fits, SHAPE)?;
+        self.info = vec![blocks, roots, bytes, 0, 0];
+        self.flags.fill(0);
+        self.flags[..roots as usize].fill(ALLOCATED);
+        self.keys.fill(0);
+        self.counts.fill(0);
+        self.pointers.fill(0);
+        self.windows.fill(0);
+        self.contents[..(roots * bytes) as usize].fill(0);
+        Ok(())
+    }
+
+    fn read_or_write_refusal(
+        &self,
+        port: Port,
+        b: usize,
+        credential: Credential,
+        interval: u32,
+        length: usize,
+        operation: Operation,
+    ) -> Answer {
+        self.audit()?;
+        refuse_if(length != self.bytes() || interval as u64 > DAY, BAD_OPERAND)?;
+        refuse_if(!self.allocated(b), NO_BLOCK)?;
+        refuse_if(!self.admitted(port, credential, b, operation), NOT_OPENED)
+    }
+
+    /// A host's READ or WRITE with an interval opens the window; the service port opens none.
+    fn open_window(&mut self, port: Port, b: usize, operation: Operation, interval: u32) {
+        if port == Port::Host && interval != 0 {
+            self.set_window(b, operation, self.time() + interval as u64);
+        }
+    }
+
+    pub fn read(&mut self, port: Port, block: u16, credential: Credential, interval: u32, out: &mut [u8]) -> Answer {
+        let b = block as usize;
+        self.read_or_write_refusal(port, b, credential, interval, out.len(), Reading)?;
+        out.copy_from_slice(&self.contents[self.part(b)]);
+        self.open_window(port, b, Reading, interval);
+        Ok(())
+    }
+
+    pub fn write(&mut self, port: Port, block: u16, credential: Credential, interval: u32, data: &[u8]) -> Answer {
+        let b = block as usize;
+        self.read_or_write_refusal(port, b, credential, interval, data.len(), Writing)?;
+        let part = self.part(b);
+        self.contents[part].copy_from_slice(data);
+        self.open_window(port, b, Writing, interval);
+        Ok(())
+    }
+
+    pub fn alloc(
+        &mut self,
+        port: Port,
+        reference: u16,
+        credential: Credential,
+        hint: u16,
+        count: u8,
+        places: &mut [u16],
+    ) -> Answer {
+        let r = reference as usize;
+        let wanted = count as usize;
+        self.audit()?;
+        let hint_fits = (hint as usize) < self.blocks() || hint == NO_HINT;
+        refuse_if(wanted == 0 || wanted > 64 || !hint_fits || places.len() < wanted, BAD_OPERAND)?;
+        refuse_if(!self.allocated(r), NO_BLOCK)?;
+        refuse_if(self.root(r) && port == Port::Host, ROOT)?;
+        refuse_if(!self.admitted(port, credential, r, Writing), NOT_OPENED)?;
+        refuse_if(self.free_blocks() < wanted, NO_SPACE)?;
+        refuse_if(self.used() + wanted > self.pointers.len(), NO_PLACE)?;
+        for place in &mut places[..wanted] {
+            let b = self.nearest_free(hint);
+            self.flags[b] = ALLOCATED;
+            let part = self.part(b);
+            self.contents[part].fill(0);
+            self.add_pointer(r, b);
+            *place = b as u16;
+        }
+        Ok(())
+    }
+
+    pub fn create(
+        &mut self,
+        port: Port,
+        source: u16,
+        source_credential: Credential,
+        destination: u16,
+        destination_credential: Credential,
+    ) -> Answer {
+        let (s, d) = (source as usize, destination as usize);
+        self.audit()?;
+        refuse_if(!self.allocated(s), NO_BLOCK)?;
+        refuse_if(!self.allocated(d), NO_BLOCK)?;
+        refuse_if(self.root(d) || (self.root(s) && port == Port::Host), ROOT)?;
+        refuse_if(!self.admitted(port, source_credential, s, Writing), NOT_OPENED)?;
+        refuse_if(!self.admitted(port, destination_credential, d, Writing), NOT_OPENED)?;
+        refuse_if(s == d || self.points(s, d), POINTER_EXISTS)?;
+        refuse_if(self.used() == self.pointers.len(), NO_PLACE)?;
+        self.add_pointer(s, d);
+        Ok(())
+    }
+
+    pub fn delete(
+        &mut self,
+        port: Port,
+        source: u16,
+        credential: Credential,
+        destination: u16,
+        value: &mut u64,
+    ) -> Answer {
+        let (s, d) = (source as usize, destination as usize);
+        self.audit()?;
+        refuse_if(!self.allocated(s), NO_BLOCK)?;
+        refuse_if(!self.allocated(d), NO_BLOCK)?;
+        refuse_if(self.root(s) && port == Port::Host, ROOT)?;
+        refuse_if(!self.admitted(port, credential, s, Writing), NOT_OPENED)?;
+        refuse_if(!self.points(s, d), NO_POINTER)?;
+        refuse_if(self.counts[d] == 1 && self.has_pointers(d), HAS_POINTERS)?;
+        self.drop_pointer(s, d);
+        let freed = self.counts[d] == 0;
+        if freed {
+            self.flags[d] = 0;
+            self.keys[4 * d..4 * d + 4].fill(0);
+            self.windows[2 * d..2 * d + 2].fill(0);
+        }
+        *value = freed as u64;
+        Ok(())
+    }
+
+    pub fn set_keys(
+        &mut self,
+        port: Port,
+        block: u16,
+        credential: Credential,
+        read: Option<Key>,
+        write: Option<Key>,
+    ) -> Answer {
+        let b = block as usize;
+        self.audit()?;
+        refuse_if(!self.allocated(b), NO_BLOCK)?;
+        refuse_if(self.root(b) && port == Port::Host, ROOT)?;
+        refuse_if(!self.admitted(port, credential, b, Writing), NOT_OPENED)?;
+        self.flags[b] = ALLOCATED;
+        self.keys[4 * b..4 * b + 4].fill(0);
+        if let Some(k) = read {
+            self.flags[b] |= READ_KEY;
+            self.keys[4 * b] = k.high;
+            self.keys[4 * b + 1] = k.low;
+        }
+        if let Some(k) = write {
+            self.flags[b] |= WRITE_KEY;
+            self.keys[4 * b + 2] = k.high;
+            self.keys[4 * b + 3] = k.low;
+        }
+        self.windows[2 * b..2 * b + 2].fill(0);
+        Ok(())
+    }
+
+    pub fn renew(&mut self, mode: u8, block: u16, key: Key, interval: u32) -> Answer {
+        let b = block as usize;
+        self.audit()?;
+        refuse_if(mode > 1 || interval == 0 || interval as u64 > DAY, BAD_OPERAND)?;
+        refuse_if(!self.allocated(b), NO_BLOCK)?;
+        let operation = if mode == 0 { Reading } else { Writing };
+        let keyed = self.key(b, operation).is_some();
+        refuse_if(!keyed || !self.opens(Credential::Key(key), b, operation), NOT_OPENED)?;
+        self.set_window(b, operation, self.time() + interval as u64);
+        Ok(())
+    }
+
+    pub fn force(&mut self, block: u16) -> Answer {
+        let b = block as usize;
+        self.audit()?;
+        refuse_if(!self.allocated(b), NO_BLOCK)?;
+        self.windows[2 * b..2 * b + 2].fill(0);
+        Ok(())
+    }
+
+    pub fn free(&self, value: &mut u64) -> Answer {
+        self.audit()?;
+        *value = self.free_blocks() as u64;
+        Ok(())
+    }
+
+    pub fn tick(&mut self, seconds: u64, value: &mut u64) -> Answer {
+        self.audit()?;
+        let time = self.time() as u128 + seconds as u128;
+        refuse_if(time >= TIME_END as u128, CLOCK)?;
+        self.info[4] = time as u64;
+        *value = time as u64;
+        Ok(())
+    }
+
+    /// Any call at either port. RENEW and FORCE are a host's; FREE, TICK and AUDIT serve both ports alike.
+    pub fn perform(&mut self, port: Port, call: &Call, lent: &mut Buffers) -> Answer {
+        match call {
+            Call::Read { block, credential, interval } => {
+                self.read(port, *block, *credential, *interval, &mut lent.out)
+            }
+            Call::Write { block, credential, interval, data } => self.write(port, *block, *credential, *interval, data),
+            Call::Alloc { reference, credential, hint, count } => {
+                self.alloc(port, *reference, *credential, *hint, *count, &mut lent.places)
+            }
+            Call::Create { source, source_credential, destination, destination_credential } => {
+                self.create(port, *source, *source_credential, *destination, *destination_credential)
+            }
+            Call::Delete { source, credential, destination } => {
+                self.delete(port, *source, *credential, *destination, &mut lent.value)
+            }
+            Call::Key { block, credential, read, write } => self.set_keys(port, *block, *credential, *read, *write),
+            Call::Renew { mode, block, key, interval } => self.renew(*mode, *block, *key, *interval),
+            Call::Force { block } => self.force(*block),
+            Call::Free => self.free(&mut lent.value),
+            Call::Tick { seconds } => self.tick(*seconds, &mut lent.value),
+            Call::Audit => self.audit(),
+        }
+    }
+
+    // ---- Within reach ----
+
+    /// The blocks within reach of the presented keys, by the definition: the least set with its four rules.
+    pub fn within_reach(&self, presented: &[Key]) -> Vec<bool> {
+        let shown = |k: Option<Key>| k.is_some_and(|k| presented.contains(&k));
+        let sealed = |b: usize| {
+            let (read, write) = (self.key(b, Reading), self.key(b, Writing));
+            read.is_some() && write.is_some() && !shown(read) && !shown(write)
+        };
+        let starts = |b: usize| {
+            (self.root(b) && !sealed(b))
+                || shown(self.key(b, Reading))
+                || shown(self.key(b, Writing))
+                || self.window_open(b, Reading)
+                || self.window_open(b, Writing)
+        };
+        let mut reach: Vec<bool> = (0..self.blocks()).map(|b| self.allocated(b) && starts(b)).collect();
+        loop {
+            let before = reach.clone();
+            for &p in &self.pointers[..self.used()] {
+                let (source, destination) = ends(p);
+                if reach[source] && !sealed(destination) {
+                    reach[destination] = true;
+                }
+            }
+            if reach == before {
+                return reach;
+            }
+        }
+    }
+
+    pub fn hidden(&self, presented: &[Key]) -> Vec<bool> {
+        let reach = self.within_reach(presented);
+        (0..self.blocks()).map(|b| self.allocated(b) && !reach[b]).collect()
+    }
+}
+
+pub fn ends(pointer: u32) -> (usize, usize) {
+    ((pointer / 65_536) as usize, (pointer % 65_536) as usize)
+}
+
+pub fn word(source: usize, destination: usize) -> u32 {
+    source as u32 * 65_536 + destination as u32
+}
+
+// ---- Call records ----
+
+/// Takes big-endian numbers from the front of a body; None where the body is cut short or ill formed.
+struct Body<'a>(&'a [u8]);
+
+impl<'a> Body<'a> {
+    fn bytes(&mut self, count: usize) -> Option<&'a [u8]> {
+        let (front, rest) = self.0.split_at_checked(count)?;
+        self.0 = rest;
+        Some(front)
+    }
+    fn number(&mut self, count: usize) -> Option<u64> {
+        Some(self.bytes(count)?.iter().fold(0, |n, &byte| n * 256 + byte as u64))
+    }
+    fn block(&mut self) -> Option<u16> {
+        self.number(2).map(|n| n as u16)
+    }
+    fn interval(&mut self) -> Option<u32> {
+        self.number(4).map(|n| n as u32)
+    }
+    fn byte(&mut self) -> Option<u8> {
+        self.number(1).map(|n| n as u8)
+    }
+    fn key(&mut self) -> Option<Key> {
+        Some(Key { high: self.number(8)?, low: self.number(8)? })
+    }
+    fn zeros(&mut self, count: usize) -> Option<()> {
+        self.bytes(count)?.iter().all(|&byte| byte == 0).then_some(())
+    }
+    fn credential(&mut self) -> Option<Credential> {
+        match self.byte()? {
+            0 => self.zeros(16).map(|()| Credential::Nothing),
+            1 => {
+                let reference = self.block()?;
+                self.zeros(14).map(|()| Credential::Reference(reference))
+            }
+            2 => self.key().map(Credential::Key),
+            _ => None,
+        }
+    }
+    fn new_key(&mut self) -> Option<Option<Key>> {
+        match self.byte()? {
+            0 => self.zeros(16).map(|()| None),
+            1 => self.key().map(Some),
+            _ => None,
+        }
+    }
+}
+
+/// The call of a record and its port; None is refusal 13. Bytes past the body are not looked at.
+pub fn decode(kind: u8, body: &[u8]) -> Option<(Port, Call)> {
+    let (port, plain) = match kind {
+        1..=11 => (Port::Host, kind),
+        129..=134 => (Port::Service, kind - 128),
+        _ => return None,
+    };
+    let mut body = Body(body);
+    let call = match plain {
+        1 => Call::Read { block: body.block()?, credential: body.credential()?, interval: body.interval()? },
+        2 => Call::Write {
+            block: body.block()?,
+            credential: body.credential()?,
+            interval: body.interval()?,
+            data: body.bytes(512)?.to_vec(),
+        },
+        3 => Call::Alloc {
+            reference: body.block()?,
+            credential: body.credential()?,
+            hint: body.block()?,
+            count: body.byte()?,
+        },
+        4 => Call::Create {
+            source: body.block()?,
+            source_credential: body.credential()?,
+            destination: body.block()?,
+            destination_credential: body.credential()?,
+        },
+        5 => Call::Delete { source: body.block()?, credential: body.credential()?, destination: body.block()? },
+        6 => Call::Key {
+            block: body.block()?,
+            credential: body.credential()?,
+            read: body.new_key()?,
+            write: body.new_key()?,
+        },
+        7 => Call::Renew { mode: body.byte()?, block: body.block()?, key: body.key()?, interval: body.interval()? },
+        8 => Call::Force { block: body.block()? },
+        9 => Call::Free,
+        10 => Call::Tick { seconds: body.number(8)? },
+        _ => Call::Audit,
+    };
+    Some((port, call))
+}
+
+/// One record: 13 before anything else, then its call.
+pub fn serve(card: &mut Card, kind: u8, body: &[u8], lent: &mut Buffers) -> Answer {
+    match decode(kind, body) {
+        None => Err(MALFORMED),
+        Some((port, call)) => card.perform(port, &call, lent),
+    }
+}

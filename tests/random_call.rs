@@ -1,0 +1,349 @@
+//! Random calls with operands that fit the card, or nearly, and the buffers to lend to them.
+
+use crate::library::{Direct, RawCredential, RawNewKey};
+use crate::model::{ends, Buffers, Card, Credential, Key, Operation, DAY, NO_HINT, READ_KEY, TIME_END, WRITE_KEY};
+use crate::random_card::{Random, KEYS};
+
+/// Chooses operands with an eye on the card, so that calls are often done and often just refused.
+pub struct Chooser {
+    /// Keys that credentials are taken from; other keys of the card are never presented.
+    pub known: Vec<Key>,
+    pub host_only: bool,
+}
+
+impl Chooser {
+    pub fn any(host_only: bool, known: &[Key]) -> Self {
+        Chooser { known: known.to_vec(), host_only }
+    }
+
+    pub fn block(&self, rnd: &mut Random, card: &Card) -> u16 {
+        let n = card.blocks() as u64;
+        let edge = [0, card.info[1] - 1, card.info[1], n - 1, n, n + 1, 65_534, 65_535];
+        match rnd.below(20) {
+            0 => rnd.of(&edge) as u16,
+            1 => rnd.below(n) as u16,
+            2 => rnd.below(card.info[1]) as u16,
+            3..=12 if self.host_only => self.some(rnd, card, |b| self.near(card, b)).unwrap_or(0) as u16,
+            _ => self.some(rnd, card, |b| card.allocated(b) && !card.root(b)).unwrap_or(0) as u16,
+        }
+    }
+
+    /// A block with the property, by chance, if any has it.
+    pub fn some(&self, rnd: &mut Random, card: &Card, property: impl Fn(usize) -> bool) -> Option<usize> {
+        let n = card.blocks();
+        let start = rnd.below(n as u64) as usize;
+        (0..n).map(|i| (start + i) % n).find(|&b| property(b))
+    }
+
+    /// Whether a host with the known keys may well open the block, or lead a pointer to it.
+    pub fn near(&self, card: &Card, b: usize) -> bool {
+        let known = |o| card.key(b, o).is_some_and(|k| self.known.contains(&k));
+        let open = |o| {
+            card.key(b, o).is_none()
+                && card.pointers[..card.used()].iter().any(|&p| ends(p).1 == b && card.window_open(ends(p).0, o))
+        };
+        let (r, w) = (Operation::Reading, Operation::Writing);
+        card.allocated(b) && !card.root(b) && (known(r) || known(w) || open(r) || open(w))
+    }
+
+    pub fn source_of(&self, rnd: &mut Random, card: &Card, b: usize, open: Option<Operation>) -> Option<u16> {
+        let m = card.used();
+        if m == 0 {
+            return None;
+        }
+        let start = rnd.below(m as u64) as usize;
+        (0..m)
+            .map(|i| ends(card.pointers[(start + i) % m]))
+            .find(|&(s, d)| d == b && open.is_none_or(|o| card.window_open(s, o)))
+            .map(|(s, _)| s as u16)
+    }
+
+    pub fn known_key(&self, rnd: &mut Random) -> Credential {
+        match self.known.is_empty() {
+            true => Credential::Nothing,
+            false => Credential::Key(rnd.of(&self.known)),
+        }
+    }
+
+    pub fn credential(&self, rnd: &mut Random, card: &Card, block: u16, operation: Operation) -> Credential {
+        let b = block as usize;
+        let chosen = if card.allocated(b) && rnd.percent(80) {
+            self.fitting(rnd, card, b, operation)
+        } else {
+            match rnd.below(5) {
+                0 => Credential::Nothing,
+                1 => self.known_key(rnd),
+                2 => Credential::Reference(self.block(rnd, card)),
+                3 => Credential::Reference(self.source_of(rnd, card, b, None).unwrap_or(0)),
+                _ if card.allocated(b) => {
+                    let other = rnd.of(&[Operation::Reading, Operation::Writing]);
+                    // The words of an absent key are zero, and open nothing.
+                    Credential::Key(card.key(b, other).unwrap_or(KEYS[0]))
+                }
+                _ => Credential::Nothing,
+            }
+        };
+        match chosen {
+            Credential::Key(k) if !self.known.contains(&k) => self.known_key(rnd),
+            other => other,
+        }
+    }
+
+    pub fn fitting(&self, rnd: &mut Random, card: &Card, b: usize, operation: Operation) -> Credential {
+        if let Some(own) = card.key(b, operation) {
+            let writing = card.key(b, Operation::Writing);
+            return match (operation, writing) {
+                (Operation::Reading, Some(k)) if rnd.percent(30) => Credential::Key(k),
+                _ => Credential::Key(own),
+            };
+        }
+        if card.root(b) {
+            return Credential::Nothing;
+        }
+        let open = self.source_of(rnd, card, b, Some(operation));
+        Credential::Reference(open.or(self.source_of(rnd, card, b, None)).unwrap_or(0))
+    }
+
+    pub fn raw(&self, rnd: &mut Random, card: &Card, block: u16, operation: Operation) -> RawCredential {
+        let mut raw = RawCredential::from(self.credential(rnd, card, block, operation));
+        if !self.host_only && rnd.percent(1) {
+            match rnd.below(6) {
+                0 => raw.kind = rnd.of(&[3, 4, 128, 255]),
+                1 => raw.kind = rnd.of(&[0, 1, 2]),
+                2 => raw.block = rnd.of(&[1, 256, 65_535]),
+                3 => raw.high = rnd.of(&[1, 1 << 47, 1 << 63]),
+                4 => raw.low = rnd.of(&[1, 1 << 8, 1 << 63]),
+                _ => raw.kind = rnd.next() as u8,
+            }
+        }
+        raw
+    }
+
+    pub fn new_key(&self, rnd: &mut Random) -> RawNewKey {
+        let key = if rnd.percent(45) { None } else { Some(rnd.of(&KEYS)) };
+        let mut raw = RawNewKey::from(key);
+        if !self.host_only && rnd.percent(1) {
+            match rnd.below(4) {
+                0 => raw.present = rnd.of(&[2, 3, 128, 255]),
+                1 => raw.present ^= 1,
+                2 => raw.high = 1,
+                _ => raw.low = 1 << 63,
+            }
+        }
+        raw
+    }
+
+    pub fn interval(&self, rnd: &mut Random) -> u32 {
+        match rnd.below(16) {
+            0 => 86_401,
+            1 => rnd.of(&[86_402, 1 << 31, u32::MAX]),
+            2 | 3 => 86_400,
+            4 | 5 => 0,
+            6 | 7 => 1,
+            8 => 86_399,
+            _ => rnd.below(DAY + 1) as u32,
+        }
+    }
+
+    pub fn port(&self, rnd: &mut Random) -> u8 {
+        match rnd.below(200) {
+            _ if self.host_only => 0,
+            0 => rnd.of(&[2, 3, 128, 129, 255]),
+            1..=129 => 0,
+            _ => 1,
+        }
+    }
+
+    pub fn call(&self, rnd: &mut Random, card: &Card) -> Direct {
+        let port = self.port(rnd);
+        let n = card.info[0];
+        match rnd.below(100) {
+            0..=16 => {
+                let block = self.block(rnd, card);
+                let credential = self.raw(rnd, card, block, Operation::Reading);
+                Direct::Read { port, block, credential, interval: self.interval(rnd) }
+            }
+            17..=33 => {
+                let block = self.block(rnd, card);
+                let credential = self.raw(rnd, card, block, Operation::Writing);
+                let b = card.bytes();
+                let length = if rnd.percent(97) { b } else { rnd.of(&[0, b - 1, b + 1, 2 * b, 512, 511]) };
+                Direct::Write { port, block, credential, interval: self.interval(rnd), data: rnd.bytes(length) }
+            }
+            34..=46 => {
+                let reference = self.block(rnd, card);
+                let credential = self.raw(rnd, card, reference, Operation::Writing);
+                let hint = match rnd.below(12) {
+                    0 | 1 => NO_HINT,
+                    2 => n as u16,
+                    3 => rnd.of(&[65_534, n as u16 + 1]),
+                    4 => 0,
+                    5 => n as u16 - 1,
+                    _ => rnd.below(n) as u16,
+                };
+                let free = card.free_blocks().min(254) as u64;
+                let spare = (card.pointers.len() - card.used()).min(254) as u64;
+                let count = match rnd.below(16) {
+                    0 => 0,
+                    1 => rnd.of(&[65, 255]),
+                    2 => 64,
+                    3 => free,
+                    4 => free + 1,
+                    5 => spare,
+                    6 => spare + 1,
+                    _ => rnd.within(1, 4),
+                };
+                Direct::Alloc { port, reference, credential, hint, count: count as u8 }
+            }
+            47..=59 => {
+                let mut source = self.block(rnd, card);
+                let mut destination = self.block(rnd, card);
+                if rnd.percent(8) {
+                    (source, destination) = self.pointer(rnd, card);
+                } else if rnd.percent(4) {
+                    destination = source;
+                }
+                Direct::Create {
+                    port,
+                    source,
+                    source_credential: self.raw(rnd, card, source, Operation::Writing),
+                    destination,
+                    destination_credential: self.raw(rnd, card, destination, Operation::Writing),
+                }
+            }
+            60..=72 => {
+                let (mut source, mut destination) = self.pointer(rnd, card);
+                if rnd.percent(20) {
+                    source = self.block(rnd, card);
+                }
+                if rnd.percent(20) {
+                    destination = self.block(rnd, card);
+                }
+                let credential = self.raw(rnd, card, source, Operation::Writing);
+                Direct::Delete { port, source, credential, destination }
+            }
+            73..=80 => {
+                let block = self.block(rnd, card);
+                let credential = self.raw(rnd, card, block, Operation::Writing);
+                Direct::Key { port, block, credential, read: self.new_key(rnd), write: self.new_key(rnd) }
+            }
+            81..=88 => {
+                let mode = if rnd.percent(95) { rnd.below(2) as u8 } else { rnd.of(&[2, 3, 255]) };
+                let keyed = self.some(rnd, card, |b| card.flags[b] & (READ_KEY | WRITE_KEY) != 0);
+                let block = match keyed {
+                    Some(b) if rnd.percent(85) => b as u16,
+                    _ => self.block(rnd, card),
+                };
+                let operation = if mode == 0 { Operation::Reading } else { Operation::Writing };
+                let key = match self.credential(rnd, card, block, operation) {
+                    Credential::Key(k) => k,
+                    _ if self.known.is_empty() => rnd.of(&KEYS),
+                    _ => rnd.of(&self.known),
+                };
+                Direct::Renew { mode, block, key, interval: self.interval(rnd) }
+            }
+            89..=91 => Direct::Force { block: self.block(rnd, card) },
+            92..=93 => Direct::Free,
+            94..=97 => {
+                let left = TIME_END - card.info[4];
+                let seconds = match rnd.below(16) {
+                    0 => rnd.of(&[left, left + 1, TIME_END]),
+                    1 => rnd.of(&[u64::MAX, u64::MAX - card.info[4], 0u64.wrapping_sub(card.info[4]), 1 << 63]),
+                    2 => rnd.of(&[left - 1, left - 1, TIME_END - 1]),
+                    3..=5 => self.to_a_window(rnd, card),
+                    6 => DAY,
+                    7 => 0,
+                    _ => rnd.below(20),
+                };
+                Direct::Tick { seconds }
+            }
+            98 => Direct::Audit,
+            _ => Direct::Free,
+        }
+    }
+
+    /// Seconds until some window's end, or one less.
+    pub fn to_a_window(&self, rnd: &mut Random, card: &Card) -> u64 {
+        let time = card.info[4];
+        match self.some(rnd, card, |b| card.windows[2 * b] > time) {
+            Some(b) => card.windows[2 * b] - time - rnd.below(2),
+            None => 1,
+        }
+    }
+
+    pub fn pointer(&self, rnd: &mut Random, card: &Card) -> (u16, u16) {
+        if card.used() == 0 {
+            return (0, self.block(rnd, card));
+        }
+        let (mut s, mut d) = ends(card.pointers[rnd.below(card.info[3]) as usize]);
+        for _ in 0..if self.host_only { 6 } else { 0 } {
+            if !self.near(card, s) {
+                (s, d) = ends(card.pointers[rnd.below(card.info[3]) as usize]);
+            }
+        }
+        (s as u16, d as u16)
+    }
+}
+
+/// Buffers to lend for the call, of fitting length or nearly, holding what they may.
+pub fn buffers(rnd: &mut Random, card: &Card, call: Option<&Direct>) -> Buffers {
+    let b = card.bytes();
+    let out = match call {
+        Some(Direct::Read { .. }) => {
+            if rnd.percent(97) {
+                b
+            } else {
+                rnd.of(&[0, 1, b - 1, b + 1, 2 * b])
+            }
+        }
+        _ => rnd.of(&[0, 8, 512]),
+    };
+    let places = match call {
+        Some(Direct::Alloc { count, .. }) => {
+            let count = *count as usize;
+            if rnd.percent(90) {
+                rnd.of(&[64, count, count + 3])
+            } else {
+                rnd.of(&[0, count.saturating_sub(1)])
+            }
+        }
+        _ => rnd.of(&[0, 4]),
+    };
+    Buffers { out: rnd.bytes(out), places: (0..places).map(|_| rnd.next() as u16).collect(), value: rnd.next() }
+}
+
+/// A record of the call with something about it changed, or bytes by chance.
+pub fn spoilt_record(rnd: &mut Random, call: &Direct) -> (u8, Vec<u8>) {
+    let (mut kind, mut body) = call.record().unwrap_or((rnd.next() as u8, Vec::new()));
+    match rnd.below(6) {
+        0 | 1 if !body.is_empty() => body.truncate(rnd.below(body.len() as u64) as usize),
+        1 => body.clear(),
+        2 => {
+            let more = rnd.within(1, 40) as usize;
+            body.extend(rnd.bytes(more));
+        }
+        3 if !body.is_empty() => {
+            let at = rnd.below(body.len().min(60) as u64) as usize;
+            body[at] ^= 1 << rnd.below(8);
+        }
+        4 => {
+            // Right in length for its kind or not, and likely ill formed.
+            kind = rnd.of(&[0, 1, 2, 3, 4, 5, 6, 7, 8, 9, 10, 11, 129, 130, 131, 132, 133, 134]);
+            body.resize(rnd.of(&[21, 22, 23, 38, 53, 535]), 0);
+        }
+        _ => kind = rnd.of(&[0, 12, 13, 33, 64, 127, 128, 135, 136, 137, 138, 139, 140, 142, 255, rnd.0 as u8]),
+    }
+    (kind, body)
+}
+
+pub fn random_format(rnd: &mut Random, card: &Card) -> Direct {
+    let (n, r, b) = (card.info[0], card.info[1], card.info[2]);
+    let (mut blocks, mut roots, mut bytes) = (n, rnd.within(1, 8), b);
+    match rnd.below(8) {
+        0 => blocks = rnd.of(&[0, 15, n - 1, n + 1, 4_097, 1 << 62, u64::MAX]),
+        1 => roots = rnd.of(&[0, 9, r + 8, u64::MAX]),
+        2 => bytes = rnd.of(&[0, 256, b / 2, b * 2, b + 1, 131_072, 1 << 63]),
+        _ => {}
+    }
+    Direct::Format { blocks, roots, bytes }
+}

@@ -1,0 +1,55 @@
+#!/usr/bin/env bash
+# Builds the tests against the library's archive and runs them: one line each, exit status 1 if one fails.
+#
+#   tests/run.sh [ARCHIVE]              differential test and example host
+#   tests/run.sh [ARCHIVE] --benchmark  the benchmark's table instead
+#
+# ARCHIVE: target/staticlib/libinterface.a unless given. Needs rustc and a C compiler, no crates.
+set -uo pipefail
+cd "$(dirname "$0")/.."
+
+archive=target/staticlib/libinterface.a
+mode=tests
+for word in "$@"; do
+	case $word in
+		--benchmark) mode=benchmark ;;
+		*) archive=$word ;;
+	esac
+done
+if [ ! -f "$archive" ]; then
+	echo "tests: no archive $archive (make it with: rt staticlib interface)" >&2
+	exit 2
+fi
+
+work=$(mktemp -d)
+trap 'rm -rf "$work"' EXIT
+# The linker finds it by this name, whatever it is called.
+cp "$archive" "$work/libnegvask.a" || exit 2
+failed=0
+
+build() {
+	rustc --edition 2021 -O "tests/$1.rs" -L "$work" -l static=negvask -o "$work/$1"
+}
+
+if [ "$mode" = benchmark ]; then
+	build benchmark && "$work/benchmark" && size -t "$work/libnegvask.a" | tail -1 |
+		awk '{ printf "library: %d bytes of code and read-only data, %d bytes of data (target: code under 24576)\n", $1, $2 + $3 }'
+	exit
+fi
+
+if build differential && "$work/differential" > "$work/differential.out"; then
+	echo "differential test: passed ($(grep -E '^(differential|secrecy):' "$work/differential.out" | paste -sd ';' | sed 's/;/; /'))"
+else
+	grep -A3 -E '^(DIFFERENCE|not reached)' "$work/differential.out" 2>/dev/null
+	echo "differential test: FAILED"
+	failed=1
+fi
+
+if ${CC:-cc} -std=c99 -Wall -Wextra -pedantic -Werror -O2 -I include examples/host.c "$work/libnegvask.a" -o "$work/host" &&
+	"$work/host" > "$work/host.out" && diff examples/host.expected "$work/host.out"; then
+	echo "example host: passed"
+else
+	echo "example host: FAILED"
+	failed=1
+fi
+exit $failed

@@ -1,0 +1,148 @@
+//! The document's own trials: its example of ten records, and T1 to T12, on library and model.
+
+use crate::compare;
+use crate::library::{Direct, LentBuffers, Tables};
+use crate::model::{self, number, Buffers, Call, Card, Credential, Port, NO_HINT};
+use crate::random_card::KEYS;
+
+pub const SERVICE: Port = Port::Service;
+pub const HOST: Port = Port::Host;
+
+/// A fresh player's card: N 16, R 1, B 512, P 32, contents zero, formatted by the library.
+pub struct Player {
+    pub model: Card,
+    pub tables: Tables,
+}
+
+impl Player {
+    pub fn new() -> Self {
+        let mut model = Card {
+            info: vec![0; 5],
+            flags: vec![0; 16],
+            keys: vec![0; 64],
+            counts: vec![0; 16],
+            pointers: vec![0; 32],
+            windows: vec![0; 32],
+            contents: vec![0; 8192],
+        };
+        let mut tables = Tables::new(&model);
+        let mut none = LentBuffers::new(&Buffers { out: vec![], places: vec![], value: 0 });
+        let format = Direct::Format { blocks: 16, roots: 1, bytes: 512 };
+        assert_eq!((tables.call(&format, &mut none), model.format(16, 1, 512)), (0, Ok(())));
+        Player { model, tables }
+    }
+
+    /// Plays a record on library and model; its line as the player prints it, without the ordinal.
+    pub fn play(&mut self, port: Port, call: Call) -> Result<String, String> {
+        let (kind, body) = Direct::from(port, &call).record().ok_or("no record")?;
+        let lent = Buffers { out: vec![0xEE; 512], places: vec![0xEEEE; 64], value: 0 };
+        let (mut expected, mut buffers) = (lent.clone(), LentBuffers::new(&lent));
+        let answer = number(model::serve(&mut self.model, kind, &body, &mut expected));
+        let given = self.tables.serve(kind, &body, &mut buffers);
+        compare("trial", given, answer, &self.tables, &self.model, &buffers, &expected)?;
+        let mut line = format!("{kind} {given}");
+        if given == 0 {
+            let results: Vec<u64> = match &call {
+                Call::Read { .. } => buffers.out.values()[..8].iter().map(|&v| v as u64).collect(),
+                Call::Alloc { count, .. } => {
+                    buffers.places.values()[..*count as usize].iter().map(|&v| v as u64).collect()
+                }
+                Call::Delete { .. } | Call::Free | Call::Tick { .. } => vec![buffers.value.values()[0]],
+                _ => vec![],
+            };
+            results.iter().for_each(|v| line += &format!(" {v}"));
+        }
+        Ok(line)
+    }
+}
+
+pub fn trials() -> Result<usize, String> {
+    use Credential::{Nothing, Reference};
+    let alloc = |hint, count| Call::Alloc { reference: 0, credential: Nothing, hint, count };
+    let alloc_at = |reference, hint, count| Call::Alloc { reference, credential: Nothing, hint, count };
+    let read = |block, credential, interval| Call::Read { block, credential, interval };
+    let delete = |source, destination| Call::Delete { source, credential: Nothing, destination };
+    let tick = |seconds| Call::Tick { seconds };
+    let key = Some(KEYS[4]);
+    let zeros = "1 0 0 0 0 0 0 0 0 0";
+    let rows: Vec<(&str, Vec<(Port, Call, &str)>)> = vec![
+        (
+            "the example",
+            vec![
+                (SERVICE, alloc(NO_HINT, 2), "131 0 1 2"),
+                (SERVICE, Call::Key { block: 1, credential: Nothing, read: key, write: key }, "134 0"),
+                (HOST, read(1, Nothing, 0), "1 5"),
+                (HOST, Call::Free, "9 0 13"),
+                (HOST, read(0, Nothing, 10), zeros),
+                (HOST, read(2, Reference(0), 0), zeros),
+                (HOST, tick(10), "10 0 10"),
+                (HOST, read(2, Reference(0), 0), "1 5"),
+                (SERVICE, delete(0, 2), "133 0 1"),
+                (HOST, Call::Free, "9 0 14"),
+            ],
+        ),
+        ("T1", vec![(HOST, Call::Free, "9 0 15")]),
+        ("T2", vec![(SERVICE, alloc(8, 3), "131 0 8 7 9")]),
+        ("T3", vec![(SERVICE, alloc(15, 2), "131 0 15 14")]),
+        ("T4", vec![(SERVICE, alloc(NO_HINT, 15), "131 0 1 2 3 4 5 6 7 8 9 10 11 12 13 14 15")]),
+        ("T5", vec![(SERVICE, alloc(NO_HINT, 16), "131 10")]),
+        ("T6", vec![(SERVICE, alloc(NO_HINT, 0), "131 4"), (SERVICE, alloc(NO_HINT, 65), "131 4")]),
+        ("T7", vec![(HOST, read(0, Nothing, 86_400), zeros), (HOST, read(0, Nothing, 86_401), "1 4")]),
+        (
+            "T8",
+            vec![
+                (SERVICE, alloc(NO_HINT, 1), "131 0 1"),
+                (HOST, read(0, Nothing, 10), zeros),
+                (HOST, tick(9), "10 0 9"),
+                (HOST, read(1, Reference(0), 0), zeros),
+                (HOST, tick(1), "10 0 10"),
+                (HOST, read(1, Reference(0), 0), "1 5"),
+            ],
+        ),
+        (
+            "T9",
+            vec![
+                (SERVICE, alloc(NO_HINT, 1), "131 0 1"),
+                (
+                    SERVICE,
+                    Call::Create {
+                        source: 1,
+                        source_credential: Nothing,
+                        destination: 1,
+                        destination_credential: Nothing,
+                    },
+                    "132 7",
+                ),
+            ],
+        ),
+        (
+            "T10",
+            vec![
+                (SERVICE, alloc(NO_HINT, 1), "131 0 1"),
+                (SERVICE, alloc_at(1, NO_HINT, 1), "131 0 2"),
+                (SERVICE, delete(0, 1), "133 9"),
+            ],
+        ),
+        ("T11", vec![(HOST, tick(1_099_511_627_775), "10 0 1099511627775"), (HOST, tick(1), "10 12")]),
+        (
+            "T12",
+            vec![
+                (SERVICE, alloc(NO_HINT, 2), "131 0 1 2"),
+                (SERVICE, Call::Write { block: 2, credential: Nothing, interval: 0, data: vec![7; 512] }, "130 0"),
+                (SERVICE, delete(0, 2), "133 0 1"),
+                (SERVICE, alloc(2, 1), "131 0 2"),
+                (SERVICE, read(2, Nothing, 0), "129 0 0 0 0 0 0 0 0 0"),
+            ],
+        ),
+    ];
+    for (name, calls) in &rows {
+        let mut player = Player::new();
+        for (i, (port, call, expected)) in calls.iter().enumerate() {
+            let line = player.play(*port, call.clone()).map_err(|d| format!("{name}, record {}: {d}", i + 1))?;
+            if line != *expected {
+                return Err(format!("{name}, record {}: got '{line}', the document has '{expected}'", i + 1));
+            }
+        }
+    }
+    Ok(rows.len())
+}
