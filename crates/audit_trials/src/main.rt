@@ -142,135 +142,44 @@ fn judge(
     lend(name, info, &flags, &keys, &counts, &pointers, &windows);
 }
 
+// The good card's own record and one store.
+fn damage(name: &[u8], fault: Fault) {
+    judge(name, 16, 1, 512, 3, 100, fault);
+}
+
 // Clauses of soundness on blocks.
 fn faults_of_blocks() {
-    judge(b"good", 16, 1, 512, 3, 100, Fault::Nothing);
-    judge(b"zero-key", 16, 1, 512, 3, 100, Fault::Key(4, 0));
-    judge(b"flags-8", 16, 1, 512, 3, 100, Fault::Flag(0, 9));
-    judge(b"root-unallocated", 16, 1, 512, 3, 100, Fault::Flag(0, 0));
-    judge(b"free-with-flags", 16, 1, 512, 3, 100, Fault::Flag(5, 2));
-    judge(b"free-with-key", 16, 1, 512, 3, 100, Fault::Key(20, 1));
-    judge(b"free-with-count", 16, 1, 512, 3, 100, Fault::Count(5, 1));
-    judge(
-        b"free-with-window",
-        16,
-        1,
-        512,
-        3,
-        100,
-        Fault::Window(11, 1),
-    );
-    judge(b"absent-read-high", 16, 1, 512, 3, 100, Fault::Key(8, 1));
-    judge(b"absent-read-low", 16, 1, 512, 3, 100, Fault::Key(9, 1));
-    judge(b"absent-write-high", 16, 1, 512, 3, 100, Fault::Key(10, 1));
-    judge(b"absent-write-low", 16, 1, 512, 3, 100, Fault::Key(11, 1));
+    damage(b"good", Fault::Nothing);
+    damage(b"zero-key", Fault::Key(4, 0));
+    damage(b"flags-8", Fault::Flag(0, 9));
+    damage(b"root-unallocated", Fault::Flag(0, 0));
+    damage(b"free-with-flags", Fault::Flag(5, 2));
+    damage(b"free-with-key", Fault::Key(20, 1));
+    damage(b"free-with-count", Fault::Count(5, 1));
+    damage(b"free-with-window", Fault::Window(11, 1));
+    damage(b"absent-read-high", Fault::Key(8, 1));
+    damage(b"absent-read-low", Fault::Key(9, 1));
+    damage(b"absent-write-high", Fault::Key(10, 1));
+    damage(b"absent-write-low", Fault::Key(11, 1));
 }
 
 // Clauses of soundness on pointers, counts and windows.
 fn faults_of_pointers() {
-    judge(b"equal-pointers", 16, 1, 512, 3, 100, Fault::Pointer(1, 1));
-    judge(
-        b"falling-pointers",
-        16,
-        1,
-        512,
-        3,
-        100,
-        Fault::Pointer(0, 3),
-    );
-    judge(
-        b"unused-not-zero",
-        16,
-        1,
-        512,
-        3,
-        100,
-        Fault::Pointer(3, 65539),
-    );
-    judge(
-        b"last-unused-not-zero",
-        16,
-        1,
-        512,
-        3,
-        100,
-        Fault::Pointer(31, 1),
-    );
-    judge(
-        b"source-unallocated",
-        16,
-        1,
-        512,
-        3,
-        100,
-        Fault::Pointer(2, 327682),
-    );
-    judge(
-        b"source-above",
-        16,
-        1,
-        512,
-        3,
-        100,
-        Fault::Pointer(2, 1048578),
-    );
-    judge(
-        b"destination-unallocated",
-        16,
-        1,
-        512,
-        3,
-        100,
-        Fault::Pointer(2, 65541),
-    );
-    judge(
-        b"destination-above",
-        16,
-        1,
-        512,
-        3,
-        100,
-        Fault::Pointer(2, 65552),
-    );
-    judge(
-        b"destination-root",
-        16,
-        1,
-        512,
-        3,
-        100,
-        Fault::Pointer(2, 65536),
-    );
-    judge(b"ends-equal", 16, 1, 512, 3, 100, Fault::Pointer(2, 131074));
-    judge(b"count-low", 16, 1, 512, 3, 100, Fault::Count(2, 1));
-    judge(b"unpointed", 16, 1, 512, 3, 100, Fault::Flag(5, 1));
-    judge(
-        b"read-window-late",
-        16,
-        1,
-        512,
-        3,
-        100,
-        Fault::Window(0, 86501),
-    );
-    judge(
-        b"write-window-late",
-        16,
-        1,
-        512,
-        3,
-        100,
-        Fault::Window(5, 86501),
-    );
-    judge(
-        b"write-window-latest",
-        16,
-        1,
-        512,
-        3,
-        100,
-        Fault::Window(5, 86500),
-    );
+    damage(b"equal-pointers", Fault::Pointer(1, 1));
+    damage(b"falling-pointers", Fault::Pointer(0, 3));
+    damage(b"unused-not-zero", Fault::Pointer(3, 65539));
+    damage(b"last-unused-not-zero", Fault::Pointer(31, 1));
+    damage(b"source-unallocated", Fault::Pointer(2, 327682));
+    damage(b"source-above", Fault::Pointer(2, 1048578));
+    damage(b"destination-unallocated", Fault::Pointer(2, 65541));
+    damage(b"destination-above", Fault::Pointer(2, 65552));
+    damage(b"destination-root", Fault::Pointer(2, 65536));
+    damage(b"ends-equal", Fault::Pointer(2, 131074));
+    damage(b"count-low", Fault::Count(2, 1));
+    damage(b"unpointed", Fault::Flag(5, 1));
+    damage(b"read-window-late", Fault::Window(0, 86501));
+    damage(b"write-window-late", Fault::Window(5, 86501));
+    damage(b"write-window-latest", Fault::Window(5, 86500));
 }
 
 // Ranges of the record.
