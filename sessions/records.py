@@ -46,6 +46,7 @@ class TextError(Exception):
 
 WORD = re.compile(r'\s*(?:#.*|("[^"]*"|"|->|,|[^\s,#"]+))?')
 NUMBER = re.compile(r"[0-9]{1,40}|0x[0-9A-Fa-f]{1,40}")
+ANSWER = re.compile(r"[0-9]{1,20}")
 GROUP = re.compile(r"((?:[0-9A-Fa-f]{2})+)(?:\*([0-9]{1,40}))?")
 
 
@@ -239,13 +240,23 @@ def read_call(words: Words) -> bytes:
 def read_expected(words: Words) -> Optional[list[int]]:
     if not words.takes("->"):
         return None
-    if not words.words or not all(word.isdecimal() for word in words.words):
-        raise words.fail(Problem.ANSWER)
-    return [int(words.take()) for _ in range(len(words.words))]
+    expected = []
+    while words.words or not expected:
+        if not ANSWER.fullmatch(words.first()):
+            raise words.fail(Problem.ANSWER)
+        expected.append(int(words.take()))
+    return expected
 
 
-def read_line(number: int, line: str) -> Optional[Statement]:
-    words = Words(line)
+def decoded(line: bytes) -> str:
+    try:
+        return line.decode()
+    except UnicodeDecodeError:
+        raise TextError(Problem.ENCODING) from None
+
+
+def read_line(number: int, line: bytes) -> Optional[Statement]:
+    words = Words(decoded(line))
     if not words.words:
         return None
     data = words.groups() if words.takes("bytes") else read_call(words)
@@ -261,11 +272,7 @@ def read_text(name: str, text: bytes) -> list[Statement]:
     statements = []
     for number, line in enumerate(text.split(b"\n"), 1):
         try:
-            statement = read_line(number, line.decode())
-        except UnicodeDecodeError:
-            error = TextError(Problem.ENCODING)
-            error.place = f"{name}:{number}"
-            raise error from None
+            statement = read_line(number, line)
         except TextError as error:
             error.place = f"{name}:{number}"
             raise
