@@ -1,0 +1,211 @@
+-- A session that is played in pieces, as its input comes, is the play of the whole input.
+-- Assumes nothing.
+use Prim.Native.Nat.{ℕ, zero, suc, _+_, _-_, _≤_, _<_}
+use mathlib.Core.Path.{_≡_, refl, sym, ap, ap₂, _∙_, subst}
+use mathlib.Core.Bool.{Bool, true, false, cond, true≢false}
+use mathlib.Core.List.{List, [], _∷_, _++_, append-assoc, append-nil}
+use native.Mathlib.Omega.{arith}
+use native.Mathlib.Nat.{sub-zero}
+use lib.Dec.{ltb}
+use lib.ListN.{length, getD, length-append}
+use Rattle.card.specs.Card.{Card}
+use Rattle.records.specs.Decode.{Next, ended, refused, sent, decode}
+use Rattle.lines.specs.Lines.{lineRoom, lastLine}
+use Rattle.player.specs.Play.{Turn, halted, turnOf, turn, Play, goOn, playWithin, play, endNumber, transcript}
+use Rattle.player.specs.PlayLaws.{behind, stopped, play-went, play-stopped, fault-stops}
+use Rattle.player.specs.declared.Stop.{Stop}
+use Rattle.player.specs.declared.Stop.the-variants.{Went, Ended, Short, Refused, Full}
+use Rattle.player.specs.Playing.{isWent}
+use Rattle.cardplay.specs.Progress.{isFull}
+use Rattle.cardplay.specs.DecodeLonger.{decode-longer}
+
+-- ---- definitions
+
+-- Some input has been read and some lines were written, and whatever follows is played from here.
+pub record Session (c₀ : Card) (records : ℕ) (c : Card) (left : List ℕ) : Type 0 where
+  pub input : List ℕ
+  pub lines : List ℕ
+  pub total : (more : List ℕ) (room : ℕ) → length lines + lineRoom ≤ room → play 0 c₀ (input ++ more) room ≡ behind lines (play records c (left ++ more) (room - length lines))
+
+-- Nothing of what is left is played, for this reason.
+abbrev pub Halted : Stop → ℕ → Card → List ℕ → Type 0
+Halted stop records c left = (room : ℕ) → lineRoom ≤ room → play records c left room ≡ stopped stop records c left
+
+-- The whole play of some input, which is what a player writes of it but for the last line.
+pub record Whole (c₀ : Card) (stop : Stop) (records : ℕ) (c : Card) : Type 0 where
+  pub input : List ℕ
+  pub lines : List ℕ
+  pub left : List ℕ
+  pub plays : (room : ℕ) → length lines + lineRoom ≤ room → play 0 c₀ input room ≡ record { stop = stop; lines = lines; records = records; after = c; left = left }
+  pub writes : (room : ℕ) → length lines + lineRoom ≤ room → transcript c₀ input room ≡ lines ++ lastLine records (endNumber stop)
+
+-- ---- one turn
+
+turn-longer : (ordinal : ℕ) (c : Card) (xs ys : List ℕ) (n : Next) → decode xs ≡ n → turnOf ordinal c xs n .stop ≡ Went
+    → turn ordinal c (xs ++ ys) ≡ record { stop = Went; lines = turnOf ordinal c xs n .lines; after = turnOf ordinal c xs n .after; left = turnOf ordinal c xs n .left ++ ys }
+unfolding turn turnOf decode
+turn-longer ordinal c xs ys ended d e = let z : _≡_ {A = ℕ} 0 1 = cc in absurd (omega arith)
+turn-longer ordinal c xs ys refused d e = absurd (fault-stops xs e)
+turn-longer ordinal c [] ys (sent port call payload rest) d e = let z : _≡_ {A = ℕ} 0 1 = cc in absurd (omega arith)
+turn-longer ordinal c (kind ∷ xs) ys (sent port call payload rest) d e = ap (turnOf ordinal c (kind ∷ (xs ++ ys))) (decode-longer (kind ∷ xs) ys d)
+
+-- What a turn that did not go leaves as it was.
+abbrev Idle : Turn → Card → List ℕ → Type 0
+Idle t c xs = (t .stop ≡ Went → ⊥) → (t .after ≡ c) × (t .left ≡ xs)
+
+turn-idle : (ordinal : ℕ) (c : Card) (xs : List ℕ) (n : Next) → Idle (turnOf ordinal c xs n) c xs
+unfolding turnOf
+turn-idle ordinal c xs ended h = (refl, refl)
+turn-idle ordinal c xs refused h = (refl, refl)
+turn-idle ordinal c xs (sent port call payload rest) h = absurd (h refl)
+
+-- The turn that is tried where there is room for a line.
+abbrev tried : Bool → ℕ → Card → List ℕ → Turn
+tried full records c xs = cond full (halted Full c xs) (turn (records + 1) c xs)
+
+tried-idle : (full : Bool) (records : ℕ) (c : Card) (xs : List ℕ) → Idle (tried full records c xs) c xs
+unfolding turn
+tried-idle true records c xs h = (refl, refl)
+tried-idle false records c xs h = turn-idle (records + 1) c xs (decode xs) h
+
+-- A turn that goes does so whatever follows.
+tried-went : (full : Bool) (records : ℕ) (c : Card) (xs ys : List ℕ) (big : ℕ) → lineRoom ≤ big → let t : Turn = tried full records c xs in t .stop ≡ Went
+    → play records c (xs ++ ys) big ≡ behind (t .lines) (play (records + 1) (t .after) (t .left ++ ys) (big - length (t .lines)))
+unfolding turn
+tried-went true records c xs ys big h e = let z : _≡_ {A = ℕ} 0 1 = cc in absurd (omega arith)
+tried-went false records c xs ys big h e =
+    let longer = turn-longer (records + 1) c xs ys (decode xs) refl e in
+    play-went records c (xs ++ ys) big h (ap (λ (t : Turn). t .stop) longer)
+    ∙ ap (λ (t : Turn). behind (t .lines) (play (records + 1) (t .after) (t .left) (big - length (t .lines)))) longer
+
+-- ---- a play of the input's first part
+
+-- However far the play of the first part came, that of the whole goes on from there.
+abbrev Longer : Play → ℕ → Card → List ℕ → Type 0
+Longer p records c xs = (ys : List ℕ) (big : ℕ) → length (p .lines) + lineRoom ≤ big → play records c (xs ++ ys) big ≡ behind (p .lines) (play (p .records) (p .after) (p .left ++ ys) (big - length (p .lines)))
+
+longer-none : (stop : Stop) (records : ℕ) (c : Card) (xs : List ℕ) → Longer (stopped stop records c xs) records c xs
+longer-none stop records c xs ys big h = ap (play records c (xs ++ ys)) (sym (sub-zero big))
+
+abbrev HaltedAfter : Play → Type 0
+HaltedAfter p = isFull (p .stop) ≡ false → Halted (p .stop) (p .records) (p .after) (p .left)
+
+behind-behind : (us vs : List ℕ) (big : ℕ) (records : ℕ) (c : Card) (xs : List ℕ)
+    → behind us (behind vs (play records c xs (big - length us - length vs))) ≡ behind (us ++ vs) (play records c xs (big - length (us ++ vs)))
+behind-behind us vs big records c xs =
+    let same : big - length us - length vs ≡ big - length (us ++ vs) = omega (arith, length-append us vs) in
+    let p : Play = play records c xs (big - length us - length vs) in
+    ap (λ (ls : List ℕ). record { stop = p .stop; lines = ls; records = p .records; after = p .after; left = p .left }) (sym (append-assoc us vs (p .lines)))
+    ∙ ap (λ (n : ℕ). behind (us ++ vs) (play records c xs n)) same
+
+no-went : (stop : Stop) → isWent stop ≡ false → stop ≡ Went → ⊥
+no-went stop e q = true≢false (sym (ap isWent q) ∙ e)
+
+-- Where there was room for a line, the whole play stops there too.
+halted-here : (full : Bool) (records : ℕ) (c : Card) (xs : List ℕ) (stop : Stop) → tried full records c xs .stop ≡ stop → isWent stop ≡ false → isFull stop ≡ false → Halted stop records c xs
+halted-here true records c xs stop e w f = absurd (true≢false (ap isFull e ∙ f))
+halted-here false records c xs stop e w f =
+    let idle = tried-idle false records c xs (λ q. no-went stop w (sym e ∙ q)) in
+    λ room h. play-stopped records c xs room h stop (no-went stop w) e (idle .0) (idle .1)
+
+module _ (most records : ℕ) (c : Card) (xs : List ℕ) (small : ℕ) (full : Bool) where
+  abbrev tries : Turn
+  tries = tried full records c xs
+
+  -- A turn that did not go: the play stops where it was.
+  stops : (stop : Stop) → tries .stop ≡ stop → isWent stop ≡ false → stopped stop records c xs ≡ stopped stop records (tries .after) (tries .left)
+  stops stop e n =
+      let idle = tried-idle full records c xs (λ w. no-went stop n (sym e ∙ w)) in
+      ap₂ (λ (d : Card) (ys : List ℕ). stopped stop records d ys) (sym (idle .0)) (sym (idle .1))
+
+  goOn-longer : (stop : Stop) → tries .stop ≡ stop → ((n : ℕ) (d : Card) (zs : List ℕ) (room : ℕ) → Longer (playWithin most n d zs room) n d zs)
+      → Longer (goOn stop tries records (playWithin most) small) records c xs
+  unfolding goOn
+  goOn-longer Went e ih ys big h =
+      let p : Play = playWithin most (records + 1) (tries .after) (tries .left) (small - length (tries .lines)) in
+      let long : length (tries .lines ++ p .lines) ≡ length (tries .lines) + length (p .lines) = length-append (tries .lines) (p .lines) in
+      tried-went full records c xs ys big (omega arith) e
+      ∙ ap (behind (tries .lines)) (ih (records + 1) (tries .after) (tries .left) (small - length (tries .lines)) ys (big - length (tries .lines)) (omega arith))
+      ∙ behind-behind (tries .lines) (p .lines) big (p .records) (p .after) (p .left ++ ys)
+  goOn-longer Ended e ih ys big h = subst (λ (p : Play). Longer p records c xs) (stops Ended e refl) (longer-none Ended records c xs) ys big h
+  goOn-longer Short e ih ys big h = subst (λ (p : Play). Longer p records c xs) (stops Short e refl) (longer-none Short records c xs) ys big h
+  goOn-longer Refused e ih ys big h = subst (λ (p : Play). Longer p records c xs) (stops Refused e refl) (longer-none Refused records c xs) ys big h
+  goOn-longer Full e ih ys big h = subst (λ (p : Play). Longer p records c xs) (stops Full e refl) (longer-none Full records c xs) ys big h
+
+  goOn-halted : (stop : Stop) → tries .stop ≡ stop → ((n : ℕ) (d : Card) (zs : List ℕ) (room : ℕ) → HaltedAfter (playWithin most n d zs room))
+      → HaltedAfter (goOn stop tries records (playWithin most) small)
+  unfolding goOn
+  goOn-halted Went e ih f = ih (records + 1) (tries .after) (tries .left) (small - length (tries .lines)) f
+  goOn-halted Ended e ih f = subst HaltedAfter (stops Ended e refl) (λ g. halted-here full records c xs Ended e refl g) f
+  goOn-halted Short e ih f = subst HaltedAfter (stops Short e refl) (λ g. halted-here full records c xs Short e refl g) f
+  goOn-halted Refused e ih f = subst HaltedAfter (stops Refused e refl) (λ g. halted-here full records c xs Refused e refl g) f
+  goOn-halted Full e ih f = absurd (true≢false f)
+
+within-longer : (most records : ℕ) (c : Card) (xs : List ℕ) (small : ℕ) → Longer (playWithin most records c xs small) records c xs
+unfolding playWithin
+within-longer zero records c xs small = longer-none Full records c xs
+within-longer (suc most) records c xs small =
+    goOn-longer most records c xs small (ltb small lineRoom) (tried (ltb small lineRoom) records c xs .stop) refl (within-longer most)
+
+pub play-longer : (records : ℕ) (c : Card) (xs : List ℕ) (small : ℕ) → Longer (play records c xs small) records c xs
+unfolding play
+play-longer records c xs small ys big h = within-longer (suc (length xs)) records c xs small ys big h
+
+within-halted : (most records : ℕ) (c : Card) (xs : List ℕ) (small : ℕ) → HaltedAfter (playWithin most records c xs small)
+unfolding playWithin
+within-halted zero records c xs small f = absurd (true≢false f)
+within-halted (suc most) records c xs small f =
+    goOn-halted most records c xs small (ltb small lineRoom) (tried (ltb small lineRoom) records c xs .stop) refl (within-halted most) f
+
+pub play-halted : (records : ℕ) (c : Card) (xs : List ℕ) (small : ℕ) → HaltedAfter (play records c xs small)
+unfolding play
+play-halted records c xs small f = within-halted (suc (length xs)) records c xs small f
+
+-- ---- a session, piece by piece
+
+pub session-none : (c₀ : Card) → Session c₀ 0 c₀ []
+session-none c₀ = record { input = []; lines = []; total = λ more room h. ap (play 0 c₀ more) (sym (sub-zero room)) }
+
+module _ {c₀ : Card} {records : ℕ} {c : Card} {left : List ℕ} (s : Session c₀ records c left) where
+  pub session-read : (ys : List ℕ) → Session c₀ records c (left ++ ys)
+  session-read ys = record {
+    input = s .input ++ ys;
+    lines = s .lines;
+    total = λ more room h.
+        ap (λ (zs : List ℕ). play 0 c₀ zs room) (append-assoc (s .input) ys more)
+        ∙ s .total (ys ++ more) room h
+        ∙ ap (λ (zs : List ℕ). behind (s .lines) (play records c zs (room - length (s .lines)))) (sym (append-assoc left ys more));
+  }
+
+  pub session-played : (small : ℕ) → let p : Play = play records c left small in Session c₀ (p .records) (p .after) (p .left)
+  session-played small =
+      let p : Play = play records c left small in
+      let long : length (s .lines ++ p .lines) ≡ length (s .lines) + length (p .lines) = length-append (s .lines) (p .lines) in
+      record {
+        input = s .input;
+        lines = s .lines ++ p .lines;
+        total = λ more room h.
+            s .total more room (omega arith)
+            ∙ ap (behind (s .lines)) (play-longer records c left small more (room - length (s .lines)) (omega arith))
+            ∙ behind-behind (s .lines) (p .lines) room (p .records) (p .after) (p .left ++ more);
+      }
+
+  module _ {stop : Stop} (halts : Halted stop records c left) where
+    ends : (room : ℕ) → length (s .lines) + lineRoom ≤ room → play 0 c₀ (s .input) room ≡ record { stop = stop; lines = s .lines; records = records; after = c; left = left }
+    ends room h =
+        ap (λ (zs : List ℕ). play 0 c₀ zs room) (sym (append-nil (s .input)))
+        ∙ s .total [] room h
+        ∙ ap (λ (zs : List ℕ). behind (s .lines) (play records c zs (room - length (s .lines)))) (append-nil left)
+        ∙ ap (behind (s .lines)) (halts (room - length (s .lines)) (omega arith))
+        ∙ ap (λ (ls : List ℕ). record { stop = stop; lines = ls; records = records; after = c; left = left }) (append-nil (s .lines))
+
+    -- What was written is the whole play of what was read.
+    pub session-whole : Whole c₀ stop records c
+    unfolding transcript
+    session-whole = record {
+      input = s .input;
+      lines = s .lines;
+      left = left;
+      plays = ends;
+      writes = λ room h. ap (λ (p : Play). p .lines ++ lastLine (p .records) (endNumber (p .stop))) (ends room h);
+    }
