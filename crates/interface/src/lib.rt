@@ -1,0 +1,633 @@
+// The functions that C links: the card's record as a lent slice of five numbers, tables and buffers as slices,
+// enums as numbers. include/negvask.h describes them.
+use card::Answer;
+use card::Call;
+use card::ForceOperands;
+use card::Port;
+use card::RenewOperands;
+use card::TickOperands;
+use records::Decoding;
+ghost use mathlib.Core.Path.{_≡_};
+ghost use mathlib.Core.List.{[]};
+ghost use Rattle.card.specs.Card.{card};
+ghost use Rattle.card.specs.Calls.{answerNumber};
+ghost use Rattle.records.specs.Decode.{decodeBody};
+ghost use Rattle.operands.specs.Operands.{recordOf, credentialOf, newKeyOf, atPort, readOf, writeOf, allocOf, createOf, deleteOf, keyOf};
+ghost use Rattle.interface.specs.Effects.{valueAfter, effect, formatEffect, dataSize, dataFrom, recordEffect, Does, Gives};
+
+// ---- what the functions share
+
+// The number of an answer; a result is put where the caller asks for it.
+fn report(answer: Answer, value: &mut u64) -> u32
+    ensures number { λ r. ⌜ r ≡ answerNumber answer ⌝ }
+    ensures result { λ _. ⌜ now (value .exit) ≡ valueAfter answer (now (value .entry)) ⌝ }
+{
+    match answer {
+        Answer::Refused(refusal) => lines::refusal_number(refusal) as u32,
+        Answer::Done => 0,
+        Answer::Value(v) => {
+            *value = v;
+            0
+        }
+    }
+}
+
+// A call on the lent record and tables: refused 13 where there is none, and 1 where the record has not five numbers.
+fn perform(
+    info: &mut [u64],
+    flags: &mut [u8],
+    keys: &mut [u64],
+    counts: &mut [u16],
+    pointers: &mut [u32],
+    windows: &mut [u64],
+    contents: &mut [u8],
+    decoding: Decoding,
+    input: &[u8],
+    out: &mut [u8],
+    places: &mut [u16],
+    value: &mut u64,
+) -> u32
+    ensures { λ r. ⌜ Gives (effect (decoding) (now (info .entry)) (card (recordOf (now (info .entry))) (now (flags .entry)) (now (keys .entry)) (now (counts .entry)) (now (pointers .entry)) (now (windows .entry)) (now (contents .entry))) (now (input .entry)) (now (out .entry)) (now (places .entry)) (now (value .entry))) r (now (value .exit)) (now (info .exit)) (card (recordOf (now (info .exit))) (now (flags .exit)) (now (keys .exit)) (now (counts .exit)) (now (pointers .exit)) (now (windows .exit)) (now (contents .exit))) (now (out .exit)) (now (places .exit)) ⌝ }
+{
+    let Decoding::Decoded(port, call) = decoding else {
+        return 13;
+    };
+    if info.len() != 5 {
+        return 1;
+    }
+    let outcome = controller::perform(
+        operands::load(info),
+        flags,
+        keys,
+        counts,
+        pointers,
+        windows,
+        contents,
+        port,
+        call,
+        input,
+        out,
+        places,
+    );
+    let left = outcome.info;
+    let answer = outcome.answer;
+    operands::store(info, left);
+    report(answer, value)
+}
+
+// A call that has no use for a buffer.
+fn perform_alone(
+    info: &mut [u64],
+    flags: &mut [u8],
+    keys: &mut [u64],
+    counts: &mut [u16],
+    pointers: &mut [u32],
+    windows: &mut [u64],
+    contents: &mut [u8],
+    decoding: Decoding,
+    value: &mut u64,
+) -> u32
+    ensures { λ r. ⌜ Gives (effect (decoding) (now (info .entry)) (card (recordOf (now (info .entry))) (now (flags .entry)) (now (keys .entry)) (now (counts .entry)) (now (pointers .entry)) (now (windows .entry)) (now (contents .entry))) [] [] [] (now (value .entry))) r (now (value .exit)) (now (info .exit)) (card (recordOf (now (info .exit))) (now (flags .exit)) (now (keys .exit)) (now (counts .exit)) (now (pointers .exit)) (now (windows .exit)) (now (contents .exit))) [] [] ⌝ }
+{
+    let input = [0u8; 0];
+    let mut out = [0u8; 0];
+    let mut places = [0u16; 0];
+    perform(
+        info,
+        flags,
+        keys,
+        counts,
+        pointers,
+        windows,
+        contents,
+        decoding,
+        &input,
+        &mut out,
+        &mut places,
+        value,
+    )
+}
+
+// ---- the calls, by their operands
+
+// READ: B bytes of the block into `out`.
+#[no_mangle]
+pub extern "C" fn negvask_read(
+    info: &mut [u64],
+    flags: &mut [u8],
+    keys: &mut [u64],
+    counts: &mut [u16],
+    pointers: &mut [u32],
+    windows: &mut [u64],
+    contents: &mut [u8],
+    port: u8,
+    block: u16,
+    kind: u8,
+    reference: u16,
+    high: u64,
+    low: u64,
+    interval: u32,
+    out: &mut [u8],
+) -> u32
+    ensures { λ r. ⌜ Does (effect (atPort port (readOf block interval (credentialOf kind reference high low))) (now (info .entry)) (card (recordOf (now (info .entry))) (now (flags .entry)) (now (keys .entry)) (now (counts .entry)) (now (pointers .entry)) (now (windows .entry)) (now (contents .entry))) [] (now (out .entry)) [] 0) r (now (info .exit)) (card (recordOf (now (info .exit))) (now (flags .exit)) (now (keys .exit)) (now (counts .exit)) (now (pointers .exit)) (now (windows .exit)) (now (contents .exit))) (now (out .exit)) [] ⌝ }
+{
+    let presented = operands::credential_of(kind, reference, high, low);
+    let made = operands::read_of(block, presented, interval);
+    let decoding = operands::at_port(port, made);
+    let input = [0u8; 0];
+    let mut places = [0u16; 0];
+    let mut value = 0;
+    perform(
+        info,
+        flags,
+        keys,
+        counts,
+        pointers,
+        windows,
+        contents,
+        decoding,
+        &input,
+        out,
+        &mut places,
+        &mut value,
+    )
+}
+
+// WRITE: `data` into the block.
+#[no_mangle]
+pub extern "C" fn negvask_write(
+    info: &mut [u64],
+    flags: &mut [u8],
+    keys: &mut [u64],
+    counts: &mut [u16],
+    pointers: &mut [u32],
+    windows: &mut [u64],
+    contents: &mut [u8],
+    port: u8,
+    block: u16,
+    kind: u8,
+    reference: u16,
+    high: u64,
+    low: u64,
+    interval: u32,
+    bytes: &[u8],
+) -> u32
+    ensures { λ r. ⌜ Does (effect (atPort port (writeOf block interval (credentialOf kind reference high low))) (now (info .entry)) (card (recordOf (now (info .entry))) (now (flags .entry)) (now (keys .entry)) (now (counts .entry)) (now (pointers .entry)) (now (windows .entry)) (now (contents .entry))) (now (bytes .entry)) [] [] 0) r (now (info .exit)) (card (recordOf (now (info .exit))) (now (flags .exit)) (now (keys .exit)) (now (counts .exit)) (now (pointers .exit)) (now (windows .exit)) (now (contents .exit))) [] [] ⌝ }
+{
+    let presented = operands::credential_of(kind, reference, high, low);
+    let made = operands::write_of(block, presented, interval);
+    let decoding = operands::at_port(port, made);
+    let mut out = [0u8; 0];
+    let mut places = [0u16; 0];
+    let mut value = 0;
+    perform(
+        info,
+        flags,
+        keys,
+        counts,
+        pointers,
+        windows,
+        contents,
+        decoding,
+        bytes,
+        &mut out,
+        &mut places,
+        &mut value,
+    )
+}
+
+// ALLOC: `count` blocks below the block, their numbers into `places`.
+#[no_mangle]
+pub extern "C" fn negvask_alloc(
+    info: &mut [u64],
+    flags: &mut [u8],
+    keys: &mut [u64],
+    counts: &mut [u16],
+    pointers: &mut [u32],
+    windows: &mut [u64],
+    contents: &mut [u8],
+    port: u8,
+    block: u16,
+    kind: u8,
+    reference: u16,
+    high: u64,
+    low: u64,
+    hint: u16,
+    count: u8,
+    places: &mut [u16],
+) -> u32
+    ensures { λ r. ⌜ Does (effect (atPort port (allocOf block hint count (credentialOf kind reference high low))) (now (info .entry)) (card (recordOf (now (info .entry))) (now (flags .entry)) (now (keys .entry)) (now (counts .entry)) (now (pointers .entry)) (now (windows .entry)) (now (contents .entry))) [] [] (now (places .entry)) 0) r (now (info .exit)) (card (recordOf (now (info .exit))) (now (flags .exit)) (now (keys .exit)) (now (counts .exit)) (now (pointers .exit)) (now (windows .exit)) (now (contents .exit))) [] (now (places .exit)) ⌝ }
+{
+    let presented = operands::credential_of(kind, reference, high, low);
+    let made = operands::alloc_of(block, presented, hint, count);
+    let decoding = operands::at_port(port, made);
+    let input = [0u8; 0];
+    let mut out = [0u8; 0];
+    let mut value = 0;
+    perform(
+        info,
+        flags,
+        keys,
+        counts,
+        pointers,
+        windows,
+        contents,
+        decoding,
+        &input,
+        &mut out,
+        places,
+        &mut value,
+    )
+}
+
+// CREATE: a pointer from the source to the destination, each with its credential.
+#[no_mangle]
+pub extern "C" fn negvask_create(
+    info: &mut [u64],
+    flags: &mut [u8],
+    keys: &mut [u64],
+    counts: &mut [u16],
+    pointers: &mut [u32],
+    windows: &mut [u64],
+    contents: &mut [u8],
+    port: u8,
+    source: u16,
+    kind: u8,
+    reference: u16,
+    high: u64,
+    low: u64,
+    destination: u16,
+    kind2: u8,
+    reference2: u16,
+    high2: u64,
+    low2: u64,
+) -> u32
+    ensures { λ r. ⌜ Does (effect (atPort port (createOf source destination (credentialOf kind reference high low) (credentialOf kind2 reference2 high2 low2))) (now (info .entry)) (card (recordOf (now (info .entry))) (now (flags .entry)) (now (keys .entry)) (now (counts .entry)) (now (pointers .entry)) (now (windows .entry)) (now (contents .entry))) [] [] [] 0) r (now (info .exit)) (card (recordOf (now (info .exit))) (now (flags .exit)) (now (keys .exit)) (now (counts .exit)) (now (pointers .exit)) (now (windows .exit)) (now (contents .exit))) [] [] ⌝ }
+{
+    let presented = operands::credential_of(kind, reference, high, low);
+    let second = operands::credential_of(kind2, reference2, high2, low2);
+    let made = operands::create_of(source, presented, destination, second);
+    let decoding = operands::at_port(port, made);
+    let mut value = 0;
+    perform_alone(
+        info,
+        flags,
+        keys,
+        counts,
+        pointers,
+        windows,
+        contents,
+        decoding,
+        &mut value,
+    )
+}
+
+// DELETE: the pointer from the source to the destination; `value` 1 if that freed the destination, else 0.
+#[no_mangle]
+pub extern "C" fn negvask_delete(
+    info: &mut [u64],
+    flags: &mut [u8],
+    keys: &mut [u64],
+    counts: &mut [u16],
+    pointers: &mut [u32],
+    windows: &mut [u64],
+    contents: &mut [u8],
+    port: u8,
+    source: u16,
+    kind: u8,
+    reference: u16,
+    high: u64,
+    low: u64,
+    destination: u16,
+    value: &mut u64,
+) -> u32
+    ensures { λ r. ⌜ Gives (effect (atPort port (deleteOf source destination (credentialOf kind reference high low))) (now (info .entry)) (card (recordOf (now (info .entry))) (now (flags .entry)) (now (keys .entry)) (now (counts .entry)) (now (pointers .entry)) (now (windows .entry)) (now (contents .entry))) [] [] [] (now (value .entry))) r (now (value .exit)) (now (info .exit)) (card (recordOf (now (info .exit))) (now (flags .exit)) (now (keys .exit)) (now (counts .exit)) (now (pointers .exit)) (now (windows .exit)) (now (contents .exit))) [] [] ⌝ }
+{
+    let presented = operands::credential_of(kind, reference, high, low);
+    let made = operands::delete_of(source, presented, destination);
+    let decoding = operands::at_port(port, made);
+    perform_alone(
+        info,
+        flags,
+        keys,
+        counts,
+        pointers,
+        windows,
+        contents,
+        decoding,
+        value,
+    )
+}
+
+// KEY: both keys of the block replaced.
+#[no_mangle]
+pub extern "C" fn negvask_key(
+    info: &mut [u64],
+    flags: &mut [u8],
+    keys: &mut [u64],
+    counts: &mut [u16],
+    pointers: &mut [u32],
+    windows: &mut [u64],
+    contents: &mut [u8],
+    port: u8,
+    block: u16,
+    kind: u8,
+    reference: u16,
+    high: u64,
+    low: u64,
+    read: u8,
+    readhigh: u64,
+    readlow: u64,
+    write: u8,
+    writehigh: u64,
+    writelow: u64,
+) -> u32
+    ensures { λ r. ⌜ Does (effect (atPort port (keyOf block (credentialOf kind reference high low) (newKeyOf read readhigh readlow) (newKeyOf write writehigh writelow))) (now (info .entry)) (card (recordOf (now (info .entry))) (now (flags .entry)) (now (keys .entry)) (now (counts .entry)) (now (pointers .entry)) (now (windows .entry)) (now (contents .entry))) [] [] [] 0) r (now (info .exit)) (card (recordOf (now (info .exit))) (now (flags .exit)) (now (keys .exit)) (now (counts .exit)) (now (pointers .exit)) (now (windows .exit)) (now (contents .exit))) [] [] ⌝ }
+{
+    let presented = operands::credential_of(kind, reference, high, low);
+    let first = operands::new_key_of(read, readhigh, readlow);
+    let second = operands::new_key_of(write, writehigh, writelow);
+    let made = operands::key_of(block, presented, first, second);
+    let decoding = operands::at_port(port, made);
+    let mut value = 0;
+    perform_alone(
+        info,
+        flags,
+        keys,
+        counts,
+        pointers,
+        windows,
+        contents,
+        decoding,
+        &mut value,
+    )
+}
+
+// RENEW: the window for the mode, by a key.
+#[no_mangle]
+pub extern "C" fn negvask_renew(
+    info: &mut [u64],
+    flags: &mut [u8],
+    keys: &mut [u64],
+    counts: &mut [u16],
+    pointers: &mut [u32],
+    windows: &mut [u64],
+    contents: &mut [u8],
+    mode: u8,
+    block: u16,
+    high: u64,
+    low: u64,
+    interval: u32,
+) -> u32
+    ensures { λ r. ⌜ Does (effect (Decoding.Decoded Port.Host (Call.Renew (record { mode = mode; block = block; high = high; low = low; interval = interval }))) (now (info .entry)) (card (recordOf (now (info .entry))) (now (flags .entry)) (now (keys .entry)) (now (counts .entry)) (now (pointers .entry)) (now (windows .entry)) (now (contents .entry))) [] [] [] 0) r (now (info .exit)) (card (recordOf (now (info .exit))) (now (flags .exit)) (now (keys .exit)) (now (counts .exit)) (now (pointers .exit)) (now (windows .exit)) (now (contents .exit))) [] [] ⌝ }
+{
+    let call = Call::Renew(RenewOperands {
+        mode,
+        block,
+        high,
+        low,
+        interval,
+    });
+    let decoding = Decoding::Decoded(Port::Host, call);
+    let mut value = 0;
+    perform_alone(
+        info,
+        flags,
+        keys,
+        counts,
+        pointers,
+        windows,
+        contents,
+        decoding,
+        &mut value,
+    )
+}
+
+// FORCE: both windows of the block closed.
+#[no_mangle]
+pub extern "C" fn negvask_force(
+    info: &mut [u64],
+    flags: &mut [u8],
+    keys: &mut [u64],
+    counts: &mut [u16],
+    pointers: &mut [u32],
+    windows: &mut [u64],
+    contents: &mut [u8],
+    block: u16,
+) -> u32
+    ensures { λ r. ⌜ Does (effect (Decoding.Decoded Port.Host (Call.Force (record { block = block }))) (now (info .entry)) (card (recordOf (now (info .entry))) (now (flags .entry)) (now (keys .entry)) (now (counts .entry)) (now (pointers .entry)) (now (windows .entry)) (now (contents .entry))) [] [] [] 0) r (now (info .exit)) (card (recordOf (now (info .exit))) (now (flags .exit)) (now (keys .exit)) (now (counts .exit)) (now (pointers .exit)) (now (windows .exit)) (now (contents .exit))) [] [] ⌝ }
+{
+    let call = Call::Force(ForceOperands { block });
+    let decoding = Decoding::Decoded(Port::Host, call);
+    let mut value = 0;
+    perform_alone(
+        info,
+        flags,
+        keys,
+        counts,
+        pointers,
+        windows,
+        contents,
+        decoding,
+        &mut value,
+    )
+}
+
+// TICK: `value` the new time.
+#[no_mangle]
+pub extern "C" fn negvask_tick(
+    info: &mut [u64],
+    flags: &mut [u8],
+    keys: &mut [u64],
+    counts: &mut [u16],
+    pointers: &mut [u32],
+    windows: &mut [u64],
+    contents: &mut [u8],
+    seconds: u64,
+    value: &mut u64,
+) -> u32
+    ensures { λ r. ⌜ Gives (effect (Decoding.Decoded Port.Host (Call.Tick (record { seconds = seconds }))) (now (info .entry)) (card (recordOf (now (info .entry))) (now (flags .entry)) (now (keys .entry)) (now (counts .entry)) (now (pointers .entry)) (now (windows .entry)) (now (contents .entry))) [] [] [] (now (value .entry))) r (now (value .exit)) (now (info .exit)) (card (recordOf (now (info .exit))) (now (flags .exit)) (now (keys .exit)) (now (counts .exit)) (now (pointers .exit)) (now (windows .exit)) (now (contents .exit))) [] [] ⌝ }
+{
+    let call = Call::Tick(TickOperands { seconds });
+    let decoding = Decoding::Decoded(Port::Host, call);
+    perform_alone(
+        info,
+        flags,
+        keys,
+        counts,
+        pointers,
+        windows,
+        contents,
+        decoding,
+        value,
+    )
+}
+
+// FREE: `value` the number of unallocated blocks.
+#[no_mangle]
+pub extern "C" fn negvask_free(
+    info: &[u64],
+    flags: &[u8],
+    keys: &[u64],
+    counts: &[u16],
+    pointers: &[u32],
+    windows: &[u64],
+    contents: &[u8],
+    value: &mut u64,
+) -> u32
+    ensures { λ r. ⌜ Gives (effect (Decoding.Decoded Port.Host Call.Free) (now (info .entry)) (card (recordOf (now (info .entry))) (now (flags .entry)) (now (keys .entry)) (now (counts .entry)) (now (pointers .entry)) (now (windows .entry)) (now (contents .entry))) [] [] [] (now (value .entry))) r (now (value .exit)) (now (info .entry)) (card (recordOf (now (info .entry))) (now (flags .entry)) (now (keys .entry)) (now (counts .entry)) (now (pointers .entry)) (now (windows .entry)) (now (contents .entry))) [] [] ⌝ }
+{
+    if info.len() != 5 {
+        return 1;
+    }
+    let outcome = calls::free(
+        operands::load(info),
+        flags,
+        keys,
+        counts,
+        pointers,
+        windows,
+        contents,
+    );
+    let answer = outcome.answer;
+    report(answer, value)
+}
+
+// AUDIT: 0, or the refusal 1 or 2.
+#[no_mangle]
+pub extern "C" fn negvask_audit(
+    info: &[u64],
+    flags: &[u8],
+    keys: &[u64],
+    counts: &[u16],
+    pointers: &[u32],
+    windows: &[u64],
+    contents: &[u8],
+) -> u32
+    ensures { λ r. ⌜ Does (effect (Decoding.Decoded Port.Host Call.Audit) (now (info .entry)) (card (recordOf (now (info .entry))) (now (flags .entry)) (now (keys .entry)) (now (counts .entry)) (now (pointers .entry)) (now (windows .entry)) (now (contents .entry))) [] [] [] 0) r (now (info .entry)) (card (recordOf (now (info .entry))) (now (flags .entry)) (now (keys .entry)) (now (counts .entry)) (now (pointers .entry)) (now (windows .entry)) (now (contents .entry))) [] [] ⌝ }
+{
+    if info.len() != 5 {
+        return 1;
+    }
+    let outcome = calls::audit(
+        operands::load(info),
+        flags,
+        keys,
+        counts,
+        pointers,
+        windows,
+        contents,
+    );
+    let answer = outcome.answer;
+    let mut value = 0;
+    report(answer, &mut value)
+}
+
+// ---- FORMAT
+
+// FORMAT: a fresh card on the lent tables.
+#[no_mangle]
+pub extern "C" fn negvask_format(
+    info: &mut [u64],
+    flags: &mut [u8],
+    keys: &mut [u64],
+    counts: &mut [u16],
+    pointers: &mut [u32],
+    windows: &mut [u64],
+    contents: &mut [u8],
+    blocks: u64,
+    roots: u64,
+    bytes: u64,
+) -> u32
+    ensures { λ r. ⌜ Does (formatEffect blocks roots bytes (now (info .entry)) (card (recordOf (now (info .entry))) (now (flags .entry)) (now (keys .entry)) (now (counts .entry)) (now (pointers .entry)) (now (windows .entry)) (now (contents .entry)))) r (now (info .exit)) (card (recordOf (now (info .exit))) (now (flags .exit)) (now (keys .exit)) (now (counts .exit)) (now (pointers .exit)) (now (windows .exit)) (now (contents .exit))) [] [] ⌝ }
+{
+    if info.len() != 5 {
+        return 1;
+    }
+    let outcome = calls::format(
+        operands::load(info),
+        blocks as usize,
+        roots as usize,
+        bytes as usize,
+        flags,
+        keys,
+        counts,
+        pointers,
+        windows,
+        contents,
+    );
+    let left = outcome.info;
+    let answer = outcome.answer;
+    operands::store(info, left);
+    let mut value = 0;
+    report(answer, &mut value)
+}
+
+// ---- call records
+
+// How many bytes a record has beside its operands: WRITE's 512.
+fn data_size(decoding: Decoding) -> usize
+    ensures { λ r. ⌜ r ≡ dataSize decoding ⌝ }
+{
+    let Decoding::Decoded(_, call) = decoding else {
+        return 0;
+    };
+    match call {
+        Call::Read(_) => 0,
+        Call::Write(_) => 512,
+        Call::Alloc(_) => 0,
+        Call::Create(_) => 0,
+        Call::Delete(_) => 0,
+        Call::Key(_) => 0,
+        Call::Renew(_) => 0,
+        Call::Force(_) => 0,
+        Call::Free => 0,
+        Call::Tick(_) => 0,
+        Call::Audit => 0,
+    }
+}
+
+// Where they start: behind 23 bytes of operands.
+fn data_from(size: usize) -> usize
+    ensures { λ r. ⌜ r ≡ dataFrom size ⌝ }
+{
+    if size == 512 { 23 } else { 0 }
+}
+
+// One call record: its kind, and its body or a longer part of an input that starts with it.
+#[no_mangle]
+pub extern "C" fn negvask_serve(
+    info: &mut [u64],
+    flags: &mut [u8],
+    keys: &mut [u64],
+    counts: &mut [u16],
+    pointers: &mut [u32],
+    windows: &mut [u64],
+    contents: &mut [u8],
+    kind: u8,
+    body: &[u8],
+    out: &mut [u8],
+    places: &mut [u16],
+    value: &mut u64,
+) -> u32
+    ensures { λ r. ⌜ Gives (recordEffect kind (now (body .entry)) (now (info .entry)) (card (recordOf (now (info .entry))) (now (flags .entry)) (now (keys .entry)) (now (counts .entry)) (now (pointers .entry)) (now (windows .entry)) (now (contents .entry))) (now (out .entry)) (now (places .entry)) (now (value .entry))) r (now (value .exit)) (now (info .exit)) (card (recordOf (now (info .exit))) (now (flags .exit)) (now (keys .exit)) (now (counts .exit)) (now (pointers .exit)) (now (windows .exit)) (now (contents .exit))) (now (out .exit)) (now (places .exit)) ⌝ }
+{
+    let decoding = records::decode(kind, body);
+    let size = data_size(decoding);
+    let from = data_from(size);
+    let end = from + size;
+    perform(
+        info,
+        flags,
+        keys,
+        counts,
+        pointers,
+        windows,
+        contents,
+        decoding,
+        &body[from..end],
+        out,
+        places,
+        value,
+    )
+}

@@ -1,0 +1,38 @@
+-- `operands::store` meets its contract. Assumes nothing.
+use Rattle.operands.specs.OperandsLaws.{still-five, stored}
+use borrow.Author.Needs.{needs}
+use Rattle.operands.proofs.store.Statement.{statement}
+use Rattle.operands.proofs.store.Tie as tie
+
+slice-write-numbers : tie.Need-slice-write-numbers
+slice-write-numbers c = search needs
+
+slice-write-numbers-2 : tie.Need-slice-write-numbers-2
+slice-write-numbers-2 c = search needs
+
+slice-write-numbers-3 : tie.Need-slice-write-numbers-3
+slice-write-numbers-3 c = search needs
+
+slice-write-numbers-4 : tie.Need-slice-write-numbers-4
+slice-write-numbers-4 c = search needs
+
+slice-write-numbers-5 : tie.Need-slice-write-numbers-5
+slice-write-numbers-5 c = still-five (c .args .numbers .now) _ _ _ _ (c .pre)
+
+same-length : tie.Need-same-length
+same-length c = search needs
+
+returns : tie.Need-returns
+returns c = stored (c .args .numbers .now) (c .args .info) (c .pre)
+
+pub store-spec : {M : Type 1} → statement M
+store-spec =
+    tie.close
+    (tie.spec
+    slice-write-numbers
+    slice-write-numbers-2
+    slice-write-numbers-3
+    slice-write-numbers-4
+    slice-write-numbers-5
+    same-length
+    returns)
