@@ -3,6 +3,7 @@
 //! The plain version is what a C programmer would write: the same audit before every call, in one walk over pointers
 //! and blocks, then the call's own work with binary search and block moves. The floor is what no version can
 //! undercut by much: one addition for every word of the tables but contents, and the copy or fill of the call.
+//! The model is the differential test's, built for release: it favours plain rules over speed.
 //! Times are the best of many batches, taken in turns; none is asserted.
 
 #[allow(dead_code)]
@@ -11,7 +12,7 @@ mod library;
 mod model;
 
 use library::{Direct, LentBuffers, RawCredential, RawNewKey, Tables};
-use model::{ends, word, Buffers, Card, Credential, Key, ALLOCATED, DAY, READ_KEY, TIME_END, WRITE_KEY};
+use model::{ends, word, Buffers, Call, Card, Credential, Key, Port, ALLOCATED, DAY, READ_KEY, TIME_END, WRITE_KEY};
 use std::collections::BTreeSet;
 use std::hint::black_box;
 use std::time::{Duration, Instant};
@@ -416,11 +417,81 @@ fn copy_block(side: &mut Side) {
     black_box(&mut side.out[..]).copy_from_slice(black_box(&side.plain.contents[512..1_024]));
 }
 
+/// The best time of a call by the model, on a fresh card each time, after the calls that prepare it.
+fn model_time(card: &Card, before: &[&Direct], call: &Direct) -> f64 {
+    let perform = |card: &mut Card, lent: &mut Buffers, call: &Direct| {
+        let (port, call): (Port, Call) = call.plain().expect("a well-formed call");
+        done(model::number(card.perform(port, &call, lent)))
+    };
+    let best = (0..3).map(|_| {
+        let mut card = card.clone();
+        let mut lent = Buffers { out: vec![0; 512], places: vec![0; 64], value: 0 };
+        before.iter().for_each(|call| perform(&mut card, &mut lent, call));
+        timed(|| perform(&mut card, &mut lent, call))
+    });
+    best.min().unwrap().as_nanos() as f64
+}
+
+// ---- The stack ----
+
+const STACK: usize = 256 * 1024;
+const UNUSED: u8 = 0xA5;
+
+/// Leaves the pattern in the stack below its caller.
+#[inline(never)]
+fn paint() -> *const u8 {
+    let mut area = [0u8; STACK];
+    black_box(&mut area).fill(UNUSED);
+    black_box(&area).as_ptr()
+}
+
+/// The bytes of stack that some work takes: what of the pattern it has written over.
+#[inline(never)]
+fn stack_of(work: &mut dyn FnMut()) -> usize {
+    let low = paint();
+    work();
+    // The painted bytes lie in the stack of this thread.
+    let untouched = (0..STACK).take_while(|&i| unsafe { std::ptr::read_volatile(low.add(i)) } == UNUSED).count();
+    STACK - untouched
+}
+
+/// The call that takes most stack, at full size.
+fn deepest() -> (&'static str, usize) {
+    let key = RawCredential::from(Credential::Key(WRITER));
+    let size = SIZES[2];
+    let mut s = side(size, 64);
+    let new = RawNewKey::from(Some(WRITER));
+    let calls = [
+        ("AUDIT", Direct::Audit),
+        ("READ", Direct::Read { port: 0, block: 2, credential: key, interval: 10 }),
+        ("WRITE", Direct::Write { port: 0, block: 2, credential: key, interval: 10, data: vec![3; 512] }),
+        ("ALLOC 63", Direct::Alloc { port: 0, reference: 1, credential: key, hint: 2_048, count: 63 }),
+        (
+            "CREATE",
+            Direct::Create { port: 0, source: 1, source_credential: key, destination: 2, destination_credential: key },
+        ),
+        ("DELETE", Direct::Delete { port: 0, source: 1, credential: key, destination: 2 }),
+        ("KEY", Direct::Key { port: 0, block: 2, credential: key, read: new, write: new }),
+        ("RENEW", Direct::Renew { mode: 1, block: 2, key: WRITER, interval: 10 }),
+        ("FORCE", Direct::Force { block: 2 }),
+        ("FREE", Direct::Free),
+        ("TICK", Direct::Tick { seconds: 1 }),
+    ];
+    let depths = calls.iter().map(|(name, call)| {
+        let depth = stack_of(&mut || done(s.tables.call(call, &mut s.buffers)));
+        (*name, depth)
+    });
+    depths.max_by_key(|(_, depth)| *depth).unwrap()
+}
+
+// ---- The table ----
+
 struct Row {
     call: &'static str,
     size: Size,
     library: f64,
     plain: f64,
+    model: f64,
     floor: f64,
     /// What the target is measured against, and the target.
     against: f64,
@@ -448,14 +519,16 @@ fn rows(size: Size) -> Vec<Row> {
     let [copy] = in_turns(s, 100, [&|s| timed(|| (0..100).for_each(|_| copy_block(s)))]);
 
     let audit = repeated(s, calls, &Direct::Audit, |c, _| done(plain::audit(black_box(c))));
-    let read = Direct::Read { port: 0, block: 2, credential: key(READER), interval: 10 };
-    let read = repeated(s, calls, &read, |c, out| done(plain::read(c, 2, READER, 10, black_box(out))));
-    let write = Direct::Write { port: 0, block: 2, credential: key(WRITER), interval: 10, data: data.clone() };
-    let write = repeated(s, calls, &write, |c, _| done(plain::write(c, 2, WRITER, 10, black_box(&data))));
+    let read_call = Direct::Read { port: 0, block: 2, credential: key(READER), interval: 10 };
+    let read = repeated(s, calls, &read_call, |c, out| done(plain::read(c, 2, READER, 10, black_box(out))));
+    let write_call = Direct::Write { port: 0, block: 2, credential: key(WRITER), interval: 10, data: data.clone() };
+    let write = repeated(s, calls, &write_call, |c, _| done(plain::write(c, 2, WRITER, 10, black_box(&data))));
     let new = |k| RawNewKey::from(Some(k));
-    let keys = Direct::Key { port: 0, block: 2, credential: key(WRITER), read: new(READER), write: new(WRITER) };
-    let keys = repeated(s, calls, &keys, |c, _| done(plain::set_keys(c, 2, WRITER, READER, WRITER)));
-    let tick = repeated(s, calls, &Direct::Tick { seconds: 0 }, |c, _| done(plain::tick(c, 0, black_box(&mut 0))));
+    let key_call = Direct::Key { port: 0, block: 2, credential: key(WRITER), read: new(READER), write: new(WRITER) };
+    let keys = repeated(s, calls, &key_call, |c, _| done(plain::set_keys(c, 2, WRITER, READER, WRITER)));
+    let tick_call = Direct::Tick { seconds: 0 };
+    let tick = repeated(s, calls, &tick_call, |c, _| done(plain::tick(c, 0, black_box(&mut 0))));
+    let full_model = |call: &Direct| model_time(&card(size, 0), &[], call);
     assert_eq!(s.tables.difference(&s.plain), None, "library and plain version differ");
 
     // CREATE from block 1 to a batch of blocks, then DELETE: pointers near the front, so that most of the table moves.
@@ -529,25 +602,39 @@ fn rows(size: Size) -> Vec<Row> {
             ],
         );
         assert_eq!(side.tables.difference(&side.plain), None, "library and plain version differ");
-        figures
+        let spare = card(size, 64.min(size.places / 4));
+        (figures, model_time(&spare, &[], &request))
     };
 
-    let row = |call, library, plain, floor, against, target| Row { call, size, library, plain, floor, against, target };
+    let spare = card(size, batch);
+    let create_model = model_time(&spare, &[], &creates[0]);
+    let delete_model = model_time(&spare, &[&creates[0]], &deletes[0]);
+
+    let row = |call, library, plain, model, floor, against, target| Row {
+        call,
+        size,
+        library,
+        plain,
+        model,
+        floor,
+        against,
+        target,
+    };
     let mut rows = vec![
-        row("AUDIT", audit[0], audit[1], pass, audit[1], Some(1.5)),
-        row("READ", read[0], read[1], pass + copy, read[2], Some(1.1)),
-        row("WRITE", write[0], write[1], pass + copy, write[2], Some(1.1)),
+        row("AUDIT", audit[0], audit[1], full_model(&Direct::Audit), pass, audit[1], Some(1.5)),
+        row("READ", read[0], read[1], full_model(&read_call), pass + copy, read[2], Some(1.1)),
+        row("WRITE", write[0], write[1], full_model(&write_call), pass + copy, write[2], Some(1.1)),
     ];
-    let [one, plain_one] = alloc(1);
-    rows.push(row("ALLOC 1", one, plain_one, pass + copy, plain_one, None));
+    let ([one, plain_one], model_one) = alloc(1);
+    rows.push(row("ALLOC 1", one, plain_one, model_one, pass + copy, plain_one, None));
     if size.blocks > 80 {
-        let [many, plain_many] = alloc(64);
-        rows.push(row("ALLOC 64", many, plain_many, pass + 64.0 * copy, plain_many, Some(1.5)));
+        let ([many, plain_many], model_many) = alloc(64);
+        rows.push(row("ALLOC 64", many, plain_many, model_many, pass + 64.0 * copy, plain_many, Some(1.5)));
     }
-    rows.push(row("CREATE", create, plain_create, pass, plain_create, Some(1.5)));
-    rows.push(row("DELETE", delete, plain_delete, pass, plain_delete, Some(1.5)));
-    rows.push(row("KEY", keys[0], keys[1], pass, keys[1], None));
-    rows.push(row("TICK", tick[0], tick[1], pass, tick[1], None));
+    rows.push(row("CREATE", create, plain_create, create_model, pass, plain_create, Some(1.5)));
+    rows.push(row("DELETE", delete, plain_delete, delete_model, pass, plain_delete, Some(1.5)));
+    rows.push(row("KEY", keys[0], keys[1], full_model(&key_call), pass, keys[1], None));
+    rows.push(row("TICK", tick[0], tick[1], full_model(&tick_call), pass, tick[1], None));
     rows
 }
 
@@ -555,8 +642,10 @@ fn main() {
     let all: Vec<Row> = SIZES.iter().flat_map(|&size| rows(size)).collect();
     println!("Nanoseconds a call, best of many batches taken in turns. B is 512.");
     println!();
-    println!("| call | size | N | P | library | plain | floor | library / plain | ratio for the target | target |");
-    println!("| --- | --- | ---: | ---: | ---: | ---: | ---: | ---: | ---: | ---: |");
+    println!(
+        "| call | size | N | P | library | plain | model | floor | library / plain | ratio for the target | target |"
+    );
+    println!("| --- | --- | ---: | ---: | ---: | ---: | ---: | ---: | ---: | ---: | ---: |");
     for r in &all {
         let (ratio, target) = match r.target {
             Some(t) => (
@@ -566,13 +655,14 @@ fn main() {
             None => ("".to_string(), "".to_string()),
         };
         println!(
-            "| {} | {} | {} | {} | {:.0} | {:.0} | {:.0} | {:.2} | {} | {} |",
+            "| {} | {} | {} | {} | {:.0} | {:.0} | {:.0} | {:.0} | {:.2} | {} | {} |",
             r.call,
             r.size.name,
             r.size.blocks,
             r.size.places,
             r.library,
             r.plain,
+            r.model,
             r.floor,
             r.library / r.plain,
             ratio,
@@ -599,4 +689,7 @@ fn main() {
             );
         }
     }
+    let (call, bytes) = deepest();
+    println!();
+    println!("stack: {bytes} bytes below the caller in the deepest call, {call}, at full size");
 }
