@@ -1,8 +1,8 @@
--- `audit::in_ranges` is the ranges of the shape. Assumes nothing.
+-- `shape::in_ranges` is the ranges of the shape. Assumes nothing.
 use borrow.Author.Needs.{needs}
-use Rattle.audit.proofs.Forms.{few-bytes, in-ranges}
-use Rattle.audit.proofs.in_ranges.Statement.{statement}
-use Rattle.audit.proofs.in_ranges.Tie as tie
+use Rattle.shape.proofs.Forms.{few-bytes, in-ranges}
+use Rattle.shape.proofs.in_ranges.Statement.{statement}
+use Rattle.shape.proofs.in_ranges.Tie as tie
 
 returns : tie.Need-returns
 returns c = few-bytes _ _ _ (c .if1 .taken)

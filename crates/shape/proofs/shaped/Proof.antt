@@ -1,11 +1,11 @@
--- `audit::shaped` is the shape. Assumes nothing.
+-- `shape::shaped` is the shape. Assumes nothing.
 use borrow.Author.Needs.{needs}
 use mathlib.Core.Path.{sym, _∙_}
 use Rattle.card.specs.Card.{card}
 use Rattle.card.specs.SoundnessLaws.{ranges-true}
-use Rattle.audit.proofs.Forms.{out-of-ranges}
-use Rattle.audit.proofs.shaped.Statement.{statement}
-use Rattle.audit.proofs.shaped.Tie as tie
+use Rattle.shape.proofs.Forms.{out-of-ranges}
+use Rattle.shape.proofs.shaped.Statement.{statement}
+use Rattle.shape.proofs.shaped.Tie as tie
 
 in-ranges-requires : tie.Need-in-ranges-requires
 in-ranges-requires c κs = search needs

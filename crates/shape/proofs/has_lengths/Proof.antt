@@ -1,10 +1,10 @@
--- `audit::has_lengths` is the rest of the shape. Assumes nothing.
+-- `shape::has_lengths` is the rest of the shape. Assumes nothing.
 use borrow.Author.Needs.{needs}
 use native.Mathlib.Omega.{arith}
-use Rattle.audit.proofs.Forms.{contents-fit, in-lengths}
+use Rattle.shape.proofs.Forms.{contents-fit, in-lengths}
 use Rattle.card.specs.Card.{card}
-use Rattle.audit.proofs.has_lengths.Statement.{statement}
-use Rattle.audit.proofs.has_lengths.Tie as tie
+use Rattle.shape.proofs.has_lengths.Statement.{statement}
+use Rattle.shape.proofs.has_lengths.Tie as tie
 
 mul-result : tie.Need-mul-result
 mul-result c = search needs
