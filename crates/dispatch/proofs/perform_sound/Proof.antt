@@ -1,9 +1,9 @@
--- `controller::perform_sound` meets its contract: each arm by one law. Assumes nothing.
+-- `dispatch::perform_sound` meets its contract: each arm by one law. Assumes nothing.
 use mathlib.Core.Path.{refl}
 use Rattle.card.specs.BuffersLaws.{with-read, with-write, with-alloc, with-create, with-delete, with-key, with-renew, with-force, with-free, with-tick, with-audit}
 use borrow.Author.Needs.{needs}
-use Rattle.controller.proofs.perform_sound.Statement.{statement}
-use Rattle.controller.proofs.perform_sound.Tie as tie
+use Rattle.dispatch.proofs.perform_sound.Statement.{statement}
+use Rattle.dispatch.proofs.perform_sound.Tie as tie
 
 enum-known-call : tie.Need-enum-known-call
 enum-known-call c = search needs
