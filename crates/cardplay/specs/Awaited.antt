@@ -10,11 +10,11 @@ use lib.ListN.{length}
 use borrow.Author.Tests.{ltb-true}
 use Rattle.card.specs.Card.{Card}
 use Rattle.records.specs.Decode.{Next, ended, refused, sent, decode, decodeBody, nextOf}
-use Rattle.records.specs.Kinds.{row, lengthOf, kindOf, kindLength, bodyLength}
-use Rattle.records.specs.declared.Name.{Name}
-use Rattle.records.specs.declared.Name.the-variants.{Read as READ, Write as WRITE, Alloc as ALLOC, Create as CREATE, Delete as DELETE, Key as KEY, Renew as RENEW, Force as FORCE, Free as FREE, Tick as TICK, Audit as AUDIT}
-use Rattle.records.specs.declared.Kind.{Kind}
-use Rattle.records.specs.declared.Kind.the-variants.{Known, Unknown}
+use Rattle.kinds.specs.Kinds.{row, lengthOf, kindOf, kindLength, bodyLength}
+use Rattle.kinds.specs.declared.Name.{Name}
+use Rattle.kinds.specs.declared.Name.the-variants.{Read as READ, Write as WRITE, Alloc as ALLOC, Create as CREATE, Delete as DELETE, Key as KEY, Renew as RENEW, Force as FORCE, Free as FREE, Tick as TICK, Audit as AUDIT}
+use Rattle.kinds.specs.declared.Kind.{Kind}
+use Rattle.kinds.specs.declared.Kind.the-variants.{Known, Unknown}
 use Rattle.records.specs.declared.Decoding.{Decoding}
 use Rattle.records.specs.declared.Decoding.the-variants.{Decoded, Bad}
 use Rattle.lines.specs.Lines.{lineRoom}

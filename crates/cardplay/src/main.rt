@@ -240,7 +240,7 @@ fn play_fresh(
 ) -> Progress
     ensures { λ r. ⌜ SessionIs (format 16 1 512 (card info (now (flags .entry)) (now (keys .entry)) (now (counts .entry)) (now (pointers .entry)) (now (windows .entry)) (now (contents .entry))) .after) (r .stop) (r .records) (card (r .info) (now (flags .exit)) (now (keys .exit)) (now (counts .exit)) (now (pointers .exit)) (now (windows .exit)) (now (contents .exit))) (r .wrote) (r .on) ⌝ }
 {
-    let formatted = calls::format(
+    let formatted = format::format(
         info,
         16,
         1,

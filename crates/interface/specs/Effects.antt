@@ -11,7 +11,7 @@ use Rattle.card.specs.Calls.{answerNumber, format}
 use Rattle.card.specs.Session.{request, perform}
 use Rattle.card.specs.declared.Answer.{Answer}
 use Rattle.card.specs.declared.Answer.the-variants.{Refused, Done, Value}
-use Rattle.records.specs.Kinds.{dataLength}
+use Rattle.kinds.specs.Kinds.{dataLength}
 use Rattle.records.specs.Decode.{nameOf, dataOf, decodeBody}
 use Rattle.records.specs.declared.Decoding.{Decoding}
 use Rattle.records.specs.declared.Decoding.the-variants.{Decoded, Bad}

@@ -22,7 +22,7 @@ use Rattle.card.specs.declared.Port.the-variants.{Host}
 use Rattle.card.specs.declared.Answer.{Answer}
 use Rattle.card.specs.declared.Refusal.{Refusal}
 use Rattle.card.specs.declared.Refusal.the-variants.{Misshapen, Unsound, NotAllocated, BadOperand, NotOpened, IsRoot, PointerExists, NoPointer, HasPointers, TooFewBlocks, TooFewPlaces, TimeEnds, BadRecord}
-use Rattle.records.specs.Kinds.{row, lengthOf, dataLength, operandsLength}
+use Rattle.kinds.specs.Kinds.{row, lengthOf, dataLength, operandsLength}
 use Rattle.records.specs.Decode.{nameOf, dataOf, decodeBody}
 use Rattle.records.specs.DecodeLaws.{OfKind, decoded-kind}
 use Rattle.records.specs.declared.Decoding.{Decoding}

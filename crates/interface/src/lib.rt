@@ -544,7 +544,7 @@ pub extern "C" fn negvask_format(
     if info.len() != 5 {
         return 1;
     }
-    let outcome = calls::format(
+    let outcome = format::format(
         operands::load(info),
         blocks as usize,
         roots as usize,

@@ -11,10 +11,10 @@ use Rattle.card.specs.declared.Credential.the-variants.{Nothing, Reference, Key
 use Rattle.card.specs.declared.NewKey.the-variants.{Absent, Present}
 use Rattle.card.specs.declared.Call.{Call}
 use Rattle.card.specs.declared.Call.the-variants.{Read, Write, Alloc, Create, Delete, Key}
-use Rattle.records.specs.declared.Presented.{Presented}
-use Rattle.records.specs.declared.Presented.the-variants.{Good as Presents, Bad as BadCredential}
-use Rattle.records.specs.declared.Replacing.{Replacing}
-use Rattle.records.specs.declared.Replacing.the-variants.{Good as Replaces, Bad as BadKey}
+use Rattle.fields.specs.declared.Presented.{Presented}
+use Rattle.fields.specs.declared.Presented.the-variants.{Good as Presents, Bad as BadCredential}
+use Rattle.fields.specs.declared.Replacing.{Replacing}
+use Rattle.fields.specs.declared.Replacing.the-variants.{Good as Replaces, Bad as BadKey}
 use Rattle.records.specs.declared.Decoding.{Decoding}
 use Rattle.records.specs.declared.Decoding.the-variants.{Decoded, Bad}
 use Rattle.operands.specs.declared.Made.{Made}

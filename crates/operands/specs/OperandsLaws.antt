@@ -11,10 +11,10 @@ use Rattle.card.specs.declared.Credential.{Credential}
 use Rattle.card.specs.declared.NewKey.{NewKey}
 use Rattle.card.specs.declared.Call.{Call}
 use Rattle.card.specs.declared.Call.the-variants.{Create, Key}
-use Rattle.records.specs.declared.Presented.{Presented}
-use Rattle.records.specs.declared.Presented.the-variants.{Good as Presents, Bad as BadCredential}
-use Rattle.records.specs.declared.Replacing.{Replacing}
-use Rattle.records.specs.declared.Replacing.the-variants.{Good as Replaces, Bad as BadKey}
+use Rattle.fields.specs.declared.Presented.{Presented}
+use Rattle.fields.specs.declared.Presented.the-variants.{Good as Presents, Bad as BadCredential}
+use Rattle.fields.specs.declared.Replacing.{Replacing}
+use Rattle.fields.specs.declared.Replacing.the-variants.{Good as Replaces, Bad as BadKey}
 use Rattle.operands.specs.Operands.{numbersOf, madeWith, createOf, keyOf}
 use Rattle.operands.specs.declared.Made.{Made}
 use Rattle.operands.specs.declared.Made.the-variants.{Good, Bad as BadOperands}

@@ -1,5 +1,5 @@
 -- `interface::data_size` meets its contract. Assumes nothing.
-use Rattle.records.specs.Kinds.{dataLength, row}
+use Rattle.kinds.specs.Kinds.{dataLength, row}
 use Rattle.records.specs.Decode.{nameOf}
 use Rattle.interface.specs.Effects.{dataSize}
 use borrow.Author.Needs.{needs}
