@@ -1,15 +1,8 @@
--- A buffer whose first bytes are filled, and what moving and reading make of it.
--- Assumes nothing.
-use Prim.Native.Nat.{ℕ, zero, suc, _+_, _-_, _≤_, _<_}
-use mathlib.Core.Path.{_≡_, refl, sym, ap, ap₂, _∙_, subst}
-use mathlib.Core.List.{List, [], _∷_, _++_}
-use native.Mathlib.Omega.{arith}
-use native.Mathlib.Nat.{zero-add}
-use native.Mathlib.Numerals.{add-one}
-use lib.ListN.{length, take, drop, getD, set, length-drop, length-append}
-use lib.Seq.{take-all, take-at, take-add, take-suc, drop-cons, drop-drop, set-at, append-snoc, getD-drop, getD-append-add, length-take-le}
-use Rattle.card.specs.Contents.{overwrite}
-use Rattle.lines.specs.Written.{Written}
+-- A buffer whose first bytes are filled.
+use Prim.Native.Nat.{ℕ, _≤_}
+use mathlib.Core.Path.{_≡_}
+use mathlib.Core.List.{List}
+use lib.ListN.{length, take}
 
 -- No record is longer.
 abbrev pub recordRoom : ℕ
@@ -20,74 +13,3 @@ pub record FilledIs (before : List ℕ) (filled : ℕ) (after : List ℕ) (end :
   pub keeps : take filled after ≡ take filled before
   pub further : filled ≤ end
   pub within : end ≤ length after
-
--- What is read stands behind the filled part.
-pub filled-is : (xs ys zs : List ℕ) (filled n : ℕ) → filled ≤ length xs → n ≤ length ys → FilledIs xs filled (take filled xs ++ (ys ++ zs)) (filled + n)
-filled-is xs ys zs filled n h k =
-    let front : length (take filled xs) ≡ filled = length-take-le filled xs h in
-    record {
-      keeps = take-at (take filled xs) (ys ++ zs) filled front;
-      further = omega arith;
-      within = omega (arith, length-append (take filled xs) (ys ++ zs), length-append ys zs, front);
-    }
-
--- What is written lies within the buffer.
-pub written-within : {before ys after : List ℕ} {behind : ℕ} → Written before 0 ys after behind → (behind ≡ length ys) × (behind ≤ length after)
-unfolding overwrite
-written-within {before} {ys} {after} {behind} w =
-    (omega (arith, w .ends), omega (arith, w .ends, ap length (w .holds), length-append ys (drop (0 + length ys) before)))
-
--- ---- moving bytes to the front
-
--- The first bytes of the filled part, from a place on, stand at the front.
-pub record Moved (before : List ℕ) (from filled i : ℕ) (now : List ℕ) : Type 0 where
-  pub most : from + i ≤ filled
-  pub holds : now ≡ take i (drop from before) ++ drop i before
-
-module _ (before : List ℕ) (from filled : ℕ) where
-  pub moved-none : from ≤ filled → Moved before from filled 0 before
-  moved-none h = record { most = omega arith; holds = refl }
-
-  module _ {i : ℕ} {now : List ℕ} (fits : filled ≤ length before) (m : Moved before from filled i now) where
-    abbrev source : List ℕ
-    source = drop from before
-
-    front : length (take i source) ≡ i
-    front = length-take-le i source (omega (arith, m .most, length-drop from before))
-
-    pub moved-length : length now ≡ length before
-    moved-length = omega (arith, ap length (m .holds), length-append (take i source) (drop i before), front, m .most, length-drop i before)
-
-    module _ (h : from + i < filled) where
-      -- The bytes that are still to be moved stand where they did.
-      unmoved : getD now (from + i) 0 ≡ getD source i 0
-      unmoved =
-          let place : from + i ≡ length (take i source) + from = omega (arith, front) in
-          let swapped : i + from ≡ from + i = omega arith in
-          ap (λ (xs : List ℕ). getD xs (from + i) 0) (m .holds)
-          ∙ ap (λ (n : ℕ). getD (take i source ++ drop i before) n 0) place
-          ∙ getD-append-add (take i source) (drop i before) from 0
-          ∙ getD-drop i before from 0
-          ∙ ap (λ (n : ℕ). getD before n 0) swapped
-          ∙ sym (getD-drop from before i 0)
-
-      pub moved-more : Moved before from filled (i + 1) (set now i (getD now (from + i) 0))
-      moved-more = record {
-        most = omega arith;
-        holds =
-            ap₂ (λ (xs : List ℕ) (x : ℕ). set xs i x) (m .holds ∙ ap (λ (ys : List ℕ). take i source ++ ys) (drop-cons before i 0 (omega arith))) unmoved
-            ∙ set-at (take i source) (getD before i 0) (drop (suc i) before) (getD source i 0) i front
-            ∙ sym (append-snoc (take i source) (getD source i 0) (drop (suc i) before))
-            ∙ ap (λ (ys : List ℕ). ys ++ drop (suc i) before) (sym (take-suc source i 0 (omega (arith, length-drop from before))))
-            ∙ ap (λ (n : ℕ). take n source ++ drop n before) (sym (add-one i));
-      }
-
-    pub moved-all : filled - from ≤ i → Written before 0 (take (filled - from) source) now i
-    unfolding overwrite
-    moved-all h =
-        let whole : i ≡ filled - from = omega (arith, m .most) in
-        let place : i ≡ 0 + length (take i source) = omega (arith, front) in
-        subst (λ (n : ℕ). Written before 0 (take n source) now i) whole (record {
-          holds = m .holds ∙ ap (λ (n : ℕ). take i source ++ drop n before) place;
-          ends = place;
-        })

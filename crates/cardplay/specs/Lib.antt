@@ -1,7 +1,10 @@
 pub mod Buffers
+pub mod BuffersLaws
 pub mod Progress
 pub mod Awaited
 pub mod ProgressLaws
 pub mod DecodeLonger
-pub mod Sessions
+pub mod Session
+pub mod PlayLonger
+pub mod SessionLaws
 pub mod SessionLoop

@@ -1,13 +1,13 @@
 -- Laws of a play of the buffer's filled part, and of one turn of a session.
 -- Assumes nothing.
 use Prim.Native.Nat.{ℕ, zero, suc, _+_, _-_, _≤_, _<_}
-use mathlib.Core.Path.{_≡_, refl, sym, ap, ap₂, _∙_, subst}
+use mathlib.Core.Path.{_≡_, sym, ap, ap₂, _∙_, subst}
 use mathlib.Core.Bool.{Bool, true, false, _&&_, _||_, false≢true}
-use mathlib.Core.List.{List, [], _∷_, _++_, append-nil}
+use mathlib.Core.List.{List, [], _∷_, _++_}
 use native.Mathlib.Omega.{arith}
 use lib.Dec.{ltb}
-use lib.ListN.{length, take, drop, length-drop}
-use lib.Seq.{take-all, take-at, take-add, length-take-le}
+use lib.ListN.{length, take, drop}
+use lib.Seq.{take-at, take-add, length-take-le}
 use Rattle.card.specs.Card.{Card}
 use Rattle.card.specs.Contents.{overwrite}
 use Rattle.lines.specs.Lines.{lastLine}
@@ -15,7 +15,8 @@ use Rattle.lines.specs.Written.{Written}
 use Rattle.player.specs.Play.{Play}
 use Rattle.player.specs.Playing.{PlayedIs as PartIs}
 use Rattle.player.specs.declared.Stop.{Stop}
-use Rattle.cardplay.specs.Buffers.{recordRoom, FilledIs, written-within}
+use Rattle.cardplay.specs.Buffers.{recordRoom, FilledIs}
+use Rattle.cardplay.specs.BuffersLaws.{written-within}
 use Rattle.cardplay.specs.Progress.{isFull, needsInput, PlayedIs, ReadIs, TurnIs}
 
 -- ---- a play of the filled part

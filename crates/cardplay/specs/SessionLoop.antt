@@ -1,8 +1,8 @@
 -- The loop over a session: what it has reached, and what one turn more makes of it.
 -- Assumes nothing.
 use Prim.Native.Nat.{ℕ, _+_, _≤_, _<_}
-use mathlib.Core.Path.{_≡_, refl, sym, ap, _∙_, subst}
-use mathlib.Core.Bool.{Bool, true, false, _&&_, _||_, true≢false}
+use mathlib.Core.Path.{_≡_, refl, sym, ap, _∙_}
+use mathlib.Core.Bool.{Bool, true, false, _&&_, _||_}
 use mathlib.Core.List.{List, [], _∷_, _++_, append-nil}
 use native.Mathlib.Omega.{arith}
 use lib.Dec.{ltb}
@@ -10,17 +10,14 @@ use lib.ListN.{length, take, length-append}
 use lib.Seq.{length-take-le}
 use borrow.Author.Tests.{ltb-true, ltb-false}
 use Rattle.card.specs.Card.{Card, card}
+use Rattle.card.specs.ListsLaws.{and-left, and-right, or-false-left, or-false-right}
 use Rattle.card.specs.declared.Info.{Info}
 use Rattle.player.specs.Play.{Play, play}
 use Rattle.player.specs.declared.Stop.{Stop}
 use Rattle.cardplay.specs.Progress.{isFull, TurnIs}
-use Rattle.cardplay.specs.Sessions.{Session, Halted, Whole, session-none, session-read, session-played, session-whole, play-halted}
-
--- What a session comes to. It is whole once it does not go on and all lines could be written.
-pub record SessionIs (c₀ : Card) (stop : Stop) (records : ℕ) (after : Card) (wrote on : Bool) : Type 0 where
-  pub left : List ℕ
-  pub session : Session c₀ records after left
-  pub whole : on ≡ false → wrote ≡ true → Whole c₀ stop records after
+use Rattle.cardplay.specs.Session.{Session, Halted}
+use Rattle.cardplay.specs.SessionLaws.{session-read, session-played}
+use Rattle.cardplay.specs.PlayLonger.{play-halted}
 
 -- The loop's invariant: tables and buffers keep their lengths, and the session has come so far.
 pub record Loop (c₀ : Card) (flags₀ keys₀ counts₀ pointers₀ windows₀ contents₀ flags keys counts pointers windows contents buffer output : List ℕ)
@@ -43,10 +40,6 @@ none : (xs : List ℕ) → length xs ≤ 0 → xs ≡ []
 none [] h = refl
 none (x ∷ xs) h = absurd (omega arith)
 
-or-false : (a b : Bool) → (a || b) ≡ false → (a ≡ false) × (b ≡ false)
-or-false true b e = absurd (true≢false e)
-or-false false b e = (refl, e)
-
 module _ (n : ℕ) (c : Card) (xs : List ℕ) (small : ℕ) {stop : Stop} {records : ℕ} {after : Card} {buffer : List ℕ} {filled : ℕ} {before to : List ℕ} {wrote on : Bool}
     (t : TurnIs (play n c xs small) stop records after buffer filled before to wrote on) where
   abbrev played : Play
@@ -58,29 +51,16 @@ module _ (n : ℕ) (c : Card) (xs : List ℕ) (small : ℕ) {stop : Stop} {recor
   -- A turn that does not go on has read nothing.
   pub turn-halts : on ≡ false → wrote ≡ true → Halted stop records after (take filled buffer)
   turn-halts o w =
-      let idle = or-false (isFull stop) (ltb (length (played .left)) filled) (sym (ap (λ (b : Bool). b && (isFull stop || ltb (length (played .left)) filled)) w) ∙ sym (t .goes) ∙ o) in
+      let idle : (isFull stop || ltb (length (played .left)) filled) ≡ false = sym (ap (λ (b : Bool). b && (isFull stop || ltb (length (played .left)) filled)) w) ∙ sym (t .goes) ∙ o in
+      let unread : ltb (length (played .left)) filled ≡ false = or-false-right (isFull stop) (ltb (length (played .left)) filled) idle in
       let long : length (played .left) + length (t .more) ≡ length (take filled buffer) = sym (ap length (t .rests) ∙ length-append (played .left) (t .more)) in
-      let nothing : t .more ≡ [] = none (t .more) (omega (arith, long, length-take-le filled buffer (t .within), ltb-false (length (played .left)) filled (idle .1))) in
+      let nothing : t .more ≡ [] = none (t .more) (omega (arith, long, length-take-le filled buffer (t .within), ltb-false (length (played .left)) filled unread)) in
       let same : take filled buffer ≡ played .left = t .rests ∙ ap (λ (ys : List ℕ). played .left ++ ys) nothing ∙ append-nil (played .left) in
-      rw (t .counts, t .leaves, same, t .stops) (play-halted n c xs small (ap isFull (sym (t .stops)) ∙ idle .0))
+      rw (t .counts, t .leaves, same, t .stops) (play-halted n c xs small (ap isFull (sym (t .stops)) ∙ or-false-left (isFull stop) (ltb (length (played .left)) filled) idle))
 
 -- ---- the loop's test
 
-and-true : (a b : Bool) → (a && b) ≡ true → (a ≡ true) × (b ≡ true)
-and-true true b e = (refl, e)
-and-true false b e = absurd (true≢false (sym e))
-
 pub going : (on : Bool) (turns records limit : ℕ) → ((on && ltb 0 turns) && ltb records limit) ≡ true → (0 < turns) × (records < limit)
 going on turns records limit e =
-    let both = and-true (on && ltb 0 turns) (ltb records limit) e in
-    (ltb-true 0 turns (and-true on (ltb 0 turns) (both .0) .1), ltb-true records limit (both .1))
-
--- ---- the end of the loop
-
-pub session-is : {c₀ : Card} {stop : Stop} {records : ℕ} {after : Card} {left : List ℕ} {wrote on : Bool} → Session c₀ records after left → (on ≡ false → wrote ≡ true → Halted stop records after left)
-    → SessionIs c₀ stop records after wrote on
-session-is {left = left} s h = record { left = left; session = s; whole = λ o w. session-whole s (h o w) }
-
--- A session on an equal card.
-pub session-from : {c d : Card} {stop : Stop} {records : ℕ} {after : Card} {wrote on : Bool} → c ≡ d → SessionIs c stop records after wrote on → SessionIs d stop records after wrote on
-session-from {stop = stop} {records} {after} {wrote} {on} e s = subst (λ (x : Card). SessionIs x stop records after wrote on) e s
+    let counting : (on && ltb 0 turns) ≡ true = and-left (on && ltb 0 turns) (ltb records limit) e in
+    (ltb-true 0 turns (and-right on (ltb 0 turns) counting), ltb-true records limit (and-right (on && ltb 0 turns) (ltb records limit) e))

@@ -13,7 +13,7 @@ ghost use Rattle.lines.specs.Written.{Written};
 ghost use Rattle.player.specs.Play.{play, endNumber};
 ghost use Rattle.cardplay.specs.Buffers.{recordRoom, FilledIs};
 ghost use Rattle.cardplay.specs.Progress.{isFull, needsInput, ReadIs, PlayedIs, TurnIs};
-ghost use Rattle.cardplay.specs.SessionLoop.{SessionIs};
+ghost use Rattle.cardplay.specs.Session.{SessionIs};
 
 // Moves the bytes from a place to the end of a buffer's filled part to the front. Returns how many there are.
 fn keep(buffer: &mut [u8], from: usize, filled: usize) -> usize
@@ -185,7 +185,7 @@ fn turn(
 }
 
 // Plays standard input to its end. A proved loop has to end, and nothing says that an input does:
-// so it counts its turns, and its records, up to numbers that no run reaches.
+// so this one also ends after 2^64 - 1 turns or 2^63 records, which no run reaches.
 fn play_all(
     info: Info,
     flags: &mut [u8],
@@ -228,7 +228,7 @@ fn play_all(
     progress
 }
 
-// "Formats a card of N 16, R 1, B 512" on the lent tables, and plays standard input on it.
+// Formats a card of N 16, R 1 and B 512 on the lent tables, and plays standard input on it.
 fn play_fresh(
     info: Info,
     flags: &mut [u8],

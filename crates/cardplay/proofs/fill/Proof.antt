@@ -1,7 +1,7 @@
 -- `cardplay::fill` meets its contract. Assumes nothing.
 use borrow.Author.Needs.{needs}
 use native.Mathlib.Omega.{arith}
-use Rattle.cardplay.specs.Buffers.{filled-is}
+use Rattle.cardplay.specs.BuffersLaws.{filled-is}
 use Rattle.cardplay.proofs.fill.Statement.{statement}
 use Rattle.cardplay.proofs.fill.Tie as tie
 

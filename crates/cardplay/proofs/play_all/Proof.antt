@@ -5,8 +5,8 @@ use mathlib.Core.Path.{refl, sym, _∙_}
 use mathlib.Core.Bool.{true≢false}
 use lib.ListN.{length-replicate}
 use Rattle.card.specs.Card.{card}
-use Rattle.cardplay.specs.Sessions.{session-none}
-use Rattle.cardplay.specs.SessionLoop.{Loop, going, session-turn, turn-halts, session-is}
+use Rattle.cardplay.specs.SessionLaws.{session-none, session-is}
+use Rattle.cardplay.specs.SessionLoop.{Loop, going, session-turn, turn-halts}
 use Rattle.cardplay.proofs.play_all.Statement.{statement}
 use Rattle.cardplay.proofs.play_all.Tie as tie
 

@@ -1,6 +1,6 @@
 -- `cardplay::play_fresh` meets its contract. Assumes nothing.
 use borrow.Author.Needs.{needs}
-use Rattle.cardplay.specs.SessionLoop.{session-from}
+use Rattle.cardplay.specs.SessionLaws.{session-from}
 use Rattle.cardplay.proofs.play_fresh.Statement.{statement}
 use Rattle.cardplay.proofs.play_fresh.Tie as tie
 

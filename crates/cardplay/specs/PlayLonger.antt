@@ -1,43 +1,24 @@
--- A session that is played in pieces, as its input comes, is the play of the whole input.
+-- The play of an input's first part, and of what it left with more behind it, is the play of the whole.
 -- Assumes nothing.
-use Prim.Native.Nat.{ℕ, zero, suc, _+_, _-_, _≤_, _<_}
+use Prim.Native.Nat.{ℕ, zero, suc, _+_, _-_, _≤_}
 use mathlib.Core.Path.{_≡_, refl, sym, ap, ap₂, _∙_, subst}
 use mathlib.Core.Bool.{Bool, true, false, cond, true≢false}
-use mathlib.Core.List.{List, [], _∷_, _++_, append-assoc, append-nil}
+use mathlib.Core.List.{List, [], _∷_, _++_, append-assoc}
 use native.Mathlib.Omega.{arith}
 use native.Mathlib.Nat.{sub-zero}
 use lib.Dec.{ltb}
-use lib.ListN.{length, getD, length-append}
+use lib.ListN.{length, length-append}
 use Rattle.card.specs.Card.{Card}
 use Rattle.records.specs.Decode.{Next, ended, refused, sent, decode}
-use Rattle.lines.specs.Lines.{lineRoom, lastLine}
-use Rattle.player.specs.Play.{Turn, halted, turnOf, turn, Play, goOn, playWithin, play, endNumber, transcript}
+use Rattle.lines.specs.Lines.{lineRoom}
+use Rattle.player.specs.Play.{Turn, halted, turnOf, turn, Play, goOn, playWithin, play}
 use Rattle.player.specs.PlayLaws.{behind, stopped, play-went, play-stopped, fault-stops}
 use Rattle.player.specs.declared.Stop.{Stop}
 use Rattle.player.specs.declared.Stop.the-variants.{Went, Ended, Short, Refused, Full}
 use Rattle.player.specs.Playing.{isWent}
 use Rattle.cardplay.specs.Progress.{isFull}
 use Rattle.cardplay.specs.DecodeLonger.{decode-longer}
-
--- ---- definitions
-
--- Some input has been read and some lines were written, and whatever follows is played from here.
-pub record Session (c₀ : Card) (records : ℕ) (c : Card) (left : List ℕ) : Type 0 where
-  pub input : List ℕ
-  pub lines : List ℕ
-  pub total : (more : List ℕ) (room : ℕ) → length lines + lineRoom ≤ room → play 0 c₀ (input ++ more) room ≡ behind lines (play records c (left ++ more) (room - length lines))
-
--- Nothing of what is left is played, for this reason.
-abbrev pub Halted : Stop → ℕ → Card → List ℕ → Type 0
-Halted stop records c left = (room : ℕ) → lineRoom ≤ room → play records c left room ≡ stopped stop records c left
-
--- The whole play of some input, which is what a player writes of it but for the last line.
-pub record Whole (c₀ : Card) (stop : Stop) (records : ℕ) (c : Card) : Type 0 where
-  pub input : List ℕ
-  pub lines : List ℕ
-  pub left : List ℕ
-  pub plays : (room : ℕ) → length lines + lineRoom ≤ room → play 0 c₀ input room ≡ record { stop = stop; lines = lines; records = records; after = c; left = left }
-  pub writes : (room : ℕ) → length lines + lineRoom ≤ room → transcript c₀ input room ≡ lines ++ lastLine records (endNumber stop)
+use Rattle.cardplay.specs.Session.{Halted}
 
 -- ---- one turn
 
@@ -90,13 +71,15 @@ longer-none stop records c xs ys big h = ap (play records c (xs ++ ys)) (sym (su
 abbrev HaltedAfter : Play → Type 0
 HaltedAfter p = isFull (p .stop) ≡ false → Halted (p .stop) (p .records) (p .after) (p .left)
 
-behind-behind : (us vs : List ℕ) (big : ℕ) (records : ℕ) (c : Card) (xs : List ℕ)
+behind-append : (us vs : List ℕ) (p : Play) → behind us (behind vs p) ≡ behind (us ++ vs) p
+behind-append us vs p = ap (λ (ls : List ℕ). record { stop = p .stop; lines = ls; records = p .records; after = p .after; left = p .left }) (sym (append-assoc us vs (p .lines)))
+
+pub behind-behind : (us vs : List ℕ) (big : ℕ) (records : ℕ) (c : Card) (xs : List ℕ)
     → behind us (behind vs (play records c xs (big - length us - length vs))) ≡ behind (us ++ vs) (play records c xs (big - length (us ++ vs)))
 behind-behind us vs big records c xs =
     let same : big - length us - length vs ≡ big - length (us ++ vs) = omega (arith, length-append us vs) in
-    let p : Play = play records c xs (big - length us - length vs) in
-    ap (λ (ls : List ℕ). record { stop = p .stop; lines = ls; records = p .records; after = p .after; left = p .left }) (sym (append-assoc us vs (p .lines)))
-    ∙ ap (λ (n : ℕ). behind (us ++ vs) (play records c xs n)) same
+    subst (λ (n : ℕ). behind us (behind vs (play records c xs (big - length us - length vs))) ≡ behind (us ++ vs) (play records c xs n)) same
+    (behind-append us vs (play records c xs (big - length us - length vs)))
 
 no-went : (stop : Stop) → isWent stop ≡ false → stop ≡ Went → ⊥
 no-went stop e q = true≢false (sym (ap isWent q) ∙ e)
@@ -160,52 +143,3 @@ within-halted (suc most) records c xs small f =
 pub play-halted : (records : ℕ) (c : Card) (xs : List ℕ) (small : ℕ) → HaltedAfter (play records c xs small)
 unfolding play
 play-halted records c xs small f = within-halted (suc (length xs)) records c xs small f
-
--- ---- a session, piece by piece
-
-pub session-none : (c₀ : Card) → Session c₀ 0 c₀ []
-session-none c₀ = record { input = []; lines = []; total = λ more room h. ap (play 0 c₀ more) (sym (sub-zero room)) }
-
-module _ {c₀ : Card} {records : ℕ} {c : Card} {left : List ℕ} (s : Session c₀ records c left) where
-  pub session-read : (ys : List ℕ) → Session c₀ records c (left ++ ys)
-  session-read ys = record {
-    input = s .input ++ ys;
-    lines = s .lines;
-    total = λ more room h.
-        ap (λ (zs : List ℕ). play 0 c₀ zs room) (append-assoc (s .input) ys more)
-        ∙ s .total (ys ++ more) room h
-        ∙ ap (λ (zs : List ℕ). behind (s .lines) (play records c zs (room - length (s .lines)))) (sym (append-assoc left ys more));
-  }
-
-  pub session-played : (small : ℕ) → let p : Play = play records c left small in Session c₀ (p .records) (p .after) (p .left)
-  session-played small =
-      let p : Play = play records c left small in
-      let long : length (s .lines ++ p .lines) ≡ length (s .lines) + length (p .lines) = length-append (s .lines) (p .lines) in
-      record {
-        input = s .input;
-        lines = s .lines ++ p .lines;
-        total = λ more room h.
-            s .total more room (omega arith)
-            ∙ ap (behind (s .lines)) (play-longer records c left small more (room - length (s .lines)) (omega arith))
-            ∙ behind-behind (s .lines) (p .lines) room (p .records) (p .after) (p .left ++ more);
-      }
-
-  module _ {stop : Stop} (halts : Halted stop records c left) where
-    ends : (room : ℕ) → length (s .lines) + lineRoom ≤ room → play 0 c₀ (s .input) room ≡ record { stop = stop; lines = s .lines; records = records; after = c; left = left }
-    ends room h =
-        ap (λ (zs : List ℕ). play 0 c₀ zs room) (sym (append-nil (s .input)))
-        ∙ s .total [] room h
-        ∙ ap (λ (zs : List ℕ). behind (s .lines) (play records c zs (room - length (s .lines)))) (append-nil left)
-        ∙ ap (behind (s .lines)) (halts (room - length (s .lines)) (omega arith))
-        ∙ ap (λ (ls : List ℕ). record { stop = stop; lines = ls; records = records; after = c; left = left }) (append-nil (s .lines))
-
-    -- What was written is the whole play of what was read.
-    pub session-whole : Whole c₀ stop records c
-    unfolding transcript
-    session-whole = record {
-      input = s .input;
-      lines = s .lines;
-      left = left;
-      plays = ends;
-      writes = λ room h. ap (λ (p : Play). p .lines ++ lastLine (p .records) (endNumber (p .stop))) (ends room h);
-    }

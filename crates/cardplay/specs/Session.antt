@@ -1,0 +1,35 @@
+-- A session that is played in pieces, as its input comes: what has been read, written and played.
+use Prim.Native.Nat.{ℕ, _+_, _-_, _≤_}
+use mathlib.Core.Path.{_≡_}
+use mathlib.Core.Bool.{Bool, true, false}
+use mathlib.Core.List.{List, _++_}
+use lib.ListN.{length}
+use Rattle.card.specs.Card.{Card}
+use Rattle.lines.specs.Lines.{lineRoom, lastLine}
+use Rattle.player.specs.Play.{play, endNumber, transcript}
+use Rattle.player.specs.PlayLaws.{behind, stopped}
+use Rattle.player.specs.declared.Stop.{Stop}
+
+-- Some input has been read and some lines were written, and whatever follows is played from here.
+pub record Session (c₀ : Card) (records : ℕ) (c : Card) (left : List ℕ) : Type 0 where
+  pub input : List ℕ
+  pub lines : List ℕ
+  pub total : (more : List ℕ) (room : ℕ) → length lines + lineRoom ≤ room → play 0 c₀ (input ++ more) room ≡ behind lines (play records c (left ++ more) (room - length lines))
+
+-- Nothing of what is left is played, for this reason.
+abbrev pub Halted : Stop → ℕ → Card → List ℕ → Type 0
+Halted stop records c left = (room : ℕ) → lineRoom ≤ room → play records c left room ≡ stopped stop records c left
+
+-- The whole play of some input, which is what a player writes of it but for the last line.
+pub record Whole (c₀ : Card) (stop : Stop) (records : ℕ) (c : Card) : Type 0 where
+  pub input : List ℕ
+  pub lines : List ℕ
+  pub left : List ℕ
+  pub plays : (room : ℕ) → length lines + lineRoom ≤ room → play 0 c₀ input room ≡ record { stop = stop; lines = lines; records = records; after = c; left = left }
+  pub writes : (room : ℕ) → length lines + lineRoom ≤ room → transcript c₀ input room ≡ lines ++ lastLine records (endNumber stop)
+
+-- What a session comes to. It is whole once it does not go on and all lines could be written.
+pub record SessionIs (c₀ : Card) (stop : Stop) (records : ℕ) (after : Card) (wrote on : Bool) : Type 0 where
+  pub left : List ℕ
+  pub session : Session c₀ records after left
+  pub whole : on ≡ false → wrote ≡ true → Whole c₀ stop records after
