@@ -11,9 +11,10 @@ use lib.Seq.{getD-drop, drop-append-le, take-append-le}
 use borrow.Author.Tests.{le-leb}
 use Rattle.card.specs.declared.Port.{Port}
 use Rattle.card.specs.declared.Call.{Call}
-use Rattle.records.specs.Bytes.{number, zeroed}
+use Rattle.fields.specs.Bytes.{number, zeroed}
 use Rattle.kinds.specs.Kinds.{row, lengthOf, dataLength, operandsLength, kindOf}
-use Rattle.records.specs.Decode.{credential, newKey, decodeCall, decodeKnown, decodeBody, nameOf, dataOf, Next, ended, refused, sent, nextOf, decode}
+use Rattle.fields.specs.Fields.{credential, newKey}
+use Rattle.records.specs.Decode.{decodeCall, decodeKnown, decodeBody, nameOf, dataOf, Next, ended, refused, sent, nextOf, decode}
 use Rattle.records.specs.DecodeLaws.{OfKind, decoded-kind}
 use Rattle.kinds.specs.declared.Name.{Name}
 use Rattle.kinds.specs.declared.Name.the-variants.{Read as READ, Write as WRITE, Alloc as ALLOC, Create as CREATE, Delete as DELETE, Key as KEY, Renew as RENEW, Force as FORCE, Free as FREE, Tick as TICK, Audit as AUDIT}
