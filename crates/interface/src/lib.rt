@@ -1,112 +1,15 @@
 // The functions that C links: the card's record as a lent slice of five numbers, tables and buffers as slices,
 // enums as numbers. include/negvask.h describes them.
-use card::Answer;
 use card::Call;
 use card::ForceOperands;
 use card::Port;
 use card::RenewOperands;
 use card::TickOperands;
 use records::Decoding;
-ghost use mathlib.Core.Path.{_≡_};
 ghost use mathlib.Core.List.{[]};
 ghost use Rattle.card.specs.Card.{card};
-ghost use Rattle.card.specs.Calls.{answerNumber};
-ghost use Rattle.records.specs.Decode.{decodeBody};
 ghost use Rattle.operands.specs.Operands.{recordOf, credentialOf, newKeyOf, atPort, readOf, writeOf, allocOf, createOf, deleteOf, keyOf};
-ghost use Rattle.interface.specs.Effects.{valueAfter, effect, formatEffect, dataSize, dataFrom, recordEffect, Does, Gives};
-
-// ---- what the functions share
-
-// The number of an answer; a result is put where the caller asks for it.
-fn report(answer: Answer, value: &mut u64) -> u32
-    ensures number { λ r. ⌜ r ≡ answerNumber answer ⌝ }
-    ensures result { λ _. ⌜ now (value .exit) ≡ valueAfter answer (now (value .entry)) ⌝ }
-{
-    match answer {
-        Answer::Refused(refusal) => lines::refusal_number(refusal) as u32,
-        Answer::Done => 0,
-        Answer::Value(v) => {
-            *value = v;
-            0
-        }
-    }
-}
-
-// A call on the lent record and tables: refused 13 where there is none, and 1 where the record has not five numbers.
-fn perform(
-    info: &mut [u64],
-    flags: &mut [u8],
-    keys: &mut [u64],
-    counts: &mut [u16],
-    pointers: &mut [u32],
-    windows: &mut [u64],
-    contents: &mut [u8],
-    decoding: Decoding,
-    input: &[u8],
-    out: &mut [u8],
-    places: &mut [u16],
-    value: &mut u64,
-) -> u32
-    ensures { λ r. ⌜ Gives (effect (decoding) (now (info .entry)) (card (recordOf (now (info .entry))) (now (flags .entry)) (now (keys .entry)) (now (counts .entry)) (now (pointers .entry)) (now (windows .entry)) (now (contents .entry))) (now (input .entry)) (now (out .entry)) (now (places .entry)) (now (value .entry))) r (now (value .exit)) (now (info .exit)) (card (recordOf (now (info .exit))) (now (flags .exit)) (now (keys .exit)) (now (counts .exit)) (now (pointers .exit)) (now (windows .exit)) (now (contents .exit))) (now (out .exit)) (now (places .exit)) ⌝ }
-{
-    let Decoding::Decoded(port, call) = decoding else {
-        return 13;
-    };
-    if info.len() != 5 {
-        return 1;
-    }
-    let outcome = controller::perform(
-        operands::load(info),
-        flags,
-        keys,
-        counts,
-        pointers,
-        windows,
-        contents,
-        port,
-        call,
-        input,
-        out,
-        places,
-    );
-    let left = outcome.info;
-    let answer = outcome.answer;
-    operands::store(info, left);
-    report(answer, value)
-}
-
-// A call that has no use for a buffer.
-fn perform_alone(
-    info: &mut [u64],
-    flags: &mut [u8],
-    keys: &mut [u64],
-    counts: &mut [u16],
-    pointers: &mut [u32],
-    windows: &mut [u64],
-    contents: &mut [u8],
-    decoding: Decoding,
-    value: &mut u64,
-) -> u32
-    ensures { λ r. ⌜ Gives (effect (decoding) (now (info .entry)) (card (recordOf (now (info .entry))) (now (flags .entry)) (now (keys .entry)) (now (counts .entry)) (now (pointers .entry)) (now (windows .entry)) (now (contents .entry))) [] [] [] (now (value .entry))) r (now (value .exit)) (now (info .exit)) (card (recordOf (now (info .exit))) (now (flags .exit)) (now (keys .exit)) (now (counts .exit)) (now (pointers .exit)) (now (windows .exit)) (now (contents .exit))) [] [] ⌝ }
-{
-    let input = [0u8; 0];
-    let mut out = [0u8; 0];
-    let mut places = [0u16; 0];
-    perform(
-        info,
-        flags,
-        keys,
-        counts,
-        pointers,
-        windows,
-        contents,
-        decoding,
-        &input,
-        &mut out,
-        &mut places,
-        value,
-    )
-}
+ghost use Rattle.adapter.specs.Effects.{effect, formatEffect, recordEffect, Does, Gives};
 
 // ---- the calls, by their operands
 
@@ -137,7 +40,7 @@ pub extern "C" fn negvask_read(
     let input = [0u8; 0];
     let mut places = [0u16; 0];
     let mut value = 0;
-    perform(
+    adapter::perform(
         info,
         flags,
         keys,
@@ -180,7 +83,7 @@ pub extern "C" fn negvask_write(
     let mut out = [0u8; 0];
     let mut places = [0u16; 0];
     let mut value = 0;
-    perform(
+    adapter::perform(
         info,
         flags,
         keys,
@@ -224,7 +127,7 @@ pub extern "C" fn negvask_alloc(
     let input = [0u8; 0];
     let mut out = [0u8; 0];
     let mut value = 0;
-    perform(
+    adapter::perform(
         info,
         flags,
         keys,
@@ -269,7 +172,7 @@ pub extern "C" fn negvask_create(
     let made = operands::create_of(source, presented, destination, second);
     let decoding = operands::at_port(port, made);
     let mut value = 0;
-    perform_alone(
+    adapter::perform_alone(
         info,
         flags,
         keys,
@@ -306,7 +209,7 @@ pub extern "C" fn negvask_delete(
     let presented = operands::credential_of(kind, reference, high, low);
     let made = operands::delete_of(source, presented, destination);
     let decoding = operands::at_port(port, made);
-    perform_alone(
+    adapter::perform_alone(
         info,
         flags,
         keys,
@@ -350,7 +253,7 @@ pub extern "C" fn negvask_key(
     let made = operands::key_of(block, presented, first, second);
     let decoding = operands::at_port(port, made);
     let mut value = 0;
-    perform_alone(
+    adapter::perform_alone(
         info,
         flags,
         keys,
@@ -390,7 +293,7 @@ pub extern "C" fn negvask_renew(
     });
     let decoding = Decoding::Decoded(Port::Host, call);
     let mut value = 0;
-    perform_alone(
+    adapter::perform_alone(
         info,
         flags,
         keys,
@@ -420,7 +323,7 @@ pub extern "C" fn negvask_force(
     let call = Call::Force(ForceOperands { block });
     let decoding = Decoding::Decoded(Port::Host, call);
     let mut value = 0;
-    perform_alone(
+    adapter::perform_alone(
         info,
         flags,
         keys,
@@ -450,7 +353,7 @@ pub extern "C" fn negvask_tick(
 {
     let call = Call::Tick(TickOperands { seconds });
     let decoding = Decoding::Decoded(Port::Host, call);
-    perform_alone(
+    adapter::perform_alone(
         info,
         flags,
         keys,
@@ -490,7 +393,7 @@ pub extern "C" fn negvask_free(
         contents,
     );
     let answer = outcome.answer;
-    report(answer, value)
+    adapter::report(answer, value)
 }
 
 // AUDIT: 0, or the refusal 1 or 2.
@@ -520,7 +423,7 @@ pub extern "C" fn negvask_audit(
     );
     let answer = outcome.answer;
     let mut value = 0;
-    report(answer, &mut value)
+    adapter::report(answer, &mut value)
 }
 
 // ---- FORMAT
@@ -560,39 +463,10 @@ pub extern "C" fn negvask_format(
     let answer = outcome.answer;
     operands::store(info, left);
     let mut value = 0;
-    report(answer, &mut value)
+    adapter::report(answer, &mut value)
 }
 
 // ---- call records
-
-// How many bytes a record has beside its operands: WRITE's 512.
-fn data_size(decoding: Decoding) -> usize
-    ensures { λ r. ⌜ r ≡ dataSize decoding ⌝ }
-{
-    let Decoding::Decoded(_, call) = decoding else {
-        return 0;
-    };
-    match call {
-        Call::Read(_) => 0,
-        Call::Write(_) => 512,
-        Call::Alloc(_) => 0,
-        Call::Create(_) => 0,
-        Call::Delete(_) => 0,
-        Call::Key(_) => 0,
-        Call::Renew(_) => 0,
-        Call::Force(_) => 0,
-        Call::Free => 0,
-        Call::Tick(_) => 0,
-        Call::Audit => 0,
-    }
-}
-
-// Where they start: behind 23 bytes of operands.
-fn data_from(size: usize) -> usize
-    ensures { λ r. ⌜ r ≡ dataFrom size ⌝ }
-{
-    if size == 512 { 23 } else { 0 }
-}
 
 // One call record: its kind, and its body or a longer part of an input that starts with it.
 #[no_mangle]
@@ -613,10 +487,10 @@ pub extern "C" fn negvask_serve(
     ensures { λ r. ⌜ Gives (recordEffect kind (now (body .entry)) (now (info .entry)) (card (recordOf (now (info .entry))) (now (flags .entry)) (now (keys .entry)) (now (counts .entry)) (now (pointers .entry)) (now (windows .entry)) (now (contents .entry))) (now (out .entry)) (now (places .entry)) (now (value .entry))) r (now (value .exit)) (now (info .exit)) (card (recordOf (now (info .exit))) (now (flags .exit)) (now (keys .exit)) (now (counts .exit)) (now (pointers .exit)) (now (windows .exit)) (now (contents .exit))) (now (out .exit)) (now (places .exit)) ⌝ }
 {
     let decoding = records::decode(kind, body);
-    let size = data_size(decoding);
-    let from = data_from(size);
+    let size = adapter::data_size(decoding);
+    let from = adapter::data_from(size);
     let end = from + size;
-    perform(
+    adapter::perform(
         info,
         flags,
         keys,

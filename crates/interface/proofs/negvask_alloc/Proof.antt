@@ -2,19 +2,19 @@
 use mathlib.Core.List.{[]}
 use mathlib.Core.Path.{ap, _∙_}
 use Rattle.operands.specs.Operands.{atPort, allocOf}
-use Rattle.interface.specs.EffectsLaws.{no-out, of-operands}
+use Rattle.adapter.specs.EffectsLaws.{no-out, of-operands}
 use borrow.Author.Needs.{needs}
 use Rattle.interface.proofs.negvask_alloc.Statement.{statement}
 use Rattle.interface.proofs.negvask_alloc.Tie as tie
 
 credential-of-requires : tie.Need-credential-of-requires
-credential-of-requires c κs = search needs
+credential-of-requires c κs = tt
 
 alloc-of-requires : tie.Need-alloc-of-requires
-alloc-of-requires c κs = search needs
+alloc-of-requires c κs = tt
 
 at-port-requires : tie.Need-at-port-requires
-at-port-requires c κs = search needs
+at-port-requires c κs = tt
 
 slice-aggregate-perform : tie.Need-slice-aggregate-perform
 slice-aggregate-perform c = search needs
@@ -23,7 +23,7 @@ slice-aggregate-perform-2 : tie.Need-slice-aggregate-perform-2
 slice-aggregate-perform-2 c = search needs
 
 perform-requires : tie.Need-perform-requires
-perform-requires c κs = search needs
+perform-requires c κs = tt
 
 same-length : tie.Need-same-length
 same-length c = c .before .before .before .before .before .before .before .before .before .before .before .before .before .before .before .before .before .perform .kept .0

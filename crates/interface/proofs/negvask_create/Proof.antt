@@ -2,25 +2,25 @@
 use mathlib.Core.List.{[]}
 use mathlib.Core.Path.{ap, ap₂, _∙_}
 use Rattle.operands.specs.Operands.{atPort, createOf}
-use Rattle.interface.specs.EffectsLaws.{of-operands}
+use Rattle.adapter.specs.EffectsLaws.{of-operands}
 use borrow.Author.Needs.{needs}
 use Rattle.interface.proofs.negvask_create.Statement.{statement}
 use Rattle.interface.proofs.negvask_create.Tie as tie
 
 credential-of-requires : tie.Need-credential-of-requires
-credential-of-requires c κs = search needs
+credential-of-requires c κs = tt
 
 credential-of-requires-2 : tie.Need-credential-of-requires-2
 credential-of-requires-2 c κs = search needs
 
 create-of-requires : tie.Need-create-of-requires
-create-of-requires c κs = search needs
+create-of-requires c κs = tt
 
 at-port-requires : tie.Need-at-port-requires
-at-port-requires c κs = search needs
+at-port-requires c κs = tt
 
 perform-alone-requires : tie.Need-perform-alone-requires
-perform-alone-requires c κs = search needs
+perform-alone-requires c κs = tt
 
 same-length : tie.Need-same-length
 same-length c = c .before .before .before .before .before .before .before .before .before .before .before .before .before .before .perform-alone .kept .0

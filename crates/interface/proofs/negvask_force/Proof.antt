@@ -4,7 +4,7 @@ use Rattle.interface.proofs.negvask_force.Statement.{statement}
 use Rattle.interface.proofs.negvask_force.Tie as tie
 
 perform-alone-requires : tie.Need-perform-alone-requires
-perform-alone-requires c κs = search needs
+perform-alone-requires c κs = tt
 
 same-length : tie.Need-same-length
 same-length c = c .before .before .before .before .before .before .before .before .before .before .before .before .before .before .perform-alone .kept .0

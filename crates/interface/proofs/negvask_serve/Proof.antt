@@ -1,18 +1,18 @@
 -- `interface::negvask_serve` meets its contract. Assumes nothing.
 use native.Mathlib.Omega.{arith}
-use Rattle.interface.specs.EffectsLaws.{bound, of-record}
+use Rattle.adapter.specs.EffectsLaws.{bound, of-record}
 use borrow.Author.Needs.{needs}
 use Rattle.interface.proofs.negvask_serve.Statement.{statement}
 use Rattle.interface.proofs.negvask_serve.Tie as tie
 
 decode-requires : tie.Need-decode-requires
-decode-requires c κs = search needs
+decode-requires c κs = tt
 
 data-size-requires : tie.Need-data-size-requires
-data-size-requires c κs = search needs
+data-size-requires c κs = tt
 
 data-from-requires : tie.Need-data-from-requires
-data-from-requires c κs = search needs
+data-from-requires c κs = tt
 
 add-end : tie.Need-add-end
 add-end c = omega (arith, bound (c .before .before .before .before .before .before .before .before .before .before .before .before .before .args .kind) (c .before .before .before .before .before .before .before .before .before .before .before .before .before .args .body .now) (c .before .before .decode .ensures) (c .before .data-size .ensures) (c .data-from .ensures))
@@ -27,7 +27,7 @@ part-perform-end : tie.Need-part-perform-end
 part-perform-end c = bound (c .before .before .before .before .before .before .before .before .before .before .before .before .before .before .before .before .before .before .before .before .args .kind) (c .before .before .before .before .before .before .before .before .before .before .before .before .before .before .before .before .before .before .before .before .args .body .now) (c .before .before .before .before .before .before .before .before .before .decode .ensures) (c .before .before .before .before .before .before .before .before .data-size .ensures) (c .before .before .before .before .before .before .before .data-from .ensures)
 
 perform-requires : tie.Need-perform-requires
-perform-requires c κs = search needs
+perform-requires c κs = tt
 
 same-length : tie.Need-same-length
 same-length c = c .before .before .before .before .before .before .before .before .before .before .before .before .before .before .before .before .before .before .perform .kept .0

@@ -28,7 +28,7 @@ use Rattle.records.specs.DecodeLaws.{OfKind, decoded-kind}
 use Rattle.records.specs.declared.Decoding.{Decoding}
 use Rattle.records.specs.declared.Decoding.the-variants.{Decoded, Bad}
 use Rattle.operands.specs.Operands.{recordOf, numbersOf}
-use Rattle.interface.specs.Effects.{Effect, valueAfter, effect, formatEffect, dataSize, dataFrom, dataIn, recordEffect, Does, Gives}
+use Rattle.adapter.specs.Effects.{Effect, valueAfter, effect, formatEffect, dataSize, dataFrom, dataIn, recordEffect, Does, Gives}
 
 pub refusal-small : (r : Refusal) → refusalNumber r ≤ 13
 refusal-small Misshapen = omega arith

@@ -1,10 +1,10 @@
--- `interface::data_size` meets its contract. Assumes nothing.
+-- `adapter::data_size` meets its contract. Assumes nothing.
 use Rattle.kinds.specs.Kinds.{dataLength, row}
 use Rattle.records.specs.Decode.{nameOf}
-use Rattle.interface.specs.Effects.{dataSize}
+use Rattle.adapter.specs.Effects.{dataSize}
 use borrow.Author.Needs.{needs}
-use Rattle.interface.proofs.data_size.Statement.{statement}
-use Rattle.interface.proofs.data_size.Tie as tie
+use Rattle.adapter.proofs.data_size.Statement.{statement}
+use Rattle.adapter.proofs.data_size.Tie as tie
 
 enum-known-decoding : tie.Need-enum-known-decoding
 enum-known-decoding c = search needs

@@ -1,8 +1,8 @@
--- `interface::perform_alone` meets its contract. Assumes nothing.
-use Rattle.interface.specs.EffectsLaws.{no-out, no-places}
+-- `adapter::perform_alone` meets its contract. Assumes nothing.
+use Rattle.adapter.specs.EffectsLaws.{no-out, no-places}
 use borrow.Author.Needs.{needs}
-use Rattle.interface.proofs.perform_alone.Statement.{statement}
-use Rattle.interface.proofs.perform_alone.Tie as tie
+use Rattle.adapter.proofs.perform_alone.Statement.{statement}
+use Rattle.adapter.proofs.perform_alone.Tie as tie
 
 slice-aggregate-perform : tie.Need-slice-aggregate-perform
 slice-aggregate-perform c = search needs

@@ -1,7 +1,7 @@
--- `interface::data_from` meets its contract. Assumes nothing.
+-- `adapter::data_from` meets its contract. Assumes nothing.
 use borrow.Author.Tests.{ne-eqb}
-use Rattle.interface.proofs.data_from.Statement.{statement}
-use Rattle.interface.proofs.data_from.Tie as tie
+use Rattle.adapter.proofs.data_from.Statement.{statement}
+use Rattle.adapter.proofs.data_from.Tie as tie
 
 returns : tie.Need-returns
 returns c = rw (c .if1 .taken)

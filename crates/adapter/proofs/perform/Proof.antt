@@ -1,8 +1,8 @@
--- `interface::perform` meets its contract. Assumes nothing.
-use Rattle.interface.specs.EffectsLaws.{effect-bad, effect-record, effect-called}
+-- `adapter::perform` meets its contract. Assumes nothing.
+use Rattle.adapter.specs.EffectsLaws.{effect-bad, effect-record, effect-called}
 use borrow.Author.Needs.{needs}
-use Rattle.interface.proofs.perform.Statement.{statement}
-use Rattle.interface.proofs.perform.Tie as tie
+use Rattle.adapter.proofs.perform.Statement.{statement}
+use Rattle.adapter.proofs.perform.Tie as tie
 
 enum-known-decoding : tie.Need-enum-known-decoding
 enum-known-decoding c = search needs

@@ -1,9 +1,9 @@
--- `interface::report` meets its contract. Assumes nothing.
+-- `adapter::report` meets its contract. Assumes nothing.
 use native.Mathlib.Omega.{arith}
-use Rattle.interface.specs.EffectsLaws.{refusal-small}
+use Rattle.adapter.specs.EffectsLaws.{refusal-small}
 use borrow.Author.Needs.{needs}
-use Rattle.interface.proofs.report.Statement.{statement}
-use Rattle.interface.proofs.report.Tie as tie
+use Rattle.adapter.proofs.report.Statement.{statement}
+use Rattle.adapter.proofs.report.Tie as tie
 
 enum-known-answer : tie.Need-enum-known-answer
 enum-known-answer c = search needs

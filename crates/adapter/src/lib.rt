@@ -1,0 +1,134 @@
+// A decoded call on the card's record as five lent numbers, and the bytes of a record beside its operands.
+use card::Answer;
+use card::Call;
+use records::Decoding;
+ghost use mathlib.Core.Path.{_≡_};
+ghost use mathlib.Core.List.{[]};
+ghost use Rattle.card.specs.Card.{card};
+ghost use Rattle.card.specs.Calls.{answerNumber};
+ghost use Rattle.operands.specs.Operands.{recordOf};
+ghost use Rattle.adapter.specs.Effects.{valueAfter, effect, dataSize, dataFrom, Gives};
+
+// ---- calls
+
+// The number of an answer; a result is put where the caller asks for it.
+pub fn report(answer: Answer, value: &mut u64) -> u32
+    ensures number { λ r. ⌜ r ≡ answerNumber answer ⌝ }
+    ensures result { λ _. ⌜ now (value .exit) ≡ valueAfter answer (now (value .entry)) ⌝ }
+{
+    match answer {
+        Answer::Refused(refusal) => lines::refusal_number(refusal) as u32,
+        Answer::Done => 0,
+        Answer::Value(v) => {
+            *value = v;
+            0
+        }
+    }
+}
+
+// A call on the lent record and tables: refused 13 where there is none, and 1 where the record has not five numbers.
+pub fn perform(
+    info: &mut [u64],
+    flags: &mut [u8],
+    keys: &mut [u64],
+    counts: &mut [u16],
+    pointers: &mut [u32],
+    windows: &mut [u64],
+    contents: &mut [u8],
+    decoding: Decoding,
+    input: &[u8],
+    out: &mut [u8],
+    places: &mut [u16],
+    value: &mut u64,
+) -> u32
+    ensures { λ r. ⌜ Gives (effect (decoding) (now (info .entry)) (card (recordOf (now (info .entry))) (now (flags .entry)) (now (keys .entry)) (now (counts .entry)) (now (pointers .entry)) (now (windows .entry)) (now (contents .entry))) (now (input .entry)) (now (out .entry)) (now (places .entry)) (now (value .entry))) r (now (value .exit)) (now (info .exit)) (card (recordOf (now (info .exit))) (now (flags .exit)) (now (keys .exit)) (now (counts .exit)) (now (pointers .exit)) (now (windows .exit)) (now (contents .exit))) (now (out .exit)) (now (places .exit)) ⌝ }
+{
+    let Decoding::Decoded(port, call) = decoding else {
+        return 13;
+    };
+    if info.len() != 5 {
+        return 1;
+    }
+    let outcome = controller::perform(
+        operands::load(info),
+        flags,
+        keys,
+        counts,
+        pointers,
+        windows,
+        contents,
+        port,
+        call,
+        input,
+        out,
+        places,
+    );
+    let left = outcome.info;
+    let answer = outcome.answer;
+    operands::store(info, left);
+    report(answer, value)
+}
+
+// A call that has no use for a buffer.
+pub fn perform_alone(
+    info: &mut [u64],
+    flags: &mut [u8],
+    keys: &mut [u64],
+    counts: &mut [u16],
+    pointers: &mut [u32],
+    windows: &mut [u64],
+    contents: &mut [u8],
+    decoding: Decoding,
+    value: &mut u64,
+) -> u32
+    ensures { λ r. ⌜ Gives (effect (decoding) (now (info .entry)) (card (recordOf (now (info .entry))) (now (flags .entry)) (now (keys .entry)) (now (counts .entry)) (now (pointers .entry)) (now (windows .entry)) (now (contents .entry))) [] [] [] (now (value .entry))) r (now (value .exit)) (now (info .exit)) (card (recordOf (now (info .exit))) (now (flags .exit)) (now (keys .exit)) (now (counts .exit)) (now (pointers .exit)) (now (windows .exit)) (now (contents .exit))) [] [] ⌝ }
+{
+    let input = [0u8; 0];
+    let mut out = [0u8; 0];
+    let mut places = [0u16; 0];
+    perform(
+        info,
+        flags,
+        keys,
+        counts,
+        pointers,
+        windows,
+        contents,
+        decoding,
+        &input,
+        &mut out,
+        &mut places,
+        value,
+    )
+}
+
+// ---- the bytes of a record
+
+// How many bytes a record has beside its operands: WRITE's 512.
+pub fn data_size(decoding: Decoding) -> usize
+    ensures { λ r. ⌜ r ≡ dataSize decoding ⌝ }
+{
+    let Decoding::Decoded(_, call) = decoding else {
+        return 0;
+    };
+    match call {
+        Call::Read(_) => 0,
+        Call::Write(_) => 512,
+        Call::Alloc(_) => 0,
+        Call::Create(_) => 0,
+        Call::Delete(_) => 0,
+        Call::Key(_) => 0,
+        Call::Renew(_) => 0,
+        Call::Force(_) => 0,
+        Call::Free => 0,
+        Call::Tick(_) => 0,
+        Call::Audit => 0,
+    }
+}
+
+// Where they start: behind 23 bytes of operands.
+pub fn data_from(size: usize) -> usize
+    ensures { λ r. ⌜ r ≡ dataFrom size ⌝ }
+{
+    if size == 512 { 23 } else { 0 }
+}
