@@ -125,12 +125,13 @@ module _ (port : Port) (c : Card) (o : AllocOperands) (places : List ℕ) where
               )
 
   -- What taking the blocks asks.
-  pub ready : SoundCard c → Passes → {want : ℕ} → want ≡ wanted (o .hint) → Ready c (o .reference) want (o .count) × (o .count ≤ length places)
+  pub ready : SoundCard c → Passes → {want : ℕ} → want ≡ wanted (o .hint) → Ready c (o .reference) want (o .count) × ((o .count ≤ length places) × (o .count ≤ 64))
   unfolding plan allocPlan
   ready s h e =
       let front : Bool = eqb (o .count) 0 || ltb 64 (o .count) in
       let hinted : Bool = not (ltb (o .hint) (c .public .info .blocks)) && not (eqb (o .hint) noHint) in
-      let near : hinted ≡ false = or-false-right front hinted (or-false-left (front || hinted) _ (h .0)) in (
+      let both : front || hinted ≡ false = or-false-left (front || hinted) _ (h .0) in
+      let near : hinted ≡ false = or-false-right front hinted both in (
         record {
           sound = s;
           referenceAllocated = not-false _ (h .1 .0);
@@ -140,7 +141,10 @@ module _ (port : Port) (c : Card) (o : AllocOperands) (places : List ℕ) where
           enough = ltb-false _ _ (h .1 .1 .1 .1 .0);
           room = ltb-false _ _ (h .1 .1 .1 .1 .1 .0);
         },
-        ltb-false _ _ (or-false-right (front || hinted) _ (h .0)),
+        (
+          ltb-false _ _ (or-false-right (front || hinted) _ (h .0)),
+          ltb-false _ _ (or-false-right (eqb (o .count) 0) _ (or-false-left front hinted both)),
+        ),
       )
 
   pub took : {after : Card} {left : List ℕ} {want : ℕ} → Passes → want ≡ wanted (o .hint)

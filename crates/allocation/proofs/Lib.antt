@@ -5,5 +5,6 @@ pub mod Creating
 pub mod Deleting
 pub mod Nearest
 pub mod Walking
+pub mod Collecting
 pub mod Taking
 pub mod Allocating

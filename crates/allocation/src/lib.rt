@@ -10,21 +10,21 @@ use card::Port;
 use card::Refusal;
 use card::Verdict;
 ghost use mathlib.Core.Path.{_≡_};
-ghost use mathlib.Core.List.{List, [], _∷_};
+ghost use mathlib.Core.List.{List, []};
 ghost use Prim.Native.Nat.{ℕ, _+_, _*_, _<_, _≤_};
 ghost use lib.ListN.{length, getD};
 ghost use Rattle.card.specs.Pointers.{pointer};
 ghost use Rattle.card.specs.Card.{card, freeBlocks, pointsTo};
 ghost use Rattle.card.specs.SoundnessLaws.{SoundCard};
-ghost use Rattle.card.specs.Plan.{addPointer, dropPointer, freeBlock, withUsed, replaceKeys, change, changes};
+ghost use Rattle.card.specs.Plan.{addPointer, dropPointer, freeBlock, withUsed, replaceKeys, change};
 ghost use Rattle.card.specs.declared.NewKey.the-variants.{Absent};
-ghost use Rattle.card.specs.Calls.{missing, rootAtHost, wanted, picks, takeAll};
+ghost use Rattle.card.specs.Calls.{missing, rootAtHost, wanted, picks};
 ghost use Rattle.card.specs.Promises.{Is};
 ghost use Rattle.card.specs.Session.{request, perform, performSound};
 ghost use Rattle.card.specs.declared.Call.the-variants.{Alloc, Create, Delete};
 ghost use Rattle.card.specs.declared.Info.{Info};
 ghost use Rattle.allocation.specs.Refusals.{refusal};
-ghost use Rattle.allocation.specs.Walk.{Spread, Next, lowAfter, highAfter, CanTake, Ready, Took, badOperands};
+ghost use Rattle.allocation.specs.Walk.{Spread, Next, lowAfter, highAfter, Takeable, Taken, Ready, Took, badOperands};
 ghost use Rattle.tables.specs.InUse.{Sorted, Addable, Removable};
 
 // ---- tests
@@ -185,31 +185,20 @@ fn high_after(high: usize, block: usize) -> usize
     if block < high { high } else { block + 1 }
 }
 
-// An unallocated block is filled with zeros in its own part of the contents, and the reference points to it.
-fn take(
-    info: Info,
-    flags: &mut [u8],
-    keys: &[u64],
-    counts: &mut [u16],
-    pointers: &mut [u32],
-    windows: &[u64],
-    contents: &mut [u8],
-    reference: u16,
-    block: u16,
-) -> Info
-    requires { ⌜ CanTake (card info (now flags) (now keys) (now counts) (now pointers) (now windows) (now contents)) reference block ⌝ }
-    ensures { λ r. ⌜ card r (now (flags .exit)) (now (keys .entry)) (now (counts .exit)) (now (pointers .exit)) (now (windows .entry)) (now (contents .exit)) ≡ changes (card info (now (flags .entry)) (now (keys .entry)) (now (counts .entry)) (now (pointers .entry)) (now (windows .entry)) (now (contents .entry))) (takeAll reference (block ∷ [])) ⌝ }
+// An unallocated block is allocated, counted once more, and filled with zeros in its own part of the contents.
+fn take(bytes: usize, flags: &mut [u8], counts: &mut [u16], contents: &mut [u8], block: usize)
+    requires { ⌜ Takeable bytes (now flags) (now counts) (now contents) block ⌝ }
+    ensures { λ _. ⌜ Taken bytes block (now (flags .entry)) (now (counts .entry)) (now (contents .entry)) (now (flags .exit)) (now (counts .exit)) (now (contents .exit)) ⌝ }
 {
-    let b = block as usize;
-    let bytes = info.bytes;
-    let at = b * bytes;
+    let at = block * bytes;
     let end = at + bytes;
     tables::clear(&mut contents[at..end]);
-    flags[b] = 1;
-    add_pointer(info, counts, pointers, reference, block)
+    flags[block] = 1;
+    counts[block] = counts[block] + 1;
 }
 
-// `count` blocks are taken on one walk outward from the wanted one; their numbers go into the first places.
+// `count` blocks are taken on one walk outward from the wanted one; their numbers go into the first places, and then the
+// reference points to each.
 fn take_all(
     info: Info,
     flags: &mut [u8],
@@ -225,10 +214,13 @@ fn take_all(
 ) -> Info
     requires { ⌜ Ready (card info (now flags) (now keys) (now counts) (now pointers) (now windows) (now contents)) reference want count ⌝ }
     requires { ⌜ count ≤ length (now places) ⌝ }
+    requires { ⌜ count ≤ 64 ⌝ }
     ensures { λ r. ⌜ Took (card info (now (flags .entry)) (now (keys .entry)) (now (counts .entry)) (now (pointers .entry)) (now (windows .entry)) (now (contents .entry))) reference (picks want count (freeBlocks (card info (now (flags .entry)) (now (keys .entry)) (now (counts .entry)) (now (pointers .entry)) (now (windows .entry)) (now (contents .entry)) .public))) (now (places .entry)) (card r (now (flags .exit)) (now (keys .entry)) (now (counts .exit)) (now (pointers .exit)) (now (windows .entry)) (now (contents .exit))) (now (places .exit)) ⌝ }
 {
     let blocks = info.blocks;
-    let mut left = info;
+    let bytes = info.bytes;
+    // The pointers to the blocks taken, ascending.
+    let mut added = [0u32; 64];
     let mut low = want;
     let mut high = want;
     let mut taken = 0;
@@ -238,22 +230,15 @@ fn take_all(
         high = high_after(high, block);
         if flags[block] % 2 != 1 {
             let number = block as u16;
-            left = take(
-                left,
-                flags,
-                keys,
-                counts,
-                pointers,
-                windows,
-                contents,
-                reference,
-                number,
-            );
+            let pointer = (reference as u32) * 65536 + (number as u32);
+            take(bytes, flags, counts, contents, block);
+            tables::insert(&mut added, taken, pointer);
             places[taken] = number;
             taken += 1;
         }
     }
-    left
+    tables::merge(pointers, info.used, &added, count);
+    with_used(info, info.used + count)
 }
 
 // The operands are out of range, or there are fewer places than blocks asked for.
