@@ -1,4 +1,5 @@
-// The one access test: whether a credential opens a block for reading or writing.
+// The tests of a block that calls share: is it there, is it a root at the host port, and the one access test, whether a credential opens it for
+// reading or writing.
 use card::Credential;
 use card::Info;
 use card::Mode;
@@ -12,7 +13,31 @@ ghost use lib.ListN.{length, getD};
 ghost use Rattle.card.specs.declared.Credential.the-variants.{Reference};
 ghost use Rattle.card.specs.Card.{Card, card, keyFlag, windowOpen};
 ghost use Rattle.card.specs.Access.{keyIs, keyOpens, opensPointed, opens, admits};
+ghost use Rattle.card.specs.Calls.{missing, rootAtHost};
 ghost use Rattle.access.specs.Accessible.{Referable, Accessible};
+
+// ---- refusals 3 and 6
+
+// "3": the block is not below N or not allocated.
+pub fn missing(info: Info, flags: &[u8], block: usize) -> bool
+    requires { ⌜ length (now flags) ≡ info .blocks ⌝ }
+    ensures { λ r. ⌜ r ≡ missing (card info (now (flags .entry)) [] [] [] [] [] .public) block ⌝ }
+{
+    if info.blocks <= block {
+        return true;
+    }
+    flags[block] % 2 != 1
+}
+
+// "6": the block is a root and the call is a host's.
+pub fn root_at_host(port: Port, info: Info, block: usize) -> bool
+    ensures { λ r. ⌜ r ≡ rootAtHost port (card info [] [] [] [] [] [] .public) block ⌝ }
+{
+    match port {
+        Port::Host => block < info.roots,
+        Port::Service => false,
+    }
+}
 
 // ---- keys
 

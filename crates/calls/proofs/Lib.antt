@@ -1,8 +1,1 @@
-pub mod Returned
-pub mod Blocks
-pub mod Windows
-pub mod Keys
-pub mod Parts
-pub mod Changed
-pub mod Ticked
-pub mod Fresh
+pub mod Audited

@@ -32,7 +32,7 @@ pub fn perform_sound(
     ensures { λ r. ⌜ Is (performSound port (card info (now (flags .entry)) (now (keys .entry)) (now (counts .entry)) (now (pointers .entry)) (now (windows .entry)) (now (contents .entry))) (request call (now (input .entry)) (now (out .entry)) (now (places .entry)))) (r .answer) (card (r .info) (now (flags .exit)) (now (keys .exit)) (now (counts .exit)) (now (pointers .exit)) (now (windows .exit)) (now (contents .exit))) (now (out .exit)) (now (places .exit)) ⌝ }
 {
     match call {
-        Call::Read(o) => calls::read_sound(
+        Call::Read(o) => transfer::read_sound(
             info,
             flags,
             keys,
@@ -44,7 +44,7 @@ pub fn perform_sound(
             o,
             out,
         ),
-        Call::Write(o) => calls::write_sound(
+        Call::Write(o) => transfer::write_sound(
             info,
             flags,
             keys,
@@ -91,7 +91,7 @@ pub fn perform_sound(
             o,
         ),
         Call::Key(o) => {
-            calls::key_sound(
+            keys::key_sound(
                 info,
                 flags,
                 keys,
@@ -104,13 +104,13 @@ pub fn perform_sound(
             )
         }
         Call::Renew(o) => {
-            calls::renew_sound(info, flags, keys, counts, pointers, windows, contents, o)
+            keys::renew_sound(info, flags, keys, counts, pointers, windows, contents, o)
         }
         Call::Force(o) => {
-            calls::force_sound(info, flags, keys, counts, pointers, windows, contents, o)
+            keys::force_sound(info, flags, keys, counts, pointers, windows, contents, o)
         }
-        Call::Free => calls::free_sound(info, flags, keys, counts, pointers, windows, contents),
-        Call::Tick(o) => calls::tick_sound(
+        Call::Free => status::free_sound(info, flags, keys, counts, pointers, windows, contents),
+        Call::Tick(o) => status::tick_sound(
             info,
             flags,
             keys,

@@ -1,7 +1,7 @@
 -- `calls::audit` is AUDIT on any card.
 -- Assumes nothing.
-use Rattle.calls.proofs.Returned.{when-misshapen, when-unsound, when-sound}
-use Rattle.calls.proofs.Ticked.{audit-done}
+use Rattle.outcomes.proofs.Returned.{when-misshapen, when-unsound, when-sound}
+use Rattle.calls.proofs.Audited.{audit-done}
 use borrow.Author.Needs.{needs}
 use Rattle.calls.proofs.audit.Statement.{statement}
 use Rattle.calls.proofs.audit.Tie as tie

@@ -1,6 +1,6 @@
 -- `calls::key` is KEY on any card.
 -- Assumes nothing.
-use Rattle.calls.proofs.Returned.{when-misshapen, when-unsound, when-sound, found-sound}
+use Rattle.outcomes.proofs.Returned.{when-misshapen, when-unsound, when-sound, found-sound}
 use borrow.Author.Needs.{needs}
 use Rattle.calls.proofs.key.Statement.{statement}
 use Rattle.calls.proofs.key.Tie as tie

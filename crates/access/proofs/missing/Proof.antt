@@ -1,0 +1,18 @@
+-- `access::missing` is the test of the definition.
+-- Assumes nothing.
+use Rattle.access.proofs.Blocks.{missing-above, missing-below}
+use borrow.Author.Needs.{needs}
+use Rattle.access.proofs.missing.Statement.{statement}
+use Rattle.access.proofs.missing.Tie as tie
+
+returns : tie.Need-returns
+returns c = missing-above _ _ (c .if1 .taken)
+
+shared-slice-read-result : tie.Need-shared-slice-read-result
+shared-slice-read-result c = search needs
+
+returns-2 : tie.Need-returns-2
+returns-2 c = missing-below _ _ (c .before .if1 .left)
+
+pub missing-spec : {M : Type 1} → statement M
+missing-spec = tie.close (tie.spec returns shared-slice-read-result returns-2)

@@ -1,0 +1,3 @@
+pub mod Keys
+pub mod Opened
+pub mod Changed

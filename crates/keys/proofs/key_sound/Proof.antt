@@ -1,0 +1,133 @@
+-- `keys::key_sound` is KEY on an audited card.
+-- Assumes nothing.
+use native.Mathlib.Omega.{arith}
+use mathlib.Core.Path.{refl}
+use Rattle.card.specs.declared.Mode.the-variants.{Reading, Writing}
+use Rattle.card.specs.Plan.{outAfter, placesAfter}
+use Rattle.card.specs.PlanLaws.{here, later}
+use Rattle.card.specs.Calls.{keyPlan}
+use Rattle.card.specs.Session.{plan, performSound}
+use Rattle.outcomes.proofs.Returned.{refuses, finishes}
+use Rattle.access.proofs.Blocks.{missing-told, root-told, access-there, closed-told, flag-there, keys-there, windows-there}
+use Rattle.keys.proofs.Keys.{bit-low}
+use Rattle.keys.proofs.Changed.{keyed}
+use borrow.Author.Needs.{needs}
+use Rattle.keys.proofs.key_sound.Statement.{statement}
+use Rattle.keys.proofs.key_sound.Tie as tie
+
+cast-block : tie.Need-cast-block
+cast-block c = search needs
+
+missing-requires : tie.Need-missing-requires
+missing-requires c κs = search needs
+
+refused-requires : tie.Need-refused-requires
+refused-requires c κs = search needs
+
+same-length : tie.Need-same-length
+same-length c = search needs
+
+returns : tie.Need-returns
+unfolding performSound plan keyPlan
+returns c = refuses _ _ _ (c .refused .ensures) (here (missing-told _ _ (c .before .before .missing .ensures) (c .before .if1 .taken)))
+
+root-at-host-requires : tie.Need-root-at-host-requires
+root-at-host-requires c κs = search needs
+
+refused-requires-2 : tie.Need-refused-requires-2
+refused-requires-2 c κs = search needs
+
+same-length-2 : tie.Need-same-length-2
+same-length-2 c = search needs
+
+returns-2 : tie.Need-returns-2
+unfolding performSound plan keyPlan
+returns-2 c = refuses _ _ _ (c .refused2 .ensures) (later (missing-told _ _ (c .before .before .before .before .missing .ensures) (c .before .before .before .if1 .left)) (here (root-told _ _ _ (c .before .before .root-at-host .ensures) (c .before .if2 .taken))))
+
+admits-requires : tie.Need-admits-requires
+admits-requires c κs = access-there _ (c .before .before .before .before .before .before .before .before .before .before .before .before .before .before .before .pre) (c .before .before .before .before .before .before .missing .ensures) (c .before .before .before .before .before .if1 .left)
+
+refused-requires-3 : tie.Need-refused-requires-3
+refused-requires-3 c κs = search needs
+
+same-length-3 : tie.Need-same-length-3
+same-length-3 c = search needs
+
+same-length-4 : tie.Need-same-length-4
+same-length-4 c = search needs
+
+same-length-5 : tie.Need-same-length-5
+same-length-5 c = search needs
+
+returns-3 : tie.Need-returns-3
+unfolding performSound plan keyPlan
+returns-3 c = refuses _ _ _ (c .refused3 .ensures) (later (missing-told _ _ (c .before .before .before .before .before .before .before .before .before .missing .ensures) (c .before .before .before .before .before .before .before .before .if1 .left)) (later (root-told _ _ _ (c .before .before .before .before .before .before .before .root-at-host .ensures) (c .before .before .before .before .before .before .if2 .left)) (here (closed-told _ _ _ _ _ (c .before .before .admits .ensures) (c .before .if3 .taken)))))
+
+key-bit-requires : tie.Need-key-bit-requires
+key-bit-requires c κs = search needs
+
+key-bit-requires-2 : tie.Need-key-bit-requires-2
+key-bit-requires-2 c κs = search needs
+
+add-flags : tie.Need-add-flags
+add-flags c = omega (arith, c .before .key-bit .ensures, bit-low Reading (c .before .before .before .before .before .before .before .before .before .before .before .before .before .before .before .before .before .before .before .args .o .read))
+
+add-flags-2 : tie.Need-add-flags-2
+add-flags-2 c = omega (arith, c .before .key-bit .ensures, c .key-bit2 .ensures, bit-low Reading (c .before .before .before .before .before .before .before .before .before .before .before .before .before .before .before .before .before .before .before .args .o .read), bit-low Writing (c .before .before .before .before .before .before .before .before .before .before .before .before .before .before .before .before .before .before .before .args .o .write))
+
+slice-write-flags : tie.Need-slice-write-flags
+slice-write-flags c = flag-there _ (c .before .before .before .before .before .before .before .before .before .before .before .before .before .before .before .before .before .before .before .pre) (c .before .before .before .before .before .before .before .before .before .before .missing .ensures) (c .before .before .before .before .before .before .before .before .before .if1 .left)
+
+replace-keys-requires : tie.Need-replace-keys-requires
+replace-keys-requires c κs = keys-there _ (c .before .before .before .before .before .before .before .before .before .before .before .before .before .before .before .before .before .before .before .before .pre) (c .before .before .before .before .before .before .before .before .before .before .before .missing .ensures) (c .before .before .before .before .before .before .before .before .before .before .if1 .left)
+
+close-windows-requires : tie.Need-close-windows-requires
+close-windows-requires c κs = windows-there _ (c .before .before .before .before .before .before .before .before .before .before .before .before .before .before .before .before .before .before .before .before .before .before .before .before .pre) (c .before .before .before .before .before .before .before .before .before .before .before .before .before .before .before .missing .ensures) (c .before .before .before .before .before .before .before .before .before .before .before .before .before .before .if1 .left)
+
+done-requires : tie.Need-done-requires
+done-requires c κs = search needs
+
+same-length-6 : tie.Need-same-length-6
+same-length-6 c = search needs
+
+same-length-7 : tie.Need-same-length-7
+same-length-7 c = search needs
+
+same-length-8 : tie.Need-same-length-8
+same-length-8 c = search needs
+
+returns-4 : tie.Need-returns-4
+unfolding performSound plan keyPlan outAfter placesAfter
+returns-4 c = finishes _ _ _ (c .done .ensures) (missing-told _ _ (c .before .before .before .before .before .before .before .before .before .before .before .before .before .before .before .before .before .before .before .missing .ensures) (c .before .before .before .before .before .before .before .before .before .before .before .before .before .before .before .before .before .before .if1 .left), (root-told _ _ _ (c .before .before .before .before .before .before .before .before .before .before .before .before .before .before .before .before .before .root-at-host .ensures) (c .before .before .before .before .before .before .before .before .before .before .before .before .before .before .before .before .if2 .left), (closed-told _ _ _ _ _ (c .before .before .before .before .before .before .before .before .before .before .before .before .admits .ensures) (c .before .before .before .before .before .before .before .before .before .before .before .if3 .left), tt))) (keyed _ _ _ _ (c .before .before .before .before .before .before .before .before .before .before .key-bit .ensures) (c .before .before .before .before .before .before .before .before .before .key-bit2 .ensures) (c .before .before .before .before .before .before .before .replace-keys .ensures) (c .before .before .before .close-windows .ensures)) refl refl
+
+pub key-sound-spec : {M : Type 1} → statement M
+key-sound-spec =
+    tie.close
+    (tie.spec
+    cast-block
+    missing-requires
+    refused-requires
+    same-length
+    returns
+    root-at-host-requires
+    refused-requires-2
+    same-length-2
+    returns-2
+    admits-requires
+    refused-requires-3
+    same-length-3
+    same-length-4
+    same-length-5
+    returns-3
+    key-bit-requires
+    key-bit-requires-2
+    add-flags
+    add-flags-2
+    slice-write-flags
+    replace-keys-requires
+    close-windows-requires
+    done-requires
+    same-length-6
+    same-length-7
+    same-length-8
+    returns-4)

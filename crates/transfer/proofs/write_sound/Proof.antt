@@ -1,0 +1,85 @@
+-- `transfer::write_sound` is WRITE on an audited card.
+-- Assumes nothing.
+use native.Mathlib.Omega.{arith}
+use mathlib.Core.Path.{refl}
+use Rattle.card.specs.Plan.{outAfter, placesAfter}
+use Rattle.card.specs.PlanLaws.{here, later}
+use Rattle.card.specs.Calls.{writePlan}
+use Rattle.card.specs.Session.{plan, performSound}
+use Rattle.outcomes.proofs.Returned.{refuses, finishes}
+use Rattle.access.proofs.Blocks.{missing-told, access-there, closed-told, windows-low}
+use Rattle.transfer.proofs.Parts.{lies, put-block, taken-size}
+use Rattle.transfer.proofs.Written.{written}
+use borrow.Author.Needs.{needs}
+use Rattle.transfer.proofs.write_sound.Statement.{statement}
+use Rattle.transfer.proofs.write_sound.Tie as tie
+
+cast-block : tie.Need-cast-block
+cast-block c = search needs
+
+refused-requires : tie.Need-refused-requires
+refused-requires c κs = search needs
+
+returns : tie.Need-returns
+unfolding performSound plan writePlan
+returns c = refuses _ _ _ (c .refused .ensures) (here (c .before .if1 .taken))
+
+missing-requires : tie.Need-missing-requires
+missing-requires c κs = search needs
+
+refused-requires-2 : tie.Need-refused-requires-2
+refused-requires-2 c κs = search needs
+
+returns-2 : tie.Need-returns-2
+unfolding performSound plan writePlan
+returns-2 c = refuses _ _ _ (c .refused2 .ensures) (later (c .before .before .before .if1 .left) (here (missing-told _ _ (c .before .before .missing .ensures) (c .before .if2 .taken))))
+
+admits-requires : tie.Need-admits-requires
+admits-requires c κs = access-there _ (c .before .before .before .before .before .before .before .before .before .before .before .before .before .pre) (c .before .before .missing .ensures) (c .before .if2 .left)
+
+refused-requires-3 : tie.Need-refused-requires-3
+refused-requires-3 c κs = search needs
+
+same-length : tie.Need-same-length
+same-length c = search needs
+
+returns-3 : tie.Need-returns-3
+unfolding performSound plan writePlan
+returns-3 c = refuses _ _ _ (c .refused3 .ensures) (later (c .before .before .before .before .before .before .if1 .left) (later (missing-told _ _ (c .before .before .before .before .before .missing .ensures) (c .before .before .before .before .if2 .left)) (here (closed-told _ _ _ _ _ (c .before .before .admits .ensures) (c .before .if3 .taken)))))
+
+mul-at : tie.Need-mul-at
+mul-at c = omega (arith, lies _ (c .before .before .before .before .before .before .before .before .before .before .before .before .before .before .before .pre) (c .before .before .before .before .missing .ensures) (c .before .before .before .if2 .left))
+
+add-end : tie.Need-add-end
+add-end c = omega (arith, lies _ (c .before .before .before .before .before .before .before .before .before .before .before .before .before .before .before .pre) (c .before .before .before .before .missing .ensures) (c .before .before .before .if2 .left))
+
+sub-copy : tie.Need-sub-copy
+sub-copy c = search needs
+
+part-copy-start : tie.Need-part-copy-start
+part-copy-start c = search needs
+
+part-copy-end : tie.Need-part-copy-end
+part-copy-end c = omega (arith, lies _ (c .before .before .before .before .before .before .before .before .before .before .before .before .before .before .before .pre) (c .before .before .before .before .missing .ensures) (c .before .before .before .if2 .left))
+
+copy-requires : tie.Need-copy-requires
+copy-requires c κs = taken-size _ (c .before .before .before .before .before .before .before .before .before .before .before .before .before .before .before .before .args .input .now) _ (lies _ (c .before .before .before .before .before .before .before .before .before .before .before .before .before .before .before .before .pre) (c .before .before .before .before .before .missing .ensures) (c .before .before .before .before .if2 .left)) (c .before .before .before .before .before .before .if1 .left)
+
+open-window-requires : tie.Need-open-window-requires
+open-window-requires c κs = windows-low _ (c .before .before .before .before .before .before .before .before .before .before .before .before .before .before .before .before .before .before .before .before .pre) (c .before .before .before .before .before .before .before .before .before .missing .ensures) (c .before .before .before .before .before .before .before .before .if2 .left)
+
+done-requires : tie.Need-done-requires
+done-requires c κs = search needs
+
+same-length-2 : tie.Need-same-length-2
+same-length-2 c = search needs
+
+same-length-3 : tie.Need-same-length-3
+same-length-3 c = search needs
+
+returns-4 : tie.Need-returns-4
+unfolding performSound plan writePlan outAfter placesAfter
+returns-4 c = let a = c .before .before .before .before .before .before .before .before .before .before .before .before .before .before .before .before .before .before .before .before .before .before .before .before .args in finishes _ _ _ (c .done .ensures) (c .before .before .before .before .before .before .before .before .before .before .before .before .before .before .if1 .left, (missing-told _ _ (c .before .before .before .before .before .before .before .before .before .before .before .before .before .missing .ensures) (c .before .before .before .before .before .before .before .before .before .before .before .before .if2 .left), (closed-told _ _ _ _ _ (c .before .before .before .before .before .before .before .before .before .before .admits .ensures) (c .before .before .before .before .before .before .before .before .before .if3 .left), tt))) (written _ _ _ _ (a .input .now) (c .before .before .before .open-window .ensures) (put-block (a .info .bytes) (a .contents .now) (a .o .block) (a .input .now) _ (c .before .before .before .before .before .before .before .copy .ensures) (c .before .before .before .before .before .before .before .before .before .before .before .before .before .before .if1 .left))) refl refl
+
+pub write-sound-spec : {M : Type 1} → statement M
+write-sound-spec = tie.close (tie.spec cast-block refused-requires returns missing-requires refused-requires-2 returns-2 admits-requires refused-requires-3 same-length returns-3 mul-at add-end sub-copy part-copy-start part-copy-end copy-requires open-window-requires done-requires same-length-2 same-length-3 returns-4)
