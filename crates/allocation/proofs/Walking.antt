@@ -24,7 +24,7 @@ use Rattle.card.proofs.Guarantees.Steps.{allocated-set, allocated-other, block-
 use Rattle.card.specs.ChangesLaws.{inserted-length}
 use Rattle.card.proofs.Guarantees.PointerSteps.{no-pointer, takeAdd-sound}
 use Rattle.allocation.specs.Walk.{Spread, Next, lowAfter, highAfter, Takeable, Ready, Took}
-use Rattle.allocation.proofs.Judging.{count-low}
+use Rattle.tables.specs.InUseLaws.{count-low}
 use Rattle.allocation.proofs.Nearest.{picks-nearest, numbers-hold, hold-numbers, numbers-ascend, remove-numbers}
 
 -- ---- the next block
@@ -62,6 +62,25 @@ module _ {want blocks low high : ℕ} (s : Spread want blocks low high) where
         (λ (b : high ≤ y). (omega arith, λ (g : y < high). absurd (omega arith)))
         o;
   }
+
+-- ---- the ends of the walk
+
+module _ (end b : ℕ) where
+  pub low-moves : b < end → b ≡ lowAfter end b
+  unfolding lowAfter
+  low-moves l = rw (lt-ltb b end l)
+
+  pub low-stays : end ≤ b → end ≡ lowAfter end b
+  unfolding lowAfter
+  low-stays l = rw (le-ltb b end l)
+
+  pub high-stays : b < end → end ≡ highAfter end b
+  unfolding highAfter
+  high-stays l = rw (lt-ltb b end l)
+
+  pub high-moves : end ≤ b → b + 1 ≡ highAfter end b
+  unfolding highAfter
+  high-moves l = rw (le-ltb b end l)
 
 -- A block between the new ends is the one passed, or was between the old ones.
 between : {want blocks low high b : ℕ} → Next want blocks low high b → low ≤ high → (y : ℕ) → lowAfter low b ≤ y → y < highAfter high b

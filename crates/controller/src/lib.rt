@@ -68,7 +68,7 @@ pub fn perform_sound(
             o,
             places,
         ),
-        Call::Create(o) => allocation::create_sound(
+        Call::Create(o) => linking::create_sound(
             info,
             flags,
             keys,
@@ -79,7 +79,7 @@ pub fn perform_sound(
             port,
             o,
         ),
-        Call::Delete(o) => allocation::delete_sound(
+        Call::Delete(o) => linking::delete_sound(
             info,
             flags,
             keys,

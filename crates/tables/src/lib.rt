@@ -1,4 +1,5 @@
-// Leaves on the card's tables: copying, clearing, counting, and the sorted pointers.
+// Leaves on the card's record and tables: copying, clearing, counting, and the sorted pointers.
+use card::Info;
 ghost use mathlib.Core.Path.{_≡_};
 ghost use mathlib.Core.Bool.{false};
 ghost use mathlib.Core.List.{_∷_, _++_};
@@ -6,10 +7,26 @@ ghost use Prim.Native.Nat.{_+_, _<_};
 ghost use lib.ListN.{length, take, drop};
 ghost use Rattle.card.specs.Contents.{zeros};
 ghost use Rattle.card.specs.Pointers.{contains, pointsFrom, insert, remove};
+ghost use Rattle.card.specs.Plan.{withUsed};
 ghost use Rattle.tables.specs.Rank.{rank};
 ghost use Rattle.tables.specs.Free.{unallocatedBelow};
 ghost use Rattle.tables.specs.Merge.{insertAll};
 ghost use Rattle.tables.specs.InUse.{Sorted, Addable, Mergeable, Removable};
+
+// ---- the record
+
+// Another number of pointers in use.
+pub fn with_used(info: Info, used: usize) -> Info
+    ensures { λ r. ⌜ r ≡ withUsed info used ⌝ }
+{
+    Info {
+        blocks: info.blocks,
+        roots: info.roots,
+        bytes: info.bytes,
+        used,
+        time: info.time,
+    }
+}
 
 // ---- bytes
 
