@@ -1,78 +1,16 @@
 // The audit: shape and soundness of any record and tables, linear in blocks and places.
 ghost use mathlib.Core.Path.{_≡_};
+ghost use mathlib.Core.Bool.{_&&_};
 ghost use mathlib.Core.List.{[]};
-ghost use Prim.Native.Nat.{_<_, _≤_};
+ghost use Prim.Native.Nat.{_+_, _<_, _≤_};
 ghost use lib.ListN.{length, drop, getD, replicate};
 ghost use lib.Dec.{eqb};
 ghost use Rattle.card.specs.Lists.{all, allBelow};
 ghost use Rattle.card.specs.Card.{card, allocated};
-ghost use Rattle.card.specs.Soundness.{ranges, shape, pointerRight, sound, verdict};
-ghost use Rattle.card.specs.SoundnessLaws.{InRanges};
+ghost use Rattle.card.specs.Soundness.{pointerRight, sound, verdict};
 ghost use Rattle.audit.specs.Walks.{pointing, rowed, blockSound, PointersFit, RowsFit, PointersWalked, judged};
 use card::Info;
 use card::Verdict;
-
-// ---- shape
-
-fn in_ranges(blocks: usize, roots: usize, bytes: usize) -> bool
-    ensures { λ r. ⌜ r ≡ ranges blocks roots bytes ⌝ }
-{
-    // `bytes` is a divisor below.
-    if bytes < 512 {
-        return false;
-    }
-    (16 <= blocks)
-        & (blocks <= 4096)
-        & (1 <= roots)
-        & (roots <= 8)
-        & (512 <= bytes)
-        & (bytes <= 65536)
-        & (65536 % bytes == 0)
-}
-
-fn has_lengths(
-    info: Info,
-    flags: &[u8],
-    keys: &[u64],
-    counts: &[u16],
-    pointers: &[u32],
-    windows: &[u64],
-    contents: &[u8],
-) -> bool
-    requires { ⌜ InRanges (info .blocks) (info .roots) (info .bytes) ⌝ }
-    ensures { λ r. ⌜ r ≡ shape (card info (now (flags .entry)) (now (keys .entry)) (now (counts .entry)) (now (pointers .entry)) (now (windows .entry)) (now (contents .entry))) ⌝ }
-{
-    let blocks = info.blocks;
-    let places = pointers.len();
-    (info.time < 1099511627776)
-        & (flags.len() == blocks)
-        & (keys.len() == 4 * blocks)
-        & (counts.len() == blocks)
-        & (1 <= places)
-        & (places <= 16384)
-        & (windows.len() == 2 * blocks)
-        & (contents.len() == blocks * info.bytes)
-        & (info.used <= places)
-}
-
-// The shape alone, as FORMAT asks it.
-pub fn shaped(
-    info: Info,
-    flags: &[u8],
-    keys: &[u64],
-    counts: &[u16],
-    pointers: &[u32],
-    windows: &[u64],
-    contents: &[u8],
-) -> bool
-    ensures { λ r. ⌜ r ≡ shape (card info (now (flags .entry)) (now (keys .entry)) (now (counts .entry)) (now (pointers .entry)) (now (windows .entry)) (now (contents .entry))) ⌝ }
-{
-    if in_ranges(info.blocks, info.roots, info.bytes) {
-        has_lengths(info, flags, keys, counts, pointers, windows, contents)
-    } else {
-        false
-    }
-}
 
 // ---- pointers
 
@@ -142,6 +80,14 @@ fn walk_unused(pointers: &[u32], used: usize) -> bool
 
 // ---- blocks
 
+// The two words from `at` on are 0.
+fn zero_words(keys: &[u64], at: usize) -> bool
+    requires { ⌜ at + 1 < length (now keys) ⌝ }
+    ensures { λ r. ⌜ r ≡ eqb (getD (now (keys .entry)) at 0) 0 && eqb (getD (now (keys .entry)) (at + 1) 0) 0 ⌝ }
+{
+    (keys[at] == 0) & (keys[at + 1] == 0)
+}
+
 fn block_sound(
     info: Info,
     flags: &[u8],
@@ -161,10 +107,8 @@ fn block_sound(
     let writing = windows[window + 1];
     let root = b < info.roots;
     let held = flag % 2 == 1;
-    let read = 4 * b;
-    let write = 4 * b + 2;
-    let zero_read = (keys[read] == 0) & (keys[read + 1] == 0);
-    let zero_write = (keys[write] == 0) & (keys[write + 1] == 0);
+    let zero_read = zero_words(keys, 4 * b);
+    let zero_write = zero_words(keys, 4 * b + 2);
     let empty = (flag == 0)
         & zero_read
         & zero_write
@@ -246,7 +190,7 @@ pub fn audit(
 ) -> Verdict
     ensures { λ r. ⌜ r ≡ verdict (card info (now (flags .entry)) (now (keys .entry)) (now (counts .entry)) (now (pointers .entry)) (now (windows .entry)) (now (contents .entry))) ⌝ }
 {
-    if shaped(info, flags, keys, counts, pointers, windows, contents) {
+    if shape::shaped(info, flags, keys, counts, pointers, windows, contents) {
         walk(info, flags, keys, counts, pointers, windows)
     } else {
         Verdict::Misshapen

@@ -1,4 +1,4 @@
-// Performs a decoded call at a port: the one place where the calls are told apart.
+// Performs a decoded call at a port: audits the card, refuses 1 or 2, or hands the call on.
 use card::Answer;
 use card::Call;
 use card::Info;
@@ -9,123 +9,8 @@ use card::Verdict;
 ghost use mathlib.Core.Path.{_≡_};
 ghost use Rattle.card.specs.Card.{card};
 ghost use Rattle.card.specs.Soundness.{verdict};
-ghost use Rattle.card.specs.SoundnessLaws.{SoundCard};
 ghost use Rattle.card.specs.Promises.{Is};
-ghost use Rattle.card.specs.Session.{request, perform, performSound};
-
-// A call on a card that has been audited.
-pub fn perform_sound(
-    info: Info,
-    flags: &mut [u8],
-    keys: &mut [u64],
-    counts: &mut [u16],
-    pointers: &mut [u32],
-    windows: &mut [u64],
-    contents: &mut [u8],
-    port: Port,
-    call: Call,
-    input: &[u8],
-    out: &mut [u8],
-    places: &mut [u16],
-) -> Outcome
-    requires { ⌜ SoundCard (card info (now flags) (now keys) (now counts) (now pointers) (now windows) (now contents)) ⌝ }
-    ensures { λ r. ⌜ Is (performSound port (card info (now (flags .entry)) (now (keys .entry)) (now (counts .entry)) (now (pointers .entry)) (now (windows .entry)) (now (contents .entry))) (request call (now (input .entry)) (now (out .entry)) (now (places .entry)))) (r .answer) (card (r .info) (now (flags .exit)) (now (keys .exit)) (now (counts .exit)) (now (pointers .exit)) (now (windows .exit)) (now (contents .exit))) (now (out .exit)) (now (places .exit)) ⌝ }
-{
-    match call {
-        Call::Read(o) => transfer::read_sound(
-            info,
-            flags,
-            keys,
-            counts,
-            pointers,
-            windows,
-            contents,
-            port,
-            o,
-            out,
-        ),
-        Call::Write(o) => transfer::write_sound(
-            info,
-            flags,
-            keys,
-            counts,
-            pointers,
-            windows,
-            contents,
-            port,
-            o,
-            input,
-        ),
-        Call::Alloc(o) => allocation::alloc_sound(
-            info,
-            flags,
-            keys,
-            counts,
-            pointers,
-            windows,
-            contents,
-            port,
-            o,
-            places,
-        ),
-        Call::Create(o) => linking::create_sound(
-            info,
-            flags,
-            keys,
-            counts,
-            pointers,
-            windows,
-            contents,
-            port,
-            o,
-        ),
-        Call::Delete(o) => linking::delete_sound(
-            info,
-            flags,
-            keys,
-            counts,
-            pointers,
-            windows,
-            contents,
-            port,
-            o,
-        ),
-        Call::Key(o) => {
-            keys::key_sound(
-                info,
-                flags,
-                keys,
-                counts,
-                pointers,
-                windows,
-                contents,
-                port,
-                o,
-            )
-        }
-        Call::Renew(o) => {
-            keys::renew_sound(info, flags, keys, counts, pointers, windows, contents, o)
-        }
-        Call::Force(o) => {
-            keys::force_sound(info, flags, keys, counts, pointers, windows, contents, o)
-        }
-        Call::Free => status::free_sound(info, flags, keys, counts, pointers, windows, contents),
-        Call::Tick(o) => status::tick_sound(
-            info,
-            flags,
-            keys,
-            counts,
-            pointers,
-            windows,
-            contents,
-            o,
-        ),
-        Call::Audit => Outcome {
-            answer: Answer::Done,
-            info,
-        },
-    }
-}
+ghost use Rattle.card.specs.Session.{request, perform};
 
 // A call on a card of which the verdict is known.
 pub fn perform_judged(
@@ -155,7 +40,7 @@ pub fn perform_judged(
             answer: Answer::Refused(Refusal::Unsound),
             info,
         },
-        Verdict::Sound => perform_sound(
+        Verdict::Sound => dispatch::perform_sound(
             info,
             flags,
             keys,

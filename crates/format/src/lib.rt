@@ -82,7 +82,7 @@ pub fn format(
         used: 0,
         time: 0,
     };
-    if audit::shaped(fresh, flags, keys, counts, pointers, windows, contents) {
+    if shape::shaped(fresh, flags, keys, counts, pointers, windows, contents) {
         mark_roots(flags, roots);
         clear_words(keys);
         clear_counts(counts);

@@ -14,15 +14,15 @@ use mathlib.Core.Logic.{⊎-elim}
 use Rattle.card.specs.ListsLaws.{not-cases}
 use Rattle.card.specs.declared.Port.{Port}
 use Rattle.card.specs.declared.Call.{Call}
-use Rattle.records.specs.Kinds.{row, lengthOf, dataLength, operandsLength, kindOf, kindLength, bodyLength}
+use Rattle.kinds.specs.Kinds.{row, lengthOf, dataLength, operandsLength, kindOf, kindLength, bodyLength}
 use Rattle.records.specs.Decode.{Next, ended, refused, sent, decodeKnown, decodeBody, nameOf, dataOf, nextOf, decode}
 use Rattle.records.specs.DecodeLaws.{OfKind, decoded-kind}
-use Rattle.records.specs.declared.Name.{Name}
-use Rattle.records.specs.declared.Name.the-variants.{Read as READ, Write as WRITE, Alloc as ALLOC, Create as CREATE, Delete as DELETE, Key as KEY, Renew as RENEW, Force as FORCE, Free as FREE, Tick as TICK, Audit as AUDIT}
-use Rattle.records.specs.declared.Kind.{Kind}
-use Rattle.records.specs.declared.Kind.the-variants.{Known, Unknown}
-use Rattle.records.specs.declared.Length.{Length}
-use Rattle.records.specs.declared.Length.the-variants.{Bytes, Unknown as UnknownLength}
+use Rattle.kinds.specs.declared.Name.{Name}
+use Rattle.kinds.specs.declared.Name.the-variants.{Read as READ, Write as WRITE, Alloc as ALLOC, Create as CREATE, Delete as DELETE, Key as KEY, Renew as RENEW, Force as FORCE, Free as FREE, Tick as TICK, Audit as AUDIT}
+use Rattle.kinds.specs.declared.Kind.{Kind}
+use Rattle.kinds.specs.declared.Kind.the-variants.{Known, Unknown}
+use Rattle.kinds.specs.declared.Length.{Length}
+use Rattle.kinds.specs.declared.Length.the-variants.{Bytes, Unknown as UnknownLength}
 use Rattle.records.specs.declared.Decoding.{Decoding}
 use Rattle.records.specs.declared.Decoding.the-variants.{Decoded, Bad}
 use Rattle.player.specs.Play.{isShort, fault}

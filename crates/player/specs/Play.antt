@@ -11,9 +11,9 @@ use Rattle.card.specs.Session.{request, perform, reply}
 use Rattle.card.specs.declared.Port.{Port}
 use Rattle.card.specs.declared.Call.{Call}
 use Rattle.records.specs.Decode.{Next, ended, refused, sent, decode}
-use Rattle.records.specs.Kinds.{bodyLength}
-use Rattle.records.specs.declared.Length.{Length}
-use Rattle.records.specs.declared.Length.the-variants.{Bytes, Unknown}
+use Rattle.kinds.specs.Kinds.{bodyLength}
+use Rattle.kinds.specs.declared.Length.{Length}
+use Rattle.kinds.specs.declared.Length.the-variants.{Bytes, Unknown}
 use Rattle.lines.specs.Lines.{line, lineRoom, lastLine}
 use Rattle.player.specs.declared.Stop.{Stop}
 use Rattle.player.specs.declared.Stop.the-variants.{Went, Ended, Short, Refused, Full}

@@ -11,7 +11,7 @@ use borrow.Author.Tests.{lt-ltb, le-ltb, ltb-true, ltb-false}
 use Rattle.card.specs.Card.{Card}
 use Rattle.card.specs.ListsLaws.{not-cases}
 use Rattle.records.specs.Decode.{Next, ended, refused, sent, decode}
-use Rattle.records.specs.Kinds.{bodyLength}
+use Rattle.kinds.specs.Kinds.{bodyLength}
 use Rattle.records.specs.DecodeLaws.{decode-shorter}
 use Rattle.lines.specs.Lines.{lineRoom}
 use Rattle.player.specs.Play.{isShort, fault, Turn, halted, turnOf, turn, Play, goOn, playWithin, play}

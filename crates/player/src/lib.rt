@@ -2,8 +2,8 @@
 use card::Call;
 use card::Info;
 use card::Port;
+use kinds::Length;
 use records::Decoding;
-use records::Length;
 ghost use Prim.Native.Nat.{_+_, _≤_, _<_};
 ghost use Rattle.card.specs.Card.{card};
 ghost use Rattle.lines.specs.Lines.{lineRoom};
@@ -61,7 +61,7 @@ fn find(input: &[u8], from: usize) -> Found
     let kind = input[from];
     let start = from + 1;
     let body = &input[start..];
-    let Length::Bytes(length) = records::body_length(kind) else {
+    let Length::Bytes(length) = kinds::body_length(kind) else {
         return Found::Nothing(Stop::Refused);
     };
     if body.len() < length {

@@ -3,41 +3,25 @@
 use Prim.Native.Nat.{ℕ}
 use mathlib.Core.Bool.{cond}
 use mathlib.Core.List.{List, [], _∷_}
-use lib.Dec.{eqb, leb}
+use lib.Dec.{leb}
 use lib.ListN.{length, take, drop, getD}
 use Rattle.card.specs.declared.Port.{Port}
 use Rattle.card.specs.declared.Credential.{Credential}
-use Rattle.card.specs.declared.Credential.the-variants.{Nothing, Reference, Key as KeyCredential}
-use Rattle.card.specs.declared.NewKey.the-variants.{Absent, Present}
 use Rattle.card.specs.declared.Call.{Call}
 use Rattle.card.specs.declared.Call.the-variants.{Read, Write, Alloc, Create, Delete, Key, Renew, Force, Free, Tick, Audit}
-use Rattle.records.specs.Bytes.{number, zeroed}
-use Rattle.records.specs.Kinds.{lengthOf, dataLength, operandsLength, kindOf}
-use Rattle.records.specs.declared.Name.{Name}
-use Rattle.records.specs.declared.Name.the-variants.{Read as READ, Write as WRITE, Alloc as ALLOC, Create as CREATE, Delete as DELETE, Key as KEY, Renew as RENEW, Force as FORCE, Free as FREE, Tick as TICK, Audit as AUDIT}
-use Rattle.records.specs.declared.Kind.{Kind}
-use Rattle.records.specs.declared.Kind.the-variants.{Known, Unknown}
-use Rattle.records.specs.declared.Presented.{Presented}
-use Rattle.records.specs.declared.Presented.the-variants.{Good as Presents, Bad as BadCredential}
-use Rattle.records.specs.declared.Replacing.{Replacing}
-use Rattle.records.specs.declared.Replacing.the-variants.{Good as Replaces, Bad as BadKey}
+use Rattle.fields.specs.Bytes.{number}
+use Rattle.fields.specs.Fields.{credential, newKey}
+use Rattle.kinds.specs.Kinds.{lengthOf, dataLength, operandsLength, kindOf}
+use Rattle.kinds.specs.declared.Name.{Name}
+use Rattle.kinds.specs.declared.Name.the-variants.{Read as READ, Write as WRITE, Alloc as ALLOC, Create as CREATE, Delete as DELETE, Key as KEY, Renew as RENEW, Force as FORCE, Free as FREE, Tick as TICK, Audit as AUDIT}
+use Rattle.kinds.specs.declared.Kind.{Kind}
+use Rattle.kinds.specs.declared.Kind.the-variants.{Known, Unknown}
+use Rattle.fields.specs.declared.Presented.{Presented}
+use Rattle.fields.specs.declared.Presented.the-variants.{Good as Presents, Bad as BadCredential}
+use Rattle.fields.specs.declared.Replacing.{Replacing}
+use Rattle.fields.specs.declared.Replacing.the-variants.{Good as Replaces, Bad as BadKey}
 use Rattle.records.specs.declared.Decoding.{Decoding}
 use Rattle.records.specs.declared.Decoding.the-variants.{Decoded, Bad}
-
--- ---- credentials and new keys
-
--- "0, 1 or 2 (nothing, reference, key), then 16 bytes: zeros; the number and 14 zeros; the key"
-unfoldable pub credential : List ℕ → Presented
-credential xs =
-    cond (eqb (getD xs 0 0) 0) (cond (zeroed 16 (drop 1 xs)) (Presents Nothing) BadCredential)
-    (cond (eqb (getD xs 0 0) 1) (cond (zeroed 14 (drop 3 xs)) (Presents (Reference (number 2 (drop 1 xs)))) BadCredential)
-    (cond (eqb (getD xs 0 0) 2) (Presents (KeyCredential (number 8 (drop 1 xs)) (number 8 (drop 9 xs)))) BadCredential))
-
--- "0 and zeros, or 1 and the key"
-unfoldable pub newKey : List ℕ → Replacing
-newKey xs =
-    cond (eqb (getD xs 0 0) 0) (cond (zeroed 16 (drop 1 xs)) (Replaces Absent) BadKey)
-    (cond (eqb (getD xs 0 0) 1) (Replaces (Present (number 8 (drop 1 xs)) (number 8 (drop 9 xs)))) BadKey)
 
 -- ---- each call's body
 

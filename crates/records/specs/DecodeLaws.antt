@@ -15,17 +15,18 @@ use Rattle.card.specs.declared.Credential.{Credential}
 use Rattle.card.specs.declared.NewKey.{NewKey}
 use Rattle.card.specs.declared.Call.{Call}
 use Rattle.card.specs.declared.Call.the-variants.{Read, Write, Alloc, Create, Delete, Key, Renew, Force, Free, Tick, Audit}
-use Rattle.records.specs.Bytes.{number}
-use Rattle.records.specs.Kinds.{lengthOf, kindOf}
-use Rattle.records.specs.Decode.{credential, newKey, withCredential, createWith, keyWith, decodeCall, decodeKnown, decodeBody, nameOf, sent, nextOf, decode}
-use Rattle.records.specs.declared.Name.{Name}
-use Rattle.records.specs.declared.Name.the-variants.{Read as READ, Write as WRITE, Alloc as ALLOC, Create as CREATE, Delete as DELETE, Key as KEY, Renew as RENEW, Force as FORCE, Free as FREE, Tick as TICK, Audit as AUDIT}
-use Rattle.records.specs.declared.Kind.{Kind}
-use Rattle.records.specs.declared.Kind.the-variants.{Known, Unknown}
-use Rattle.records.specs.declared.Presented.{Presented}
-use Rattle.records.specs.declared.Presented.the-variants.{Good as Presents, Bad as BadCredential}
-use Rattle.records.specs.declared.Replacing.{Replacing}
-use Rattle.records.specs.declared.Replacing.the-variants.{Good as Replaces, Bad as BadKey}
+use Rattle.fields.specs.Bytes.{number}
+use Rattle.kinds.specs.Kinds.{lengthOf, kindOf}
+use Rattle.fields.specs.Fields.{credential, newKey}
+use Rattle.records.specs.Decode.{withCredential, createWith, keyWith, decodeCall, decodeKnown, decodeBody, nameOf, sent, nextOf, decode}
+use Rattle.kinds.specs.declared.Name.{Name}
+use Rattle.kinds.specs.declared.Name.the-variants.{Read as READ, Write as WRITE, Alloc as ALLOC, Create as CREATE, Delete as DELETE, Key as KEY, Renew as RENEW, Force as FORCE, Free as FREE, Tick as TICK, Audit as AUDIT}
+use Rattle.kinds.specs.declared.Kind.{Kind}
+use Rattle.kinds.specs.declared.Kind.the-variants.{Known, Unknown}
+use Rattle.fields.specs.declared.Presented.{Presented}
+use Rattle.fields.specs.declared.Presented.the-variants.{Good as Presents, Bad as BadCredential}
+use Rattle.fields.specs.declared.Replacing.{Replacing}
+use Rattle.fields.specs.declared.Replacing.the-variants.{Good as Replaces, Bad as BadKey}
 use Rattle.records.specs.declared.Decoding.{Decoding}
 use Rattle.records.specs.declared.Decoding.the-variants.{Decoded, Bad}
 

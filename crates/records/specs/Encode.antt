@@ -9,8 +9,8 @@ use Rattle.card.specs.declared.NewKey.{NewKey}
 use Rattle.card.specs.declared.NewKey.the-variants.{Absent, Present}
 use Rattle.card.specs.declared.Call.{Call}
 use Rattle.card.specs.declared.Call.the-variants.{Read, Write, Alloc, Create, Delete, Key, Renew, Force, Free, Tick, Audit}
-use Rattle.records.specs.Bytes.{bytes}
-use Rattle.records.specs.Kinds.{kindNumber}
+use Rattle.fields.specs.Bytes.{bytes}
+use Rattle.kinds.specs.Kinds.{kindNumber}
 use Rattle.records.specs.Decode.{nameOf}
 
 unfoldable pub credentialBytes : Credential → List ℕ

@@ -17,17 +17,18 @@ use Rattle.card.specs.declared.NewKey.{NewKey}
 use Rattle.card.specs.declared.NewKey.the-variants.{Absent, Present}
 use Rattle.card.specs.declared.Call.{Call}
 use Rattle.card.specs.declared.Call.the-variants.{Read, Write, Alloc, Create, Delete, Key, Renew, Force, Free, Tick, Audit}
-use Rattle.records.specs.Bytes.{number, bytes, zeroed}
-use Rattle.records.specs.BytesLaws.{length-bytes, number-bytes}
-use Rattle.records.specs.Kinds.{row, names, kindNumber, lengthOf, dataLength, operandsLength, hasKind, among, kindOf}
-use Rattle.records.specs.Decode.{credential, newKey, decodeCall, nameOf, dataOf, sent, nextOf, decode}
+use Rattle.fields.specs.Bytes.{number, bytes, zeroed}
+use Rattle.fields.specs.BytesLaws.{length-bytes, number-bytes}
+use Rattle.kinds.specs.Kinds.{row, names, kindNumber, lengthOf, dataLength, operandsLength, hasKind, among, kindOf}
+use Rattle.fields.specs.Fields.{credential, newKey}
+use Rattle.records.specs.Decode.{decodeCall, nameOf, dataOf, sent, nextOf, decode}
 use Rattle.records.specs.DecodeLaws as laws
 use Rattle.records.specs.Encode.{credentialBytes, newKeyBytes, body, encode, Fits, FitsCredential, FitsNewKey, FitsCall}
-use Rattle.records.specs.declared.Name.{Name}
-use Rattle.records.specs.declared.Name.the-variants.{Read as READ, Write as WRITE, Alloc as ALLOC, Create as CREATE, Delete as DELETE, Key as KEY, Renew as RENEW, Force as FORCE, Free as FREE, Tick as TICK, Audit as AUDIT}
-use Rattle.records.specs.declared.Kind.the-variants.{Known}
-use Rattle.records.specs.declared.Presented.the-variants.{Good as Presents}
-use Rattle.records.specs.declared.Replacing.the-variants.{Good as Replaces}
+use Rattle.kinds.specs.declared.Name.{Name}
+use Rattle.kinds.specs.declared.Name.the-variants.{Read as READ, Write as WRITE, Alloc as ALLOC, Create as CREATE, Delete as DELETE, Key as KEY, Renew as RENEW, Force as FORCE, Free as FREE, Tick as TICK, Audit as AUDIT}
+use Rattle.kinds.specs.declared.Kind.the-variants.{Known}
+use Rattle.fields.specs.declared.Presented.the-variants.{Good as Presents}
+use Rattle.fields.specs.declared.Replacing.the-variants.{Good as Replaces}
 use Rattle.records.specs.declared.Decoding.the-variants.{Decoded}
 
 -- ---- a list that is n elements, then others

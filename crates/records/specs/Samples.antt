@@ -8,9 +8,10 @@ use Rattle.card.specs.declared.Port.the-variants.{Host, Service}
 use Rattle.card.specs.declared.Credential.the-variants.{Nothing, Reference, Key as KeyCredential}
 use Rattle.card.specs.declared.NewKey.the-variants.{Absent, Present}
 use Rattle.card.specs.declared.Call.the-variants.{Read, Alloc, Create, Key, Renew, Free, Tick}
-use Rattle.records.specs.Bytes.{number, zeroed}
-use Rattle.records.specs.Kinds.{row, dataLength, names, kindNumber, lengthOf, operandsLength, among, kindOf}
-use Rattle.records.specs.Decode.{credential, newKey, withCredential, createWith, keyWith, decodeCall, decodeKnown, decodeBody, nameOf, dataOf, Next, ended, refused, sent, nextOf, decode}
+use Rattle.fields.specs.Bytes.{number, zeroed}
+use Rattle.kinds.specs.Kinds.{row, dataLength, names, kindNumber, lengthOf, operandsLength, among, kindOf}
+use Rattle.fields.specs.Fields.{credential, newKey}
+use Rattle.records.specs.Decode.{withCredential, createWith, keyWith, decodeCall, decodeKnown, decodeBody, nameOf, dataOf, Next, ended, refused, sent, nextOf, decode}
 
 infix 20 _gives_
 -- An input, and what it starts with.

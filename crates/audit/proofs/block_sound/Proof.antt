@@ -32,50 +32,26 @@ mul-writing c = search needs
 shared-slice-read-writing : tie.Need-shared-slice-read-writing
 shared-slice-read-writing c = search needs
 
-mul-read : tie.Need-mul-read
-mul-read c = search needs
+mul-zero-words : tie.Need-mul-zero-words
+mul-zero-words c = search needs
 
-mul-write : tie.Need-mul-write
-mul-write c = search needs
+zero-words-requires : tie.Need-zero-words-requires
+zero-words-requires c κs = search needs
 
-add-write : tie.Need-add-write
-add-write c = search needs
+mul-zero-words-2 : tie.Need-mul-zero-words-2
+mul-zero-words-2 c = search needs
 
-mul-zero-read : tie.Need-mul-zero-read
-mul-zero-read c = search needs
+add-zero-words : tie.Need-add-zero-words
+add-zero-words c = search needs
 
-shared-slice-read-zero-read : tie.Need-shared-slice-read-zero-read
-shared-slice-read-zero-read c = search needs
-
-add-zero-read : tie.Need-add-zero-read
-add-zero-read c = search needs
-
-mul-zero-read-2 : tie.Need-mul-zero-read-2
-mul-zero-read-2 c = search needs
-
-shared-slice-read-zero-read-2 : tie.Need-shared-slice-read-zero-read-2
-shared-slice-read-zero-read-2 c = search needs
-
-mul-zero-write : tie.Need-mul-zero-write
-mul-zero-write c = search needs
-
-shared-slice-read-zero-write : tie.Need-shared-slice-read-zero-write
-shared-slice-read-zero-write c = search needs
-
-add-zero-write : tie.Need-add-zero-write
-add-zero-write c = search needs
-
-mul-zero-write-2 : tie.Need-mul-zero-write-2
-mul-zero-write-2 c = search needs
-
-shared-slice-read-zero-write-2 : tie.Need-shared-slice-read-zero-write-2
-shared-slice-read-zero-write-2 c = search needs
+zero-words-requires-2 : tie.Need-zero-words-requires-2
+zero-words-requires-2 c κs = search needs
 
 add-latest : tie.Need-add-latest
 add-latest c = search needs
 
 returns : tie.Need-returns
-returns c = let a = c .before .before .before .before .before .before .before .before .before .before .args in sound-block (rowed (a .info) (a .flags .now) (a .keys .now) (a .counts .now) (a .windows .now)) (a .tallied) (a .b)
+returns c = let a = c .before .before .before .before .before .before .before .before .before .before .before .before .args in sound-block (rowed (a .info) (a .flags .now) (a .keys .now) (a .counts .now) (a .windows .now)) (a .tallied) (a .b) (c .before .before .zero-words .ensures) (c .before .zero-words2 .ensures)
 
 pub block-sound-spec : {M : Type 1} → statement M
 block-sound-spec =
@@ -90,18 +66,10 @@ block-sound-spec =
     add-writing
     mul-writing
     shared-slice-read-writing
-    mul-read
-    mul-write
-    add-write
-    mul-zero-read
-    shared-slice-read-zero-read
-    add-zero-read
-    mul-zero-read-2
-    shared-slice-read-zero-read-2
-    mul-zero-write
-    shared-slice-read-zero-write
-    add-zero-write
-    mul-zero-write-2
-    shared-slice-read-zero-write-2
+    mul-zero-words
+    zero-words-requires
+    mul-zero-words-2
+    add-zero-words
+    zero-words-requires-2
     add-latest
     returns)

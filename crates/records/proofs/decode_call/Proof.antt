@@ -2,7 +2,7 @@
 -- Assumes nothing.
 use borrow.Author.Needs.{needs}
 use Rattle.records.specs.DecodeLaws.{by-name, room, free, audit}
-use Rattle.records.proofs.Table.{table}
+use Rattle.kinds.proofs.Table.{table}
 use Rattle.records.proofs.decode_call.Statement.{statement}
 use Rattle.records.proofs.decode_call.Tie as tie
 

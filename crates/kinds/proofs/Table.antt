@@ -1,0 +1,63 @@
+-- Laws of the table of kinds: what the arms of a match on it cite.
+-- Assumes nothing.
+use Prim.Native.Nat.{ℕ}
+use mathlib.Core.Path.{_≡_, sym, ap}
+use mathlib.Core.List.{List, [], _∷_}
+use borrow.Author.Tests.{ne-eqb}
+use Rattle.kinds.specs.Kinds.{row, names, kindNumber, lengthOf, among, kindOf, kindLength, bodyLength}
+use Rattle.kinds.specs.declared.Name.{Name}
+use Rattle.kinds.specs.declared.Kind.{Kind}
+use Rattle.kinds.specs.declared.Kind.the-variants.{Known, Unknown}
+use Rattle.kinds.specs.declared.Length.the-variants.{Bytes, Unknown as UnknownLength}
+use Rattle.card.specs.declared.Port.{Port}
+
+-- To compute by the table, a proof unfolds this one name.
+unfoldable pub table : Unit {0}
+unfolding row names kindNumber lengthOf among kindOf
+table = tt
+
+pub at-kind : {k n : ℕ} → k ≡ n → kindOf n ≡ kindOf k
+at-kind e = ap kindOf (sym e)
+
+pub at-name : {a b : Name} → a ≡ b → lengthOf b ≡ lengthOf a
+at-name e = ap lengthOf (sym e)
+
+-- The number is none of the list, the last first.
+abbrev pub Apart : ℕ → List ℕ → Type 0
+Apart k [] = Unit {0}
+Apart k (n ∷ ns) = Apart k ns × (k ≡ n → ⊥)
+
+pub unknown : (k : ℕ) → Apart k (134 ∷ 133 ∷ 132 ∷ 131 ∷ 130 ∷ 129 ∷ 11 ∷ 10 ∷ 9 ∷ 8 ∷ 7 ∷ 6 ∷ 5 ∷ 4 ∷ 3 ∷ 2 ∷ 1 ∷ []) → Unknown ≡ kindOf k
+unfolding table
+unknown k h =
+    rw (
+      ne-eqb k 1 (h .0 .0 .0 .0 .0 .0 .0 .0 .0 .0 .0 .0 .0 .0 .0 .0 .1),
+      ne-eqb k 2 (h .0 .0 .0 .0 .0 .0 .0 .0 .0 .0 .0 .0 .0 .0 .0 .1),
+      ne-eqb k 3 (h .0 .0 .0 .0 .0 .0 .0 .0 .0 .0 .0 .0 .0 .0 .1),
+      ne-eqb k 4 (h .0 .0 .0 .0 .0 .0 .0 .0 .0 .0 .0 .0 .0 .1),
+      ne-eqb k 5 (h .0 .0 .0 .0 .0 .0 .0 .0 .0 .0 .0 .0 .1),
+      ne-eqb k 6 (h .0 .0 .0 .0 .0 .0 .0 .0 .0 .0 .0 .1),
+      ne-eqb k 7 (h .0 .0 .0 .0 .0 .0 .0 .0 .0 .0 .1),
+      ne-eqb k 8 (h .0 .0 .0 .0 .0 .0 .0 .0 .0 .1),
+      ne-eqb k 9 (h .0 .0 .0 .0 .0 .0 .0 .0 .1),
+      ne-eqb k 10 (h .0 .0 .0 .0 .0 .0 .0 .1),
+      ne-eqb k 11 (h .0 .0 .0 .0 .0 .0 .1),
+      ne-eqb k 129 (h .0 .0 .0 .0 .0 .1),
+      ne-eqb k 130 (h .0 .0 .0 .0 .1),
+      ne-eqb k 131 (h .0 .0 .0 .1),
+      ne-eqb k 132 (h .0 .0 .1),
+      ne-eqb k 133 (h .0 .1),
+      ne-eqb k 134 (h .1),
+    )
+
+-- ---- the length of a kind's body
+
+pub known-length : (k : ℕ) {l : ℕ} {r : Kind} {port : Port} {name : Name}
+    → r ≡ kindOf k → r ≡ Known port name → l ≡ lengthOf name
+    → Bytes l ≡ bodyLength k
+unfolding bodyLength kindLength
+known-length k e q h = rw (← e, q, h)
+
+pub unknown-length : (k : ℕ) {r : Kind} → r ≡ kindOf k → r ≡ Unknown → UnknownLength ≡ bodyLength k
+unfolding bodyLength kindLength
+unknown-length k e q = rw (← e, q)

@@ -1,0 +1,83 @@
+-- Document 01, "Call records and the player": the kinds of records, and the lengths of their bodies.
+use Prim.Native.Nat.{ℕ, _+_, _-_}
+use mathlib.Core.Bool.{Bool, cond}
+use mathlib.Core.List.{List, [], _∷_, map}
+use lib.Dec.{eqb}
+use Rattle.card.specs.Pointers.{contains}
+use Rattle.card.specs.declared.Port.{Port}
+use Rattle.card.specs.declared.Port.the-variants.{Host, Service}
+use Rattle.kinds.specs.declared.Name.{Name}
+use Rattle.kinds.specs.declared.Name.the-variants.{Read as READ, Write as WRITE, Alloc as ALLOC, Create as CREATE, Delete as DELETE, Key as KEY, Renew as RENEW, Force as FORCE, Free as FREE, Tick as TICK, Audit as AUDIT}
+use Rattle.kinds.specs.declared.Kind.{Kind}
+use Rattle.kinds.specs.declared.Kind.the-variants.{Known, Unknown}
+use Rattle.kinds.specs.declared.Length.{Length}
+use Rattle.kinds.specs.declared.Length.the-variants.{Bytes, Unknown as UnknownLength}
+
+infix 20 _body_payload_
+-- A kind at the host port, the length of its body, and how many of its bytes, the last, are data.
+pub data Row : Type 0 where
+  _body_payload_ : ℕ → ℕ → ℕ → Row
+
+-- The one table of the calls.
+unfoldable pub row : Name → Row
+row READ = 1 body 23 payload 0
+row WRITE = 2 body 535 payload 512
+row ALLOC = 3 body 22 payload 0
+row CREATE = 4 body 38 payload 0
+row DELETE = 5 body 21 payload 0
+row KEY = 6 body 53 payload 0
+row RENEW = 7 body 23 payload 0
+row FORCE = 8 body 2 payload 0
+row FREE = 9 body 0 payload 0
+row TICK = 10 body 8 payload 0
+row AUDIT = 11 body 0 payload 0
+
+-- The calls that have a kind at each port.
+unfoldable pub names : Port → List Name
+names Host = READ ∷ WRITE ∷ ALLOC ∷ CREATE ∷ DELETE ∷ KEY ∷ RENEW ∷ FORCE ∷ FREE ∷ TICK ∷ AUDIT ∷ []
+names Service = READ ∷ WRITE ∷ ALLOC ∷ CREATE ∷ DELETE ∷ KEY ∷ []
+
+-- Document 01, "Kinds 129 to 134 are 1 to 6 at the service port."
+abbrev pub kindAt : Port → Row → ℕ
+kindAt Host (kind body length payload extra) = kind
+kindAt Service (kind body length payload extra) = 128 + kind
+
+abbrev pub rowLength : Row → ℕ
+rowLength (kind body length payload extra) = length
+
+abbrev pub rowPayload : Row → ℕ
+rowPayload (kind body length payload extra) = extra
+
+unfoldable pub kindNumber : Port → Name → ℕ
+kindNumber port name = kindAt port (row name)
+
+unfoldable pub lengthOf : Name → ℕ
+lengthOf name = rowLength (row name)
+
+unfoldable pub dataLength : Name → ℕ
+dataLength name = rowPayload (row name)
+
+-- The length of a call's operands, which come first in its body.
+unfoldable pub operandsLength : Name → ℕ
+operandsLength name = lengthOf name - dataLength name
+
+-- The call has a kind at the port.
+unfoldable pub hasKind : Port → Name → Bool
+hasKind port name = contains (kindNumber port name) (map (kindNumber port) (names port))
+
+-- The call among those of a port whose kind is the number, or else another answer.
+unfoldable pub among : ℕ → Port → List Name → Kind → Kind
+among kind port [] other = other
+among kind port (name ∷ rest) other = cond (eqb kind (kindNumber port name)) (Known port name) (among kind port rest other)
+
+-- What a byte of kind says: the port and the call.
+unfoldable pub kindOf : ℕ → Kind
+kindOf kind = among kind Host (names Host) (among kind Service (names Service) Unknown)
+
+unfoldable pub kindLength : Kind → Length
+kindLength (Known port name) = Bytes (lengthOf name)
+kindLength Unknown = UnknownLength
+
+-- The length of a kind's body, where there is such a kind.
+unfoldable pub bodyLength : ℕ → Length
+bodyLength kind = kindLength (kindOf kind)

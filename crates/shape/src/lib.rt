@@ -1,0 +1,66 @@
+// The shape of a record and tables: ranges and lengths.
+use card::Info;
+ghost use mathlib.Core.Path.{_≡_};
+ghost use Rattle.card.specs.Card.{card};
+ghost use Rattle.card.specs.Soundness.{ranges, shape};
+ghost use Rattle.card.specs.SoundnessLaws.{InRanges};
+
+fn in_ranges(blocks: usize, roots: usize, bytes: usize) -> bool
+    ensures { λ r. ⌜ r ≡ ranges blocks roots bytes ⌝ }
+{
+    // `bytes` is a divisor below.
+    if bytes < 512 {
+        return false;
+    }
+    (16 <= blocks)
+        & (blocks <= 4096)
+        & (1 <= roots)
+        & (roots <= 8)
+        & (512 <= bytes)
+        & (bytes <= 65536)
+        & (65536 % bytes == 0)
+}
+
+fn has_lengths(
+    info: Info,
+    flags: &[u8],
+    keys: &[u64],
+    counts: &[u16],
+    pointers: &[u32],
+    windows: &[u64],
+    contents: &[u8],
+) -> bool
+    requires { ⌜ InRanges (info .blocks) (info .roots) (info .bytes) ⌝ }
+    ensures { λ r. ⌜ r ≡ shape (card info (now (flags .entry)) (now (keys .entry)) (now (counts .entry)) (now (pointers .entry)) (now (windows .entry)) (now (contents .entry))) ⌝ }
+{
+    let blocks = info.blocks;
+    let places = pointers.len();
+    (info.time < 1099511627776)
+        & (flags.len() == blocks)
+        & (keys.len() == 4 * blocks)
+        & (counts.len() == blocks)
+        & (1 <= places)
+        & (places <= 16384)
+        & (windows.len() == 2 * blocks)
+        & (contents.len() == blocks * info.bytes)
+        & (info.used <= places)
+}
+
+// The shape alone, as FORMAT asks it.
+pub fn shaped(
+    info: Info,
+    flags: &[u8],
+    keys: &[u64],
+    counts: &[u16],
+    pointers: &[u32],
+    windows: &[u64],
+    contents: &[u8],
+) -> bool
+    ensures { λ r. ⌜ r ≡ shape (card info (now (flags .entry)) (now (keys .entry)) (now (counts .entry)) (now (pointers .entry)) (now (windows .entry)) (now (contents .entry))) ⌝ }
+{
+    if in_ranges(info.blocks, info.roots, info.bytes) {
+        has_lengths(info, flags, keys, counts, pointers, windows, contents)
+    } else {
+        false
+    }
+}
