@@ -5,7 +5,6 @@ use card::Mode;
 use card::Outcome;
 use card::Port;
 use card::Refusal;
-use card::Verdict;
 use checks::Checked;
 ghost use mathlib.Core.Path.{_≡_};
 ghost use mathlib.Core.List.{[]};
@@ -15,7 +14,7 @@ ghost use Rattle.card.specs.Card.{card, freeBlocks};
 ghost use Rattle.card.specs.SoundnessLaws.{SoundCard};
 ghost use Rattle.card.specs.Calls.{wanted, picks};
 ghost use Rattle.card.specs.Promises.{Is};
-ghost use Rattle.card.specs.Session.{request, perform, performSound};
+ghost use Rattle.card.specs.Session.{request, performSound};
 ghost use Rattle.card.specs.declared.Call.the-variants.{Alloc};
 ghost use Rattle.checks.specs.Checked.{checked};
 ghost use Rattle.allocation.specs.Walk.{Spread, Next, lowAfter, highAfter, Takeable, Taken, Ready, Took, badOperands};
@@ -223,38 +222,5 @@ pub fn alloc_sound(
             );
             outcomes::done(left)
         }
-    }
-}
-
-// ALLOC on any card.
-pub fn alloc(
-    info: Info,
-    flags: &mut [u8],
-    keys: &[u64],
-    counts: &mut [u16],
-    pointers: &mut [u32],
-    windows: &[u64],
-    contents: &mut [u8],
-    port: Port,
-    o: AllocOperands,
-    places: &mut [u16],
-) -> Outcome
-    ensures { λ r. ⌜ Is (perform port (card info (now (flags .entry)) (now (keys .entry)) (now (counts .entry)) (now (pointers .entry)) (now (windows .entry)) (now (contents .entry))) (request (Alloc o) [] [] (now (places .entry)))) (r .answer) (card (r .info) (now (flags .exit)) (now (keys .entry)) (now (counts .exit)) (now (pointers .exit)) (now (windows .entry)) (now (contents .exit))) [] (now (places .exit)) ⌝ }
-{
-    match audit::audit(info, flags, keys, counts, pointers, windows, contents) {
-        Verdict::Misshapen => outcomes::refused(info, Refusal::Misshapen),
-        Verdict::Unsound => outcomes::refused(info, Refusal::Unsound),
-        Verdict::Sound => alloc_sound(
-            info,
-            flags,
-            keys,
-            counts,
-            pointers,
-            windows,
-            contents,
-            port,
-            o,
-            places,
-        ),
     }
 }

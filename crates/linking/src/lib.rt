@@ -7,7 +7,6 @@ use card::Mode;
 use card::Outcome;
 use card::Port;
 use card::Refusal;
-use card::Verdict;
 use checks::Checked;
 ghost use mathlib.Core.Path.{_≡_};
 ghost use mathlib.Core.List.{List, []};
@@ -19,7 +18,7 @@ ghost use Rattle.card.specs.SoundnessLaws.{SoundCard};
 ghost use Rattle.card.specs.Plan.{addPointer, dropPointer, freeBlock, replaceKeys, change};
 ghost use Rattle.card.specs.declared.NewKey.the-variants.{Absent};
 ghost use Rattle.card.specs.Promises.{Is};
-ghost use Rattle.card.specs.Session.{request, perform, performSound};
+ghost use Rattle.card.specs.Session.{request, performSound};
 ghost use Rattle.card.specs.declared.Call.the-variants.{Create, Delete};
 ghost use Rattle.card.specs.declared.Info.{Info};
 ghost use Rattle.checks.specs.Checked.{checked};
@@ -205,37 +204,6 @@ pub fn create_sound(
     }
 }
 
-// CREATE on any card.
-pub fn create(
-    info: Info,
-    flags: &[u8],
-    keys: &[u64],
-    counts: &mut [u16],
-    pointers: &mut [u32],
-    windows: &[u64],
-    contents: &[u8],
-    port: Port,
-    o: CreateOperands,
-) -> Outcome
-    ensures { λ r. ⌜ Is (perform port (card info (now (flags .entry)) (now (keys .entry)) (now (counts .entry)) (now (pointers .entry)) (now (windows .entry)) (now (contents .entry))) (request (Create o) [] [] [])) (r .answer) (card (r .info) (now (flags .entry)) (now (keys .entry)) (now (counts .exit)) (now (pointers .exit)) (now (windows .entry)) (now (contents .entry))) [] [] ⌝ }
-{
-    match audit::audit(info, flags, keys, counts, pointers, windows, contents) {
-        Verdict::Misshapen => outcomes::refused(info, Refusal::Misshapen),
-        Verdict::Unsound => outcomes::refused(info, Refusal::Unsound),
-        Verdict::Sound => create_sound(
-            info,
-            flags,
-            keys,
-            counts,
-            pointers,
-            windows,
-            contents,
-            port,
-            o,
-        ),
-    }
-}
-
 // ---- DELETE
 
 // The checks of DELETE.
@@ -332,36 +300,5 @@ pub fn delete_sound(
                 info: left,
             }
         }
-    }
-}
-
-// DELETE on any card.
-pub fn delete(
-    info: Info,
-    flags: &mut [u8],
-    keys: &mut [u64],
-    counts: &mut [u16],
-    pointers: &mut [u32],
-    windows: &mut [u64],
-    contents: &[u8],
-    port: Port,
-    o: DeleteOperands,
-) -> Outcome
-    ensures { λ r. ⌜ Is (perform port (card info (now (flags .entry)) (now (keys .entry)) (now (counts .entry)) (now (pointers .entry)) (now (windows .entry)) (now (contents .entry))) (request (Delete o) [] [] [])) (r .answer) (card (r .info) (now (flags .exit)) (now (keys .exit)) (now (counts .exit)) (now (pointers .exit)) (now (windows .exit)) (now (contents .entry))) [] [] ⌝ }
-{
-    match audit::audit(info, flags, keys, counts, pointers, windows, contents) {
-        Verdict::Misshapen => outcomes::refused(info, Refusal::Misshapen),
-        Verdict::Unsound => outcomes::refused(info, Refusal::Unsound),
-        Verdict::Sound => delete_sound(
-            info,
-            flags,
-            keys,
-            counts,
-            pointers,
-            windows,
-            contents,
-            port,
-            o,
-        ),
     }
 }
