@@ -10,14 +10,18 @@ use lib.Dec.{eqb, ltb}
 use lib.ListN.{length}
 use borrow.Author.Tests.{lt-ltb, le-ltb, eq-eqb, ne-eqb, ltb-true, ltb-false, not-false}
 use Rattle.card.specs.ListsLaws.{or-false-left, or-false-right, and-true, absurd-test, not-cases}
-use Rattle.card.specs.Card.{Card, freeBlocks}
+use Rattle.card.specs.Card.{Card, card, freeBlocks}
 use Rattle.card.specs.SoundnessLaws.{SoundCard}
+use Rattle.card.specs.Access.{admits}
 use Rattle.card.specs.Plan.{outAfter, placesAfter}
 use Rattle.card.specs.PlanLaws.{FirstHolds, here, later, NoneHolds}
-use Rattle.card.specs.Calls.{noHint, wanted, picks, allocPlan}
-use Rattle.card.specs.Promises.{Is, is-done}
+use Rattle.card.specs.Calls.{missing, rootAtHost, noHint, wanted, picks, allocPlan}
+use Rattle.card.specs.Promises.{Is}
 use Rattle.card.specs.Session.{Request, request, plan, performSound}
+use Rattle.card.specs.declared.Info.{Info}
+use Rattle.card.specs.declared.Outcome.{Outcome}
 use Rattle.card.specs.declared.Port.{Port}
+use Rattle.card.specs.declared.Mode.the-variants.{Writing}
 use Rattle.card.specs.declared.Call.the-variants.{Alloc}
 use Rattle.card.specs.declared.AllocOperands.{AllocOperands}
 use Rattle.card.specs.declared.Refusal.{Refusal}
@@ -26,7 +30,10 @@ use Rattle.card.specs.declared.Answer.the-variants.{Done}
 use Rattle.tables.specs.Free.{unallocatedBelow}
 use Rattle.tables.specs.FreeLaws.{unallocated-free}
 use Rattle.allocation.specs.Walk.{Ready, Took, badOperands}
-use Rattle.allocation.proofs.Judging.{told, told-not, Missing, RootAtHost, Admits, missing-whole, root-whole, admits-whole}
+use Rattle.outcomes.specs.Outcomes.{outcome}
+use Rattle.outcomes.proofs.Returned.{finishes}
+use Rattle.access.specs.Accessible.{bare}
+use Rattle.access.proofs.Blocks.{flagged, missing-told, root-told, closed-told}
 
 -- The wanted block, where a hint is none or a block's number.
 pub wanted-none : {hint : ℕ} → hint ≡ noHint → 0 ≡ wanted hint
@@ -63,25 +70,25 @@ module _ (port : Port) (c : Card) (o : AllocOperands) (places : List ℕ) where
   module _ {t1 : Bool} (e1 : t1 ≡ badOperands (c .public .info .blocks) (o .hint) (o .count) (length places)) where
     pub bad-operand : t1 ≡ true → Refuses BadOperand
     unfolding plan allocPlan
-    bad-operand h = here (told e1 h)
+    bad-operand h = here (sym e1 ∙ h)
 
-    module _ (h1 : t1 ≡ false) {t2 : Bool} (e2 : Missing c t2 (o .reference)) where
+    module _ (h1 : t1 ≡ false) {t2 : Bool} (e2 : t2 ≡ missing (flagged (c .public)) (o .reference)) where
       pub reference-missing : t2 ≡ true → Refuses NotAllocated
       unfolding plan allocPlan
-      reference-missing h = later (told e1 h1) (here (told (missing-whole c _ e2) h))
+      reference-missing h = later (sym e1 ∙ h1) (here (missing-told (c .public) _ e2 h))
 
-      module _ (h2 : t2 ≡ false) {t3 : Bool} (e3 : RootAtHost c t3 port (o .reference)) where
+      module _ (h2 : t2 ≡ false) {t3 : Bool} (e3 : t3 ≡ rootAtHost port (card (c .public .info) [] [] [] [] [] [] .public) (o .reference)) where
         pub root-reference : t3 ≡ true → Refuses IsRoot
         unfolding plan allocPlan
-        root-reference h = later (told e1 h1) (later (told (missing-whole c _ e2) h2) (here (told (root-whole c port _ e3) h)))
+        root-reference h = later (sym e1 ∙ h1) (later (missing-told (c .public) _ e2 h2) (here (root-told port (c .public) _ e3 h)))
 
-        module _ (h3 : t3 ≡ false) {t4 : Bool} (e4 : Admits c t4 port (o .reference) (o .credential)) where
+        module _ (h3 : t3 ≡ false) {t4 : Bool} (e4 : t4 ≡ admits port (bare c) Writing (o .reference) (o .credential)) where
           pub reference-shut : not t4 ≡ true → Refuses NotOpened
           unfolding plan allocPlan
           reference-shut h =
-              later (told e1 h1) (later (told (missing-whole c _ e2) h2)
-              (later (told (root-whole c port _ e3) h3)
-              (here (told-not (admits-whole c port _ _ e4) h))))
+              later (sym e1 ∙ h1) (later (missing-told (c .public) _ e2 h2)
+              (later (root-told port (c .public) _ e3 h3)
+              (here (closed-told port c Writing _ _ e4 h))))
 
           module _ (h4 : not t4 ≡ false) (s : SoundCard c) {n : ℕ} (e5 : n ≡ length (unallocatedBelow (c .public .flags) (length (c .public .flags)))) where
             free-counted : n ≡ length (freeBlocks (c .public))
@@ -90,31 +97,31 @@ module _ (port : Port) (c : Card) (o : AllocOperands) (places : List ℕ) where
             pub too-few-blocks : n < o .count → Refuses TooFewBlocks
             unfolding plan allocPlan
             too-few-blocks h =
-                later (told e1 h1) (later (told (missing-whole c _ e2) h2)
-                (later (told (root-whole c port _ e3) h3)
-                (later (told-not (admits-whole c port _ _ e4) h4)
+                later (sym e1 ∙ h1) (later (missing-told (c .public) _ e2 h2)
+                (later (root-told port (c .public) _ e3 h3)
+                (later (closed-told port c Writing _ _ e4 h4)
                 (here (lt-ltb (length (freeBlocks (c .public))) (o .count) (omega (arith, free-counted)))))))
 
             module _ (h5 : o .count ≤ n) where
               pub too-few-places : length (c .public .pointers) < c .public .info .used + o .count → Refuses TooFewPlaces
               unfolding plan allocPlan
               too-few-places h =
-                  later (told e1 h1) (later (told (missing-whole c _ e2) h2)
-                  (later (told (root-whole c port _ e3) h3)
-                  (later (told-not (admits-whole c port _ _ e4) h4)
+                  later (sym e1 ∙ h1) (later (missing-told (c .public) _ e2 h2)
+                  (later (root-told port (c .public) _ e3 h3)
+                  (later (closed-told port c Writing _ _ e4 h4)
                   (later (le-ltb (length (freeBlocks (c .public))) (o .count) (omega (arith, free-counted)))
                   (here (lt-ltb _ _ h))))))
 
               pub passes : c .public .info .used + o .count ≤ length (c .public .pointers) → Passes
               unfolding plan allocPlan
               passes h = (
-                told e1 h1,
+                sym e1 ∙ h1,
                 (
-                  told (missing-whole c _ e2) h2,
+                  missing-told (c .public) _ e2 h2,
                   (
-                    told (root-whole c port _ e3) h3,
+                    root-told port (c .public) _ e3 h3,
                     (
-                      told-not (admits-whole c port _ _ e4) h4,
+                      closed-told port c Writing _ _ e4 h4,
                       (
                         le-ltb (length (freeBlocks (c .public))) (o .count) (omega (arith, free-counted)),
                         (le-ltb _ _ h, tt),
@@ -125,12 +132,13 @@ module _ (port : Port) (c : Card) (o : AllocOperands) (places : List ℕ) where
               )
 
   -- What taking the blocks asks.
-  pub ready : SoundCard c → Passes → {want : ℕ} → want ≡ wanted (o .hint) → Ready c (o .reference) want (o .count) × (o .count ≤ length places)
+  pub ready : SoundCard c → Passes → {want : ℕ} → want ≡ wanted (o .hint) → Ready c (o .reference) want (o .count) × ((o .count ≤ length places) × (o .count ≤ 64))
   unfolding plan allocPlan
   ready s h e =
       let front : Bool = eqb (o .count) 0 || ltb 64 (o .count) in
       let hinted : Bool = not (ltb (o .hint) (c .public .info .blocks)) && not (eqb (o .hint) noHint) in
-      let near : hinted ≡ false = or-false-right front hinted (or-false-left (front || hinted) _ (h .0)) in (
+      let both : front || hinted ≡ false = or-false-left (front || hinted) _ (h .0) in
+      let near : hinted ≡ false = or-false-right front hinted both in (
         record {
           sound = s;
           referenceAllocated = not-false _ (h .1 .0);
@@ -140,13 +148,18 @@ module _ (port : Port) (c : Card) (o : AllocOperands) (places : List ℕ) where
           enough = ltb-false _ _ (h .1 .1 .1 .1 .0);
           room = ltb-false _ _ (h .1 .1 .1 .1 .1 .0);
         },
-        ltb-false _ _ (or-false-right (front || hinted) _ (h .0)),
+        (
+          ltb-false _ _ (or-false-right (front || hinted) _ (h .0)),
+          ltb-false _ _ (or-false-right (eqb (o .count) 0) _ (or-false-left front hinted both)),
+        ),
       )
 
-  pub took : {after : Card} {left : List ℕ} {want : ℕ} → Passes → want ≡ wanted (o .hint)
-      → Took c (o .reference) (picks want (o .count) (freeBlocks (c .public))) places after left → Is (performSound port c asked) Done after [] left
+  pub took : {r : Outcome} {info : Info} {flags counts pointers contents left : List ℕ} {want : ℕ} → Passes → want ≡ wanted (o .hint) → r ≡ outcome Done info
+      → Took c (o .reference) (picks want (o .count) (freeBlocks (c .public))) places (card info flags (c .keys) counts pointers (c .public .windows) contents) left
+      → Is (performSound port c asked) (r .answer) (card (r .info) flags (c .keys) counts pointers (c .public .windows) contents) [] left
   unfolding performSound plan allocPlan outAfter placesAfter
-  took {after} {left} h e t =
+  took {info = info} {flags} {counts} {pointers} {contents} {left} h e f t =
+      let after = card info flags (c .keys) counts pointers (c .public .windows) contents in
       let right : Took c (o .reference) (picks (wanted (o .hint)) (o .count) (freeBlocks (c .public))) places after left =
       subst (λ (n : ℕ). Took c (o .reference) (picks n (o .count) (freeBlocks (c .public))) places after left) e t in
-      is-done c (asked .lent) (plan port c (asked .call) (asked .lent)) h (right .leaves) refl (right .shows)
+      finishes c (asked .lent) (plan port c (asked .call) (asked .lent)) f h (right .leaves) refl (right .shows)

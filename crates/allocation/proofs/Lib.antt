@@ -1,9 +1,5 @@
-pub mod Tests
-pub mod Changes
-pub mod Judging
-pub mod Creating
-pub mod Deleting
 pub mod Nearest
 pub mod Walking
+pub mod Collecting
 pub mod Taking
 pub mod Allocating

@@ -16,14 +16,15 @@ use Rattle.card.specs.ListsLaws.{or-left, absurd-test, false-unless, below-or-n
 use Rattle.card.specs.Pointers.{pointer, contains, remove}
 use Rattle.card.specs.PointersLaws.{remove-length}
 use Rattle.card.specs.Contents.{overwrite}
-use Rattle.card.specs.Card.{Public, Card, flag, allocatedFlag, allocated, freeBlocks}
+use Rattle.card.specs.Card.{Public, Card, flag, allocatedFlag, allocated, freeBlocks, pointsTo}
 use Rattle.card.specs.SoundnessLaws.{SoundCard, flag-allocated, allocated-flag}
 use Rattle.card.specs.Plan.{Change, takeBlock, addPointer, withFlags, changePublic, change, changes}
 use Rattle.card.specs.Calls.{picks, takeAll}
-use Rattle.card.proofs.Guarantees.Steps.{allocated-set, allocated-other}
+use Rattle.card.proofs.Guarantees.Steps.{allocated-set, allocated-other, block-within}
 use Rattle.card.specs.ChangesLaws.{inserted-length}
-use Rattle.card.proofs.Guarantees.PointerSteps.{takeAdd-sound}
-use Rattle.allocation.specs.Walk.{Spread, Next, lowAfter, highAfter, CanTake, Ready, Took}
+use Rattle.card.proofs.Guarantees.PointerSteps.{no-pointer, takeAdd-sound}
+use Rattle.allocation.specs.Walk.{Spread, Next, lowAfter, highAfter, Takeable, Ready, Took}
+use Rattle.tables.specs.InUseLaws.{count-low}
 use Rattle.allocation.proofs.Nearest.{picks-nearest, numbers-hold, hold-numbers, numbers-ascend, remove-numbers}
 
 -- ---- the next block
@@ -61,6 +62,25 @@ module _ {want blocks low high : ℕ} (s : Spread want blocks low high) where
         (λ (b : high ≤ y). (omega arith, λ (g : y < high). absurd (omega arith)))
         o;
   }
+
+-- ---- the ends of the walk
+
+module _ (end b : ℕ) where
+  pub low-moves : b < end → b ≡ lowAfter end b
+  unfolding lowAfter
+  low-moves l = rw (lt-ltb b end l)
+
+  pub low-stays : end ≤ b → end ≡ lowAfter end b
+  unfolding lowAfter
+  low-stays l = rw (le-ltb b end l)
+
+  pub high-stays : b < end → end ≡ highAfter end b
+  unfolding highAfter
+  high-stays l = rw (lt-ltb b end l)
+
+  pub high-moves : end ≤ b → b + 1 ≡ highAfter end b
+  unfolding highAfter
+  high-moves l = rw (le-ltb b end l)
 
 -- A block between the new ends is the one passed, or was between the old ones.
 between : {want blocks low high b : ℕ} → Next want blocks low high b → low ≤ high → (y : ℕ) → lowAfter low b ≤ y → y < highAfter high b
@@ -183,7 +203,6 @@ pub record Walked (c₀ : Card) (reference want count : ℕ) (places₀ : List �
   pub shows : places ≡ overwrite places₀ 0 numbers
   pub sameBlocks : c .public .info .blocks ≡ c₀ .public .info .blocks
   pub sameBytes : c .public .info .bytes ≡ c₀ .public .info .bytes
-  pub sameSlots : length (c .public .pointers) ≡ length (c₀ .public .pointers)
   pub samePlaces : length places ≡ length places₀
   pub fits : count ≤ length places₀
 
@@ -210,7 +229,6 @@ walked-start {c₀} {reference} {want} {count} places₀ r f =
       shows = refl;
       sameBlocks = refl;
       sameBytes = refl;
-      sameSlots = refl;
       samePlaces = refl;
       fits = f;
     }
@@ -268,7 +286,6 @@ module _ {c₀ : Card} {reference want count : ℕ} {places₀ : List ℕ} {c : 
           shows = w .shows;
           sameBlocks = w .sameBlocks;
           sameBytes = w .sameBytes;
-          sameSlots = w .sameSlots;
           samePlaces = w .samePlaces;
           fits = w .fits;
         }
@@ -281,14 +298,21 @@ module _ {c₀ : Card} {reference want count : ℕ} {places₀ : List ℕ} {c : 
       even : allocatedFlag (flag (c .public) b) ≡ false
       even = ne-eqb _ _ odd
 
-      pub can-take : CanTake c reference b
-      can-take = record {
-        sound = w .ready .sound;
-        referenceAllocated = w .ready .referenceAllocated;
-        below = here .below;
-        free = even;
-        room = omega (arith, w .ready .room);
-      }
+      room : c .public .info .used < length (c .public .pointers)
+      room = omega (arith, w .ready .room)
+
+      pub takeable : Takeable (c .public .info .bytes) (c .public .flags) (c .public .counts) (c .contents) b
+      takeable =
+          let s = w .ready .sound in
+          record {
+            inFlags = omega (arith, here .below, s .shaped .hasLengths .flags);
+            inCounts = omega (arith, here .below, s .shaped .hasLengths .counts);
+            countLow = omega (arith, count-low s b (here .below), s .shaped .usedHigh, s .shaped .hasLengths .placesHigh);
+            inContents = block-within c b (s .shaped .hasLengths .contents) (here .below);
+          }
+
+      pub unpointed : pointsTo (c .public) reference b ≡ false
+      unpointed = no-pointer reference b (w .ready .sound) (here .below) even
 
       unallocated : allocated (c .public) b ≡ false
       unallocated = false-unless _ (λ a. absurd-test (allocated-flag (c .public) b a) even)
@@ -302,7 +326,7 @@ module _ {c₀ : Card} {reference want count : ℕ} {places₀ : List ℕ} {c : 
           let inFlags : b < length (p .flags) = omega (arith, here .below, w .ready .sound .shaped .hasLengths .flags) in
           let left : remove b (freeBlocks p) ≡ freeBlocks (withFlags p (set (p .flags) b 1)) = free-without p b (here .below) inFlags unallocated in
           let one : count - taken ≡ suc (count - (taken + 1)) = omega arith in
-          let place : p .info .used < length (p .pointers) = can-take .room in
+          let place : p .info .used < length (p .pointers) = room in
           record {
             ready = record {
               sound = takeAdd-sound reference b (w .ready .sound) (w .ready .referenceAllocated) (here .below) even place;
@@ -342,7 +366,6 @@ module _ {c₀ : Card} {reference want count : ℕ} {places₀ : List ℕ} {c : 
                 ∙ overwrite-more places₀ (w .numbers) b (omega (arith, w .long, w .fits));
             sameBlocks = w .sameBlocks;
             sameBytes = w .sameBytes;
-            sameSlots = inserted-length (pointer reference b) (p .info .used) (p .pointers) (omega arith) place ∙ w .sameSlots;
             samePlaces = length-set places taken b ∙ w .samePlaces;
             fits = w .fits;
           }

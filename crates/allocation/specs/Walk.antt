@@ -1,13 +1,13 @@
 -- What the functions of ALLOC's outward walk ask and give.
-use Prim.Native.Nat.{ℕ, _+_, _≤_, _<_}
+use Prim.Native.Nat.{ℕ, _+_, _*_, _≤_, _<_}
 use mathlib.Core.Path.{_≡_}
 use mathlib.Core.Logic.{_⊎_}
-use mathlib.Core.Bool.{Bool, true, false, _&&_, _||_, not, cond}
+use mathlib.Core.Bool.{Bool, true, _&&_, _||_, not, cond}
 use mathlib.Core.List.{List}
 use lib.Dec.{eqb, ltb}
-use lib.ListN.{length}
-use Rattle.card.specs.Contents.{overwrite}
-use Rattle.card.specs.Card.{Card, flag, allocatedFlag, allocated, freeBlocks}
+use lib.ListN.{length, getD, set}
+use Rattle.card.specs.Contents.{overwrite, fill, zeros}
+use Rattle.card.specs.Card.{Card, allocated, freeBlocks}
 use Rattle.card.specs.SoundnessLaws.{SoundCard}
 use Rattle.card.specs.Plan.{changes}
 use Rattle.card.specs.Calls.{noHint, distance, takeAll}
@@ -36,15 +36,20 @@ highAfter high b = cond (ltb b high) high (b + 1)
 
 -- ---- blocks taken
 
--- One unallocated block can be taken and pointed to.
-pub record CanTake (c : Card) (reference b : ℕ) : Type 0 where
-  pub sound : SoundCard c
-  pub referenceAllocated : allocated (c .public) reference ≡ true
-  pub below : b < c .public .info .blocks
-  pub free : allocatedFlag (flag (c .public) b) ≡ false
-  pub room : c .public .info .used < length (c .public .pointers)
+-- One block lies within the tables, and can be counted once more.
+pub record Takeable (bytes : ℕ) (flags counts contents : List ℕ) (b : ℕ) : Type 0 where
+  pub inFlags : b < length flags
+  pub inCounts : b < length counts
+  pub countLow : getD counts b 0 < 65535
+  pub inContents : b * bytes + bytes ≤ length contents
 
--- So many can, from the wanted one outward.
+-- What taking it leaves of these tables.
+pub record Taken (bytes b : ℕ) (flags counts contents flagsAfter countsAfter contentsAfter : List ℕ) : Type 0 where
+  pub allocates : flagsAfter ≡ set flags b 1
+  pub counted : countsAfter ≡ set counts b (getD counts b 0 + 1)
+  pub zeroes : contentsAfter ≡ fill bytes contents b (zeros bytes)
+
+-- So many blocks can be taken and pointed to, from the wanted one outward.
 pub record Ready (c : Card) (reference want count : ℕ) : Type 0 where
   pub sound : SoundCard c
   pub referenceAllocated : allocated (c .public) reference ≡ true

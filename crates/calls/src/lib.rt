@@ -1,6 +1,9 @@
-// The calls that move no pointer, on any record and tables: each audits them, refuses 1 or 2, or hands on to its inner function, `.._sound`,
+// The calls on any record and tables: each audits them, refuses 1 or 2, or hands on to its inner function, `.._sound`,
 // which is for a card that has been audited.
+use card::AllocOperands;
 use card::Call;
+use card::CreateOperands;
+use card::DeleteOperands;
 use card::ForceOperands;
 use card::Info;
 use card::KeyOperands;
@@ -81,6 +84,101 @@ pub fn write(
             port,
             o,
             input,
+        ),
+    }
+}
+
+// "ALLOC(ref, credential, hint, count, out)"
+pub fn alloc(
+    info: Info,
+    flags: &mut [u8],
+    keys: &[u64],
+    counts: &mut [u16],
+    pointers: &mut [u32],
+    windows: &[u64],
+    contents: &mut [u8],
+    port: Port,
+    o: AllocOperands,
+    places: &mut [u16],
+) -> Outcome
+    ensures { λ r. ⌜ Is (perform port (card info (now (flags .entry)) (now (keys .entry)) (now (counts .entry)) (now (pointers .entry)) (now (windows .entry)) (now (contents .entry))) (request (Call.Alloc o) [] [] (now (places .entry)))) (r .answer) (card (r .info) (now (flags .exit)) (now (keys .entry)) (now (counts .exit)) (now (pointers .exit)) (now (windows .entry)) (now (contents .exit))) [] (now (places .exit)) ⌝ }
+{
+    match audit::audit(info, flags, keys, counts, pointers, windows, contents) {
+        Verdict::Misshapen => outcomes::refused(info, Refusal::Misshapen),
+        Verdict::Unsound => outcomes::refused(info, Refusal::Unsound),
+        Verdict::Sound => allocation::alloc_sound(
+            info,
+            flags,
+            keys,
+            counts,
+            pointers,
+            windows,
+            contents,
+            port,
+            o,
+            places,
+        ),
+    }
+}
+
+// "CREATE(src, credential, dest, credential)"
+pub fn create(
+    info: Info,
+    flags: &[u8],
+    keys: &[u64],
+    counts: &mut [u16],
+    pointers: &mut [u32],
+    windows: &[u64],
+    contents: &[u8],
+    port: Port,
+    o: CreateOperands,
+) -> Outcome
+    ensures { λ r. ⌜ Is (perform port (card info (now (flags .entry)) (now (keys .entry)) (now (counts .entry)) (now (pointers .entry)) (now (windows .entry)) (now (contents .entry))) (request (Call.Create o) [] [] [])) (r .answer) (card (r .info) (now (flags .entry)) (now (keys .entry)) (now (counts .exit)) (now (pointers .exit)) (now (windows .entry)) (now (contents .entry))) [] [] ⌝ }
+{
+    match audit::audit(info, flags, keys, counts, pointers, windows, contents) {
+        Verdict::Misshapen => outcomes::refused(info, Refusal::Misshapen),
+        Verdict::Unsound => outcomes::refused(info, Refusal::Unsound),
+        Verdict::Sound => linking::create_sound(
+            info,
+            flags,
+            keys,
+            counts,
+            pointers,
+            windows,
+            contents,
+            port,
+            o,
+        ),
+    }
+}
+
+// "DELETE(src, credential, dest)"
+pub fn delete(
+    info: Info,
+    flags: &mut [u8],
+    keys: &mut [u64],
+    counts: &mut [u16],
+    pointers: &mut [u32],
+    windows: &mut [u64],
+    contents: &[u8],
+    port: Port,
+    o: DeleteOperands,
+) -> Outcome
+    ensures { λ r. ⌜ Is (perform port (card info (now (flags .entry)) (now (keys .entry)) (now (counts .entry)) (now (pointers .entry)) (now (windows .entry)) (now (contents .entry))) (request (Call.Delete o) [] [] [])) (r .answer) (card (r .info) (now (flags .exit)) (now (keys .exit)) (now (counts .exit)) (now (pointers .exit)) (now (windows .exit)) (now (contents .entry))) [] [] ⌝ }
+{
+    match audit::audit(info, flags, keys, counts, pointers, windows, contents) {
+        Verdict::Misshapen => outcomes::refused(info, Refusal::Misshapen),
+        Verdict::Unsound => outcomes::refused(info, Refusal::Unsound),
+        Verdict::Sound => linking::delete_sound(
+            info,
+            flags,
+            keys,
+            counts,
+            pointers,
+            windows,
+            contents,
+            port,
+            o,
         ),
     }
 }

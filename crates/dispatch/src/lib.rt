@@ -64,7 +64,7 @@ pub fn perform_sound(
             o,
             places,
         ),
-        Call::Create(o) => allocation::create_sound(
+        Call::Create(o) => linking::create_sound(
             info,
             flags,
             keys,
@@ -75,7 +75,7 @@ pub fn perform_sound(
             port,
             o,
         ),
-        Call::Delete(o) => allocation::delete_sound(
+        Call::Delete(o) => linking::delete_sound(
             info,
             flags,
             keys,

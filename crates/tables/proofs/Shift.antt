@@ -17,7 +17,7 @@ use Rattle.tables.specs.InUse.{Addable, Removable}
 
 -- ---- upwards
 
-set-behind : (xs tail : List ℕ) (i v : ℕ) → i < length xs → set (take (suc i) xs ++ tail) i v ≡ take i xs ++ (v ∷ tail)
+pub set-behind : (xs tail : List ℕ) (i v : ℕ) → i < length xs → set (take (suc i) xs ++ tail) i v ≡ take i xs ++ (v ∷ tail)
 set-behind [] tail i v l = absurd (not-suc-le-zero l)
 set-behind (x ∷ xs) tail zero v l = refl
 set-behind (x ∷ xs) tail (suc i) v l = ap (λ (t : List ℕ). x ∷ t) (set-behind xs tail i v (le-of-suc-le-suc l))

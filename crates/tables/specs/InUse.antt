@@ -1,5 +1,5 @@
 -- What a function on the pointers in use asks of the table.
-use Prim.Native.Nat.{ℕ, _≤_, _<_}
+use Prim.Native.Nat.{ℕ, _+_, _≤_, _<_}
 use mathlib.Core.Path.{_≡_}
 use mathlib.Core.Bool.{true, false}
 use mathlib.Core.List.{List}
@@ -16,6 +16,12 @@ pub record Addable (pointers : List ℕ) (used w : ℕ) : Type 0 where
   pub sorted : Sorted pointers used
   pub room : used < length pointers
   pub absent : contains w (take used pointers) ≡ false
+
+-- There is room for so many more, which ascend.
+pub record Mergeable (pointers : List ℕ) (used : ℕ) (added : List ℕ) (count : ℕ) : Type 0 where
+  pub sorted : Sorted pointers used
+  pub addedSorted : Sorted added count
+  pub room : used + count ≤ length pointers
 
 -- The pointer is in use.
 pub record Removable (pointers : List ℕ) (used w : ℕ) : Type 0 where

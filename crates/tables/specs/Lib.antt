@@ -4,3 +4,5 @@ pub mod InUse
 pub mod InUseLaws
 pub mod Free
 pub mod FreeLaws
+pub mod Merge
+pub mod MergeLaws

@@ -1,4 +1,5 @@
-// Leaves on the card's tables: copying, clearing, counting, and the sorted pointers.
+// Leaves on the card's record and tables: copying, clearing, counting, and the sorted pointers.
+use card::Info;
 ghost use mathlib.Core.Path.{_≡_};
 ghost use mathlib.Core.Bool.{false};
 ghost use mathlib.Core.List.{_∷_, _++_};
@@ -6,9 +7,26 @@ ghost use Prim.Native.Nat.{_+_, _<_};
 ghost use lib.ListN.{length, take, drop};
 ghost use Rattle.card.specs.Contents.{zeros};
 ghost use Rattle.card.specs.Pointers.{contains, pointsFrom, insert, remove};
+ghost use Rattle.card.specs.Plan.{withUsed};
 ghost use Rattle.tables.specs.Rank.{rank};
 ghost use Rattle.tables.specs.Free.{unallocatedBelow};
-ghost use Rattle.tables.specs.InUse.{Sorted, Addable, Removable};
+ghost use Rattle.tables.specs.Merge.{insertAll};
+ghost use Rattle.tables.specs.InUse.{Sorted, Addable, Mergeable, Removable};
+
+// ---- the record
+
+// Another number of pointers in use.
+pub fn with_used(info: Info, used: usize) -> Info
+    ensures { λ r. ⌜ r ≡ withUsed info used ⌝ }
+{
+    Info {
+        blocks: info.blocks,
+        roots: info.roots,
+        bytes: info.bytes,
+        used,
+        time: info.time,
+    }
+}
 
 // ---- bytes
 
@@ -111,6 +129,27 @@ pub fn insert(pointers: &mut [u32], used: usize, wanted: u32)
         i -= 1;
     }
     pointers[at] = wanted;
+}
+
+// The first `count` of the added pointers are put into their places, the highest first, so that each pointer in use moves at most once.
+pub fn merge(pointers: &mut [u32], used: usize, added: &[u32], count: usize)
+    requires { ⌜ Mergeable (now pointers) used (now added) count ⌝ }
+    ensures { λ _. ⌜ now (pointers .exit) ≡ insertAll (take count (now (added .entry))) (take used (now (pointers .entry))) ++ drop (used + count) (now (pointers .entry)) ⌝ }
+{
+    // The pointers that are not yet in their last place.
+    let mut old = used;
+    let mut new = count;
+    while 0 < new {
+        let last = added[new - 1];
+        let at = old + new - 1;
+        if (0 < old) && (last < pointers[old - 1]) {
+            pointers[at] = pointers[old - 1];
+            old -= 1;
+        } else {
+            pointers[at] = last;
+            new -= 1;
+        }
+    }
 }
 
 // A pointer in use is taken away, those behind it move down by one, and the last place becomes 0.

@@ -1,34 +1,46 @@
--- `allocation::take` is the changes of the card that take one block.
+-- `allocation::take` leaves the tables with one block more taken.
 -- Assumes nothing.
 use native.Mathlib.Omega.{arith}
-use Rattle.allocation.proofs.Taking.{block-inside, addable, taken}
+use Rattle.allocation.proofs.Taking.{taken}
 use borrow.Author.Needs.{needs}
 use Rattle.allocation.proofs.take.Statement.{statement}
 use Rattle.allocation.proofs.take.Tie as tie
 
 mul-at : tie.Need-mul-at
-mul-at c = omega (arith, block-inside (c .before .before .before .before .before .before .pre))
+mul-at c = omega (arith, c .before .before .before .pre .inContents)
 
 add-end : tie.Need-add-end
-add-end c = omega (arith, block-inside (c .before .before .before .before .before .before .pre))
+add-end c = omega (arith, c .before .before .before .pre .inContents)
 
 sub-clear : tie.Need-sub-clear
-sub-clear c = search needs
+sub-clear c = omega arith
 
 part-clear-start : tie.Need-part-clear-start
-part-clear-start c = search needs
+part-clear-start c = omega arith
 
 part-clear-end : tie.Need-part-clear-end
-part-clear-end c = omega (arith, block-inside (c .before .before .before .before .before .before .pre))
+part-clear-end c = omega (arith, c .before .before .before .pre .inContents)
 
 clear-requires : tie.Need-clear-requires
-clear-requires c κs = search needs
+clear-requires c κs = tt
 
 slice-write-flags : tie.Need-slice-write-flags
-slice-write-flags c = search needs
+slice-write-flags c = c .before .before .before .before .before .before .before .pre .inFlags
 
-add-pointer-requires : tie.Need-add-pointer-requires
-add-pointer-requires c κs = addable (c .before .before .before .before .before .before .before .before .before .before .before .before .pre)
+mul-counts : tie.Need-mul-counts
+mul-counts c = omega arith
+
+slice-read-counts : tie.Need-slice-read-counts
+slice-read-counts c = c .before .before .before .before .before .before .before .before .pre .inCounts
+
+add-counts : tie.Need-add-counts
+add-counts c = omega (arith, c .before .before .before .before .before .before .before .before .pre .countLow)
+
+mul-counts-2 : tie.Need-mul-counts-2
+mul-counts-2 c = omega arith
+
+slice-write-counts : tie.Need-slice-write-counts
+slice-write-counts c = c .before .before .before .before .before .before .before .before .pre .inCounts
 
 same-length : tie.Need-same-length
 same-length c = search needs
@@ -39,11 +51,8 @@ same-length-2 c = search needs
 same-length-3 : tie.Need-same-length-3
 same-length-3 c = search needs
 
-same-length-4 : tie.Need-same-length-4
-same-length-4 c = search needs
-
 returns : tie.Need-returns
-returns c = taken (c .before .before .before .before .before .before .before .before .before .before .before .before .before .before .before .before .before .pre) (c .before .before .before .before .before .before .before .before .before .clear .ensures) (c .before .before .before .before .add-pointer .ensures _ _ _ _)
+returns c = taken (c .before .before .before .before .before .before .before .before .pre) (c .before .before .before .clear .ensures)
 
 pub take-spec : {M : Type 1} → statement M
 take-spec =
@@ -56,9 +65,12 @@ take-spec =
     part-clear-end
     clear-requires
     slice-write-flags
-    add-pointer-requires
+    mul-counts
+    slice-read-counts
+    add-counts
+    mul-counts-2
+    slice-write-counts
     same-length
     same-length-2
     same-length-3
-    same-length-4
     returns)

@@ -1,80 +1,108 @@
 -- `allocation::take_all` takes the picks: the walk so far has taken the first of them. The measure is what is left to pass.
 -- Assumes nothing.
 use Prim.Native.Nat.{_+_, _-_}
+use mathlib.Core.Path.{refl, sym}
 use native.Mathlib.Omega.{arith}
 use Rattle.card.specs.Card.{card}
-use Rattle.allocation.proofs.Walking.{Walked, ready-low, walked-start, walked-spread, next-below, next-narrow, walked-fewer, walked-passed, can-take, walked-taken, flags-same, counts-same, contents-same, walked-whole}
+use Rattle.allocation.proofs.Walking.{ready-low, walked-spread, next-below, next-narrow, walked-fewer, takeable, flags-same, counts-same, contents-same}
+use Rattle.allocation.proofs.Collecting.{Collected, collected-start, collected-passed, addable, collected-taken, mergeable, collected-whole}
 use Rattle.allocation.proofs.take_all.Statement.{statement}
 use Rattle.allocation.proofs.take_all.Tie as tie
 
 abbrev Inv-loop : tie.InvT-loop
-Inv-loop flags₀ keys counts₀ pointers₀ windows contents₀ reference want count places₀ blocks left₀ low₀ high₀ taken₀ flags counts pointers contents places left low high taken =
-    Walked (card left₀ flags₀ keys counts₀ pointers₀ windows contents₀) reference want count places₀
-    (card left flags keys counts pointers windows contents) places low high taken
+Inv-loop info flags₀ keys counts₀ pointers windows contents₀ reference want count places₀ blocks bytes added₀ low₀ high₀ taken₀ flags counts contents places added low high taken =
+    Collected (card info flags₀ keys counts₀ pointers windows contents₀) reference want count places₀ flags counts contents added places low high taken
 
 abbrev μ-loop : tie.MeasureT-loop
-μ-loop flags₀ keys counts₀ pointers₀ windows contents₀ reference want count places₀ blocks left₀ low₀ high₀ taken₀ flags counts pointers contents places left low high taken =
+μ-loop info flags₀ keys counts₀ pointers windows contents₀ reference want count places₀ blocks bytes added₀ low₀ high₀ taken₀ flags counts contents places added low high taken =
     low + (blocks - high)
 
 loop-holds : tie.Need-loop-holds Inv-loop μ-loop
-loop-holds c = walked-start _ (c .before .before .before .before .before .before .before .pre .0) (c .before .before .before .before .before .before .before .pre .1)
+loop-holds c = collected-start _ _ (c .before .before .before .before .before .before .before .pre .0) (c .before .before .before .before .before .before .before .pre .1 .0) refl (c .before .before .before .before .before .before .before .pre .1 .1)
 
 next-requires : tie.Need-next-requires Inv-loop μ-loop
-next-requires c κs = walked-spread (c .before .loop .inv) (c .loop-test .taken)
+next-requires c κs = walked-spread (c .before .loop .inv .walked) (c .loop-test .taken)
 
 low-after-requires : tie.Need-low-after-requires Inv-loop μ-loop
 low-after-requires c κs = tt
 
 high-after-requires : tie.Need-high-after-requires Inv-loop μ-loop
-high-after-requires c κs = next-narrow (c .before .before .before .loop .inv) (c .before .next .ensures)
+high-after-requires c κs = next-narrow (c .before .before .before .loop .inv .walked) (c .before .next .ensures)
 
 slice-read-if1 : tie.Need-slice-read-if1 Inv-loop μ-loop
-slice-read-if1 c = next-below (c .before .before .before .before .before .loop .inv) (c .before .before .before .next .ensures)
+slice-read-if1 c = next-below (c .before .before .before .before .before .loop .inv .walked) (c .before .before .before .next .ensures)
 
 cast-number : tie.Need-cast-number Inv-loop μ-loop
-cast-number c = omega (arith, next-narrow (c .before .before .before .before .before .before .loop .inv) (c .before .before .before .before .next .ensures))
+cast-number c = omega (arith, next-narrow (c .before .before .before .before .before .before .loop .inv .walked) (c .before .before .before .before .next .ensures))
+
+mul-pointer : tie.Need-mul-pointer Inv-loop μ-loop
+mul-pointer c = omega arith
+
+cast-pointer : tie.Need-cast-pointer Inv-loop μ-loop
+cast-pointer c = omega arith
+
+add-pointer : tie.Need-add-pointer Inv-loop μ-loop
+add-pointer c = omega (arith, next-narrow (c .before .before .before .before .before .before .loop .inv .walked) (c .before .before .before .before .next .ensures))
 
 take-requires : tie.Need-take-requires Inv-loop μ-loop
-take-requires c κs = can-take (c .before .before .before .before .before .before .before .before .before .before .loop .inv) (c .before .before .before .before .before .before .before .before .next .ensures) (c .before .before .before .before .before .before .before .before .before .loop-test .taken) (c .before .before .before .before .if1 .taken)
+take-requires c κs = takeable (c .before .before .before .before .before .before .before .before .before .loop .inv .walked) (c .before .before .before .before .before .before .before .next .ensures) (c .before .before .before .before .before .before .before .before .loop-test .taken) (c .before .before .before .if1 .taken)
+
+slice-aggregate-insert : tie.Need-slice-aggregate-insert Inv-loop μ-loop
+slice-aggregate-insert c = sym (c .before .before .before .before .before .before .before .before .before .before .before .before .before .before .before .before .before .loop .inv .size)
+
+insert-requires : tie.Need-insert-requires Inv-loop μ-loop
+insert-requires c κs = addable (c .before .before .before .before .before .before .before .before .before .before .before .before .before .before .before .before .before .loop .inv) (c .before .before .before .before .before .before .before .before .before .before .before .before .before .before .before .next .ensures) (c .before .before .before .before .before .before .before .before .before .before .before .before .before .before .before .before .loop-test .taken) (c .before .before .before .before .before .before .before .before .before .before .before .if1 .taken)
 
 mul-places : tie.Need-mul-places Inv-loop μ-loop
 mul-places c = omega (arith, c .before .before .before .before .before .before .before .before .before .before .before .before .before .before .before .before .before .before .loop-test .taken, ready-low (c .before .before .before .before .before .before .before .before .before .before .before .before .before .before .before .before .before .before .before .before .before .before .before .before .before .before .before .pre .0))
 
 slice-write-places : tie.Need-slice-write-places Inv-loop μ-loop
-slice-write-places c = omega (arith, c .before .before .before .before .before .before .before .before .before .before .before .before .before .before .before .before .before .before .loop-test .taken, c .before .before .before .before .before .before .before .before .before .before .before .before .before .before .before .before .before .before .before .loop .inv .fits, c .before .before .before .before .before .before .before .before .before .before .before .before .before .before .before .before .before .before .before .loop .inv .samePlaces)
+slice-write-places c = omega (arith, c .before .before .before .before .before .before .before .before .before .before .before .before .before .before .before .before .before .before .loop-test .taken, c .before .before .before .before .before .before .before .before .before .before .before .before .before .before .before .before .before .before .before .loop .inv .walked .fits, c .before .before .before .before .before .before .before .before .before .before .before .before .before .before .before .before .before .before .before .loop .inv .walked .samePlaces)
 
 add-taken : tie.Need-add-taken Inv-loop μ-loop
 add-taken c = omega (arith, c .before .before .before .before .before .before .before .before .before .before .before .before .before .before .before .before .before .before .loop-test .taken, ready-low (c .before .before .before .before .before .before .before .before .before .before .before .before .before .before .before .before .before .before .before .before .before .before .before .before .before .before .before .pre .0))
 
 loop-less : tie.Need-loop-less Inv-loop μ-loop
-loop-less c = walked-fewer (c .before .before .before .before .before .before .before .before .before .before .before .before .before .before .before .before .before .before .before .loop .inv) (c .before .before .before .before .before .before .before .before .before .before .before .before .before .before .before .before .before .next .ensures) (c .before .before .before .before .before .before .before .before .before .before .before .before .before .before .before .before .low-after .ensures) (c .before .before .before .before .before .before .before .before .before .before .before .before .before .before .before .high-after .ensures)
+loop-less c = walked-fewer (c .before .before .before .before .before .before .before .before .before .before .before .before .before .before .before .before .before .before .before .loop .inv .walked) (c .before .before .before .before .before .before .before .before .before .before .before .before .before .before .before .before .before .next .ensures) (c .before .before .before .before .before .before .before .before .before .before .before .before .before .before .before .before .low-after .ensures) (c .before .before .before .before .before .before .before .before .before .before .before .before .before .before .before .high-after .ensures)
 
 loop-again : tie.Need-loop-again Inv-loop μ-loop
-loop-again c = walked-taken (c .before .before .before .before .before .before .before .before .before .before .before .before .before .before .before .before .before .before .before .loop .inv) (c .before .before .before .before .before .before .before .before .before .before .before .before .before .before .before .before .before .next .ensures) (c .before .before .before .before .before .before .before .before .before .before .before .before .before .before .before .before .before .before .loop-test .taken) (c .before .before .before .before .before .before .before .before .before .before .before .before .before .if1 .taken) (c .before .before .before .before .before .before .before .before .take .ensures) (c .before .before .before .before .before .before .before .before .before .before .before .before .before .before .before .before .low-after .ensures) (c .before .before .before .before .before .before .before .before .before .before .before .before .before .before .before .high-after .ensures)
+loop-again c = collected-taken (c .before .before .before .before .before .before .before .before .before .before .before .before .before .before .before .before .before .before .before .loop .inv) (c .before .before .before .before .before .before .before .before .before .before .before .before .before .before .before .before .before .next .ensures) (c .before .before .before .before .before .before .before .before .before .before .before .before .before .before .before .before .before .before .loop-test .taken) (c .before .before .before .before .before .before .before .before .before .before .before .before .before .if1 .taken) (c .before .before .before .before .before .before .before .before .before .take .ensures) (c .before .insert .ensures) (c .before .before .before .before .before .before .before .before .before .before .before .before .before .before .before .before .low-after .ensures) (c .before .before .before .before .before .before .before .before .before .before .before .before .before .before .before .high-after .ensures)
 
 loop-less-2 : tie.Need-loop-less-2 Inv-loop μ-loop
-loop-less-2 c = walked-fewer (c .before .before .before .before .before .before .loop .inv) (c .before .before .before .before .next .ensures) (c .before .before .before .low-after .ensures) (c .before .before .high-after .ensures)
+loop-less-2 c = walked-fewer (c .before .before .before .before .before .before .loop .inv .walked) (c .before .before .before .before .next .ensures) (c .before .before .before .low-after .ensures) (c .before .before .high-after .ensures)
 
 loop-again-2 : tie.Need-loop-again-2 Inv-loop μ-loop
-loop-again-2 c = walked-passed (c .before .before .before .before .before .before .loop .inv) (c .before .before .before .before .next .ensures) (c .if1 .left) (c .before .before .before .low-after .ensures) (c .before .before .high-after .ensures)
+loop-again-2 c = collected-passed (c .before .before .before .before .before .before .loop .inv) (c .before .before .before .before .next .ensures) (c .if1 .left) (c .before .before .before .low-after .ensures) (c .before .before .high-after .ensures)
+
+slice-aggregate-merge : tie.Need-slice-aggregate-merge Inv-loop μ-loop
+slice-aggregate-merge c = sym (c .before .before .before .loop .inv .size)
+
+merge-requires : tie.Need-merge-requires Inv-loop μ-loop
+merge-requires c κs = mergeable (c .before .before .before .loop .inv) (c .before .before .before .before .before .before .before .before .before .before .before .pre .0 .sound) (c .before .before .loop-test .left)
+
+add-with-used : tie.Need-add-with-used Inv-loop μ-loop
+add-with-used c = omega (arith, c .before .before .before .before .before .before .before .before .before .before .before .before .before .before .before .pre .0 .room, c .before .before .before .before .before .before .before .before .before .before .before .before .before .before .before .pre .0 .sound .shaped .hasLengths .placesHigh)
+
+with-used-requires : tie.Need-with-used-requires Inv-loop μ-loop
+with-used-requires c κs = tt
 
 same-length : tie.Need-same-length Inv-loop μ-loop
-same-length c = flags-same (c .before .loop .inv) (c .before .before .before .before .before .before .before .before .before .pre .0 .sound)
+same-length c = flags-same (c .before .before .before .before .before .before .before .before .loop .inv .walked) (c .before .before .before .before .before .before .before .before .before .before .before .before .before .before .before .before .pre .0 .sound)
 
 same-length-2 : tie.Need-same-length-2 Inv-loop μ-loop
-same-length-2 c = counts-same (c .before .loop .inv) (c .before .before .before .before .before .before .before .before .before .pre .0 .sound)
+same-length-2 c = counts-same (c .before .before .before .before .before .before .before .before .loop .inv .walked) (c .before .before .before .before .before .before .before .before .before .before .before .before .before .before .before .before .pre .0 .sound)
 
 same-length-3 : tie.Need-same-length-3 Inv-loop μ-loop
-same-length-3 c = c .before .loop .inv .sameSlots
+same-length-3 c = c .before .before .before .before .merge .kept .0
 
 same-length-4 : tie.Need-same-length-4 Inv-loop μ-loop
-same-length-4 c = contents-same (c .before .loop .inv) (c .before .before .before .before .before .before .before .before .before .pre .0 .sound)
+same-length-4 c = contents-same (c .before .before .before .before .before .before .before .before .loop .inv .walked) (c .before .before .before .before .before .before .before .before .before .before .before .before .before .before .before .before .pre .0 .sound)
 
 same-length-5 : tie.Need-same-length-5 Inv-loop μ-loop
-same-length-5 c = c .before .loop .inv .samePlaces
+same-length-5 c = c .before .before .before .before .before .before .before .before .loop .inv .walked .samePlaces
 
 returns : tie.Need-returns Inv-loop μ-loop
-returns c = walked-whole (c .before .loop .inv) (c .loop-test .left)
+returns c = collected-whole (c .before .before .before .before .before .before .before .before .loop .inv) (c .before .before .before .before .before .before .before .before .before .before .before .before .before .before .before .before .pre .0 .sound) (c .before .before .before .before .before .before .before .loop-test .left) (c .with-used .ensures) (c .before .before .before .before .merge .ensures)
 
 pub take-all-spec : {M : Type 1} → statement M
 take-all-spec =
@@ -88,7 +116,12 @@ take-all-spec =
     high-after-requires
     slice-read-if1
     cast-number
+    mul-pointer
+    cast-pointer
+    add-pointer
     take-requires
+    slice-aggregate-insert
+    insert-requires
     mul-places
     slice-write-places
     add-taken
@@ -96,6 +129,10 @@ take-all-spec =
     loop-again
     loop-less-2
     loop-again-2
+    slice-aggregate-merge
+    merge-requires
+    add-with-used
+    with-used-requires
     same-length
     same-length-2
     same-length-3

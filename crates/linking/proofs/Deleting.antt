@@ -1,0 +1,192 @@
+-- What DELETE answers at each way out, over plain values.
+-- Assumes nothing.
+use Prim.Native.Nat.{ℕ, _+_, _*_, _≤_, _<_}
+use mathlib.Core.Path.{_≡_, refl, sym, ap, _∙_, subst}
+use mathlib.Core.Bool.{Bool, true, false, not, cond}
+use mathlib.Core.List.{[], _∷_}
+use native.Mathlib.Omega.{arith}
+use lib.Dec.{eqb}
+use lib.ListN.{length, getD}
+use lib.Seq.{length-take-le}
+use borrow.Author.Tests.{eq-eqb, ne-eqb, not-false}
+use Rattle.card.specs.ListsLaws.{and-true, and-false-left, and-false-right}
+use Rattle.card.specs.Pointers.{pointer, pointsFrom}
+use Rattle.card.specs.PointersLaws.{contains-counted, destination-pointer, remove-length}
+use Rattle.card.specs.Card.{Card, card, inUse, pointsTo, hasPointers}
+use Rattle.card.specs.SoundnessLaws.{SoundCard, allocated-below}
+use Rattle.card.specs.Access.{admits}
+use Rattle.card.specs.Plan.{dropPointer, freeBlock, change, changes, outAfter, placesAfter}
+use Rattle.card.specs.PlanLaws.{FirstHolds, here, later, NoneHolds}
+use Rattle.card.specs.Calls.{missing, rootAtHost, deletePlan}
+use Rattle.card.specs.Promises.{Is, is-done}
+use Rattle.card.specs.Session.{Request, request, plan, performSound}
+use Rattle.card.specs.declared.Port.{Port}
+use Rattle.card.specs.declared.Mode.the-variants.{Writing}
+use Rattle.card.specs.declared.Call.the-variants.{Delete}
+use Rattle.card.specs.declared.DeleteOperands.{DeleteOperands}
+use Rattle.card.specs.declared.Refusal.{Refusal}
+use Rattle.card.specs.declared.Refusal.the-variants.{NotAllocated, IsRoot, NotOpened, NoPointer, HasPointers}
+use Rattle.card.specs.declared.Answer.the-variants.{Value}
+use Rattle.card.proofs.Guarantees.PointerSteps.{block-narrow}
+use Rattle.tables.specs.InUse.{Removable}
+use Rattle.tables.specs.InUseLaws.{sound-removable}
+use Rattle.access.specs.Accessible.{bare}
+use Rattle.access.proofs.Blocks.{flagged, missing-told, root-told, closed-told}
+use Rattle.linking.proofs.Points.{PointsTo, points-whole, told-not}
+
+module _ (port : Port) (c : Card) (o : DeleteOperands) where
+  abbrev asked : Request
+  asked = request (Delete o) [] [] []
+
+  abbrev Refuses : Refusal → Type 0
+  Refuses why = FirstHolds (plan port c (asked .call) (asked .lent) .checks) why
+
+  abbrev Passes : Type 0
+  Passes = NoneHolds (plan port c (asked .call) (asked .lent) .checks)
+
+  -- The destination's count.
+  abbrev counted : ℕ
+  counted = getD (c .public .counts) (o .destination) 0
+
+  module _ {t1 : Bool} (e1 : t1 ≡ missing (flagged (c .public)) (o .source)) where
+    pub source-missing : t1 ≡ true → Refuses NotAllocated
+    unfolding plan deletePlan
+    source-missing h = here (missing-told (c .public) _ e1 h)
+
+    module _ (h1 : t1 ≡ false) {t2 : Bool} (e2 : t2 ≡ missing (flagged (c .public)) (o .destination)) where
+      pub destination-missing : t2 ≡ true → Refuses NotAllocated
+      unfolding plan deletePlan
+      destination-missing h = later (missing-told (c .public) _ e1 h1) (here (missing-told (c .public) _ e2 h))
+
+      module _ (h2 : t2 ≡ false) {t3 : Bool} (e3 : t3 ≡ rootAtHost port (card (c .public .info) [] [] [] [] [] [] .public) (o .source)) where
+        pub root-source : t3 ≡ true → Refuses IsRoot
+        unfolding plan deletePlan
+        root-source h = later (missing-told (c .public) _ e1 h1) (later (missing-told (c .public) _ e2 h2) (here (root-told port (c .public) _ e3 h)))
+
+        module _ (h3 : t3 ≡ false) {t4 : Bool} (e4 : t4 ≡ admits port (bare c) Writing (o .source) (o .credential)) where
+          pub source-shut : not t4 ≡ true → Refuses NotOpened
+          unfolding plan deletePlan
+          source-shut h =
+              later (missing-told (c .public) _ e1 h1) (later (missing-told (c .public) _ e2 h2)
+              (later (root-told port (c .public) _ e3 h3)
+              (here (closed-told port c Writing _ _ e4 h))))
+
+          module _ (h4 : not t4 ≡ false) {t5 : Bool} (e5 : PointsTo c t5 (o .source) (o .destination)) where
+            pub no-pointer : not t5 ≡ true → Refuses NoPointer
+            unfolding plan deletePlan
+            no-pointer h =
+                later (missing-told (c .public) _ e1 h1) (later (missing-told (c .public) _ e2 h2)
+                (later (root-told port (c .public) _ e3 h3)
+                (later (closed-told port c Writing _ _ e4 h4)
+                (here (told-not (points-whole c _ _ e5) h)))))
+
+            module _ (h5 : not t5 ≡ false) where
+              -- The block has another pointer to it, so its own do not matter.
+              pub passes-more : (counted ≡ 1 → ⊥) → Passes
+              unfolding plan deletePlan
+              passes-more h = (
+                missing-told (c .public) _ e1 h1,
+                (
+                  missing-told (c .public) _ e2 h2,
+                  (
+                    root-told port (c .public) _ e3 h3,
+                    (
+                      closed-told port c Writing _ _ e4 h4,
+                      (
+                        told-not (points-whole c _ _ e5) h5,
+                        (and-false-left _ _ (ne-eqb _ _ h), tt),
+                      ),
+                    ),
+                  ),
+                ),
+              )
+
+              module _ (last : counted ≡ 1) {t6 : Bool} (e6 : t6 ≡ pointsFrom (o .destination) (inUse (c .public))) where
+                pub has-pointers : t6 ≡ true → Refuses HasPointers
+                unfolding plan deletePlan hasPointers
+                has-pointers h =
+                    later (missing-told (c .public) _ e1 h1) (later (missing-told (c .public) _ e2 h2)
+                    (later (root-told port (c .public) _ e3 h3)
+                    (later (closed-told port c Writing _ _ e4 h4)
+                    (later (told-not (points-whole c _ _ e5) h5)
+                    (here (and-true (eqb counted 1) _ (eq-eqb _ _ last) (sym e6 ∙ h)))))))
+
+                pub passes-last : t6 ≡ false → Passes
+                unfolding plan deletePlan hasPointers
+                passes-last h = (
+                  missing-told (c .public) _ e1 h1,
+                  (
+                    missing-told (c .public) _ e2 h2,
+                    (
+                      root-told port (c .public) _ e3 h3,
+                      (
+                        closed-told port c Writing _ _ e4 h4,
+                        (
+                          told-not (points-whole c _ _ e5) h5,
+                          (and-false-right (eqb counted 1) _ (sym e6 ∙ h), tt),
+                        ),
+                      ),
+                    ),
+                  ),
+                )
+
+  module _ (s : SoundCard c) (h : Passes) where
+    below : o .destination < c .public .info .blocks
+    unfolding plan deletePlan
+    below = allocated-below (c .public) (o .destination) (not-false _ (h .1 .0))
+
+    there : pointsTo (c .public) (o .source) (o .destination) ≡ true
+    unfolding plan deletePlan
+    there = not-false _ (h .1 .1 .1 .1 .0)
+
+    -- What dropping the pointer asks.
+    pub droppable : Removable (c .public .pointers) (c .public .info .used) (pointer (o .source) (o .destination))
+        × ((o .destination < length (c .public .counts)) × ((1 ≤ counted) × (1 ≤ c .public .info .used)))
+    unfolding pointsTo
+    droppable =
+        let w : ℕ = pointer (o .source) (o .destination) in
+        let some : 1 ≤ counted =
+        subst (λ (n : ℕ). 1 ≤ n) (sym (s .isSound .counts (o .destination) below))
+        (contains-counted (o .destination) w (inUse (c .public)) there (destination-pointer (o .source) (o .destination) (block-narrow s below))) in (
+          sound-removable s (o .source) (o .destination) there,
+          (
+            omega (arith, below, s .shaped .hasLengths .counts),
+            (
+              some,
+              omega (arith, remove-length w (inUse (c .public)) there, length-take-le (c .public .info .used) (c .public .pointers) (s .shaped .usedHigh)),
+            ),
+          ),
+        )
+
+    -- What freeing the block asks.
+    pub freeable : (o .destination < length (c .public .flags))
+        × ((4 * o .destination + 4 ≤ length (c .keys)) × (2 * o .destination + 2 ≤ length (c .public .windows)))
+    freeable = (
+      omega (arith, below, s .shaped .hasLengths .flags),
+      (
+        omega (arith, below, s .shaped .hasLengths .keys),
+        omega (arith, below, s .shaped .hasLengths .windows),
+      ),
+    )
+
+  deleted : {after : Card} (t : Bool) → eqb counted 1 ≡ t → Passes
+      → after ≡ changes (change c (dropPointer (o .source) (o .destination))) (cond t (freeBlock (o .destination) ∷ []) [])
+      → Is (performSound port c asked) (Value (cond t 1 0)) after [] []
+  unfolding performSound plan deletePlan changes outAfter placesAfter
+  deleted {after} t q h =
+      subst
+      (λ (t : Bool).
+      after ≡ changes (change c (dropPointer (o .source) (o .destination))) (cond t (freeBlock (o .destination) ∷ []) [])
+      → Is (performSound port c asked) (Value (cond t 1 0)) after [] [])
+      q
+      (λ e. is-done c (asked .lent) (plan port c (asked .call) (asked .lent)) h e refl refl)
+
+  pub deleted-more : {after : Card} → Passes → eqb counted 1 ≡ false → after ≡ change c (dropPointer (o .source) (o .destination)) → Is (performSound port c asked) (Value 0) after [] []
+  unfolding changes
+  deleted-more h more e = deleted false more h e
+
+  -- The block is freed on the card that the dropped pointer leaves.
+  pub deleted-last : {between after : Card} → Passes → eqb counted 1 ≡ true → between ≡ change c (dropPointer (o .source) (o .destination))
+      → after ≡ change between (freeBlock (o .destination)) → Is (performSound port c asked) (Value 1) after [] []
+  unfolding changes
+  deleted-last h last e f = deleted true last h (f ∙ ap (λ (d : Card). change d (freeBlock (o .destination))) e)

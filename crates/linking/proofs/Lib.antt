@@ -1,0 +1,4 @@
+pub mod Points
+pub mod Changes
+pub mod Creating
+pub mod Deleting

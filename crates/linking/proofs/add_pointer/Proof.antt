@@ -1,0 +1,63 @@
+-- `linking::add_pointer` is the change of the card that adds a pointer.
+-- Assumes nothing.
+use Rattle.linking.proofs.Changes.{added}
+use borrow.Author.Needs.{needs}
+use Rattle.linking.proofs.add_pointer.Statement.{statement}
+use Rattle.linking.proofs.add_pointer.Tie as tie
+
+mul-pointer : tie.Need-mul-pointer
+mul-pointer c = search needs
+
+add-pointer : tie.Need-add-pointer
+add-pointer c = search needs
+
+insert-requires : tie.Need-insert-requires
+insert-requires c κs = search needs
+
+mul-counts : tie.Need-mul-counts
+mul-counts c = search needs
+
+slice-read-counts : tie.Need-slice-read-counts
+slice-read-counts c = search needs
+
+add-counts : tie.Need-add-counts
+add-counts c = search needs
+
+mul-counts-2 : tie.Need-mul-counts-2
+mul-counts-2 c = search needs
+
+slice-write-counts : tie.Need-slice-write-counts
+slice-write-counts c = search needs
+
+add-with-used : tie.Need-add-with-used
+add-with-used c = search needs
+
+with-used-requires : tie.Need-with-used-requires
+with-used-requires c κs = search needs
+
+same-length : tie.Need-same-length
+same-length c = search needs
+
+same-length-2 : tie.Need-same-length-2
+same-length-2 c = search needs
+
+returns : tie.Need-returns
+returns c = added _ _ _ _ _ (c .with-used .ensures) (c .before .before .before .before .before .insert .ensures)
+
+pub add-pointer-spec : {M : Type 1} → statement M
+add-pointer-spec =
+    tie.close
+    (tie.spec
+    mul-pointer
+    add-pointer
+    insert-requires
+    mul-counts
+    slice-read-counts
+    add-counts
+    mul-counts-2
+    slice-write-counts
+    add-with-used
+    with-used-requires
+    same-length
+    same-length-2
+    returns)

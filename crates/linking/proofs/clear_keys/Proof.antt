@@ -1,0 +1,69 @@
+-- `linking::clear_keys` replaces the keys by absent ones.
+-- Assumes nothing.
+use native.Mathlib.Omega.{arith}
+use lib.ListN.{length-set}
+use Rattle.linking.proofs.Changes.{keys-cleared}
+use borrow.Author.Needs.{needs}
+use Rattle.linking.proofs.clear_keys.Statement.{statement}
+use Rattle.linking.proofs.clear_keys.Tie as tie
+
+mul-at : tie.Need-mul-at
+mul-at c = search needs
+
+mul-keys : tie.Need-mul-keys
+mul-keys c = search needs
+
+slice-write-keys : tie.Need-slice-write-keys
+slice-write-keys c = search needs
+
+add-keys : tie.Need-add-keys
+add-keys c = search needs
+
+mul-keys-2 : tie.Need-mul-keys-2
+mul-keys-2 c = search needs
+
+slice-write-keys-2 : tie.Need-slice-write-keys-2
+slice-write-keys-2 c = simp length-set (omega arith)
+
+add-keys-2 : tie.Need-add-keys-2
+add-keys-2 c = search needs
+
+mul-keys-3 : tie.Need-mul-keys-3
+mul-keys-3 c = search needs
+
+slice-write-keys-3 : tie.Need-slice-write-keys-3
+slice-write-keys-3 c = simp length-set (omega arith)
+
+add-keys-3 : tie.Need-add-keys-3
+add-keys-3 c = search needs
+
+mul-keys-4 : tie.Need-mul-keys-4
+mul-keys-4 c = search needs
+
+slice-write-keys-4 : tie.Need-slice-write-keys-4
+slice-write-keys-4 c = simp length-set (omega arith)
+
+same-length : tie.Need-same-length
+same-length c = search needs
+
+returns : tie.Need-returns
+returns c = keys-cleared _ _ (c .pre)
+
+pub clear-keys-spec : {M : Type 1} → statement M
+clear-keys-spec =
+    tie.close
+    (tie.spec
+    mul-at
+    mul-keys
+    slice-write-keys
+    add-keys
+    mul-keys-2
+    slice-write-keys-2
+    add-keys-2
+    mul-keys-3
+    slice-write-keys-3
+    add-keys-3
+    mul-keys-4
+    slice-write-keys-4
+    same-length
+    returns)

@@ -1,0 +1,65 @@
+-- `linking::create_sound` is the rule on an audited card, by what its checks find.
+-- Assumes nothing.
+use mathlib.Core.Path.{refl}
+use Rattle.card.specs.Card.{card}
+use Rattle.card.specs.Session.{performSound}
+use Rattle.checks.specs.CheckedLaws.{refused-check, passed-check}
+use Rattle.outcomes.proofs.Returned.{refuses}
+use Rattle.linking.proofs.Creating.{addable, created}
+use borrow.Author.Needs.{needs}
+use Rattle.linking.proofs.create_sound.Statement.{statement}
+use Rattle.linking.proofs.create_sound.Tie as tie
+
+create-check-requires : tie.Need-create-check-requires
+create-check-requires c κs = c .before .before .before .before .before .before .before .before .pre
+
+enum-known-why : tie.Need-enum-known-why
+enum-known-why c = search needs
+
+refused-requires : tie.Need-refused-requires
+refused-requires c κs = tt
+
+enum-told : tie.Need-enum-told
+enum-told c = search needs
+
+add-pointer-requires : tie.Need-add-pointer-requires
+add-pointer-requires c κs = let a = c .before .before .before .before .before .before .before .before .before .before .before .before .before .args in let k = card (a .info) (a .flags .now) (a .keys .now) (a .counts .now) (a .pointers .now) (a .windows .now) (a .contents .now) in addable (a .port) k (a .o) (c .before .before .before .before .before .before .before .before .before .before .before .before .before .pre) (passed-check (a .port) k _ (c .before .before .before .before .create-check .ensures) (c .before .before .enum-told .given .1))
+
+done-requires : tie.Need-done-requires
+done-requires c κs = tt
+
+same-length : tie.Need-same-length
+same-length c = refl
+
+same-length-2 : tie.Need-same-length-2
+same-length-2 c = refl
+
+returns : tie.Need-returns
+unfolding performSound
+returns c = let a = c .before .before .before .before .before .before .before .before .before .before .before .before .before .args in let k = card (a .info) (a .flags .now) (a .keys .now) (a .counts .now) (a .pointers .now) (a .windows .now) (a .contents .now) in refuses k _ _ (c .refused .ensures) (refused-check (a .port) k _ (c .before .before .before .before .create-check .ensures) (c .before .before .why .given .1))
+
+same-length-3 : tie.Need-same-length-3
+same-length-3 c = c .before .before .before .before .before .add-pointer .kept .1 .0
+
+same-length-4 : tie.Need-same-length-4
+same-length-4 c = c .before .before .before .before .before .add-pointer .kept .1 .1 .0
+
+returns-2 : tie.Need-returns-2
+returns-2 c = let a = c .before .before .before .before .before .before .before .before .before .before .before .before .before .before .before .before .before .before .before .args in let k = card (a .info) (a .flags .now) (a .keys .now) (a .counts .now) (a .pointers .now) (a .windows .now) (a .contents .now) in created (a .port) k (a .o) (passed-check (a .port) k _ (c .before .before .before .before .before .before .before .before .before .before .create-check .ensures) (c .before .before .before .before .before .before .before .before .enum-told .given .1)) (c .done .ensures) (c .before .before .before .before .before .add-pointer .ensures _ _ _ _)
+
+pub create-sound-spec : {M : Type 1} → statement M
+create-sound-spec =
+    tie.close
+    (tie.spec
+    create-check-requires
+    enum-known-why
+    refused-requires
+    enum-told
+    add-pointer-requires
+    done-requires
+    same-length
+    same-length-2
+    returns
+    same-length-3
+    same-length-4
+    returns-2)

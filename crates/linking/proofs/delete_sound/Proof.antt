@@ -1,0 +1,126 @@
+-- `linking::delete_sound` is the rule on an audited card, by what its checks find.
+-- Assumes nothing.
+use mathlib.Core.Path.{refl}
+use native.Mathlib.Omega.{arith}
+use Rattle.card.specs.Card.{card}
+use Rattle.card.specs.Session.{performSound}
+use Rattle.checks.specs.CheckedLaws.{refused-check, passed-check}
+use Rattle.outcomes.proofs.Returned.{refuses}
+use Rattle.linking.proofs.Deleting.{droppable, freeable, deleted-more, deleted-last}
+use borrow.Author.Needs.{needs}
+use Rattle.linking.proofs.delete_sound.Statement.{statement}
+use Rattle.linking.proofs.delete_sound.Tie as tie
+
+delete-check-requires : tie.Need-delete-check-requires
+delete-check-requires c κs = c .before .before .before .before .before .before .before .before .before .before .before .pre
+
+enum-known-why : tie.Need-enum-known-why
+enum-known-why c = search needs
+
+refused-requires : tie.Need-refused-requires
+refused-requires c κs = tt
+
+enum-told : tie.Need-enum-told
+enum-told c = search needs
+
+cast-last : tie.Need-cast-last
+cast-last c = omega arith
+
+mul-last : tie.Need-mul-last
+mul-last c = omega arith
+
+slice-read-last : tie.Need-slice-read-last
+slice-read-last c = let a = c .before .before .before .before .before .before .before .before .before .before .before .before .before .before .before .before .args in let k = card (a .info) (a .flags .now) (a .keys .now) (a .counts .now) (a .pointers .now) (a .windows .now) (a .contents .now) in droppable (a .port) k (a .o) (c .before .before .before .before .before .before .before .before .before .before .before .before .before .before .before .before .pre) (passed-check (a .port) k _ (c .before .before .before .before .delete-check .ensures) (c .before .before .enum-told .given .1)) .1 .0
+
+drop-pointer-requires : tie.Need-drop-pointer-requires
+drop-pointer-requires c κs = let a = c .before .before .before .before .before .before .before .before .before .before .before .before .before .before .before .before .before .before .args in let k = card (a .info) (a .flags .now) (a .keys .now) (a .counts .now) (a .pointers .now) (a .windows .now) (a .contents .now) in droppable (a .port) k (a .o) (c .before .before .before .before .before .before .before .before .before .before .before .before .before .before .before .before .before .before .pre) (passed-check (a .port) k _ (c .before .before .before .before .before .before .delete-check .ensures) (c .before .before .before .before .enum-told .given .1))
+
+free-block-requires : tie.Need-free-block-requires
+free-block-requires c κs = let a = c .before .before .before .before .before .before .before .before .before .before .before .before .before .before .before .before .before .before .before .before .before .before .before .before .before .before .before .args in let k = card (a .info) (a .flags .now) (a .keys .now) (a .counts .now) (a .pointers .now) (a .windows .now) (a .contents .now) in freeable (a .port) k (a .o) (c .before .before .before .before .before .before .before .before .before .before .before .before .before .before .before .before .before .before .before .before .before .before .before .before .before .before .before .pre) (passed-check (a .port) k _ (c .before .before .before .before .before .before .before .before .before .before .before .before .before .before .before .delete-check .ensures) (c .before .before .before .before .before .before .before .before .before .before .before .before .before .enum-told .given .1))
+
+same-length : tie.Need-same-length
+same-length c = c .before .before .before .before .before .before .free-block .kept .0
+
+same-length-2 : tie.Need-same-length-2
+same-length-2 c = c .before .before .before .before .before .before .free-block .kept .1 .0
+
+same-length-3 : tie.Need-same-length-3
+same-length-3 c = c .before .before .before .before .before .before .before .before .before .before .before .before .before .before .before .drop-pointer .kept .1 .0
+
+same-length-4 : tie.Need-same-length-4
+same-length-4 c = c .before .before .before .before .before .before .before .before .before .before .before .before .before .before .before .drop-pointer .kept .1 .1 .0
+
+same-length-5 : tie.Need-same-length-5
+same-length-5 c = c .before .before .before .before .before .before .free-block .kept .1 .1 .0
+
+returns : tie.Need-returns
+returns c = let a = c .before .before .before .before .before .before .before .before .before .before .before .before .before .before .before .before .before .before .before .before .before .before .before .before .before .before .before .before .before .before .before .before .before .before .args in let k = card (a .info) (a .flags .now) (a .keys .now) (a .counts .now) (a .pointers .now) (a .windows .now) (a .contents .now) in deleted-last (a .port) k (a .o) (passed-check (a .port) k _ (c .before .before .before .before .before .before .before .before .before .before .before .before .before .before .before .before .before .before .before .before .before .before .delete-check .ensures) (c .before .before .before .before .before .before .before .before .before .before .before .before .before .before .before .before .before .before .before .before .enum-told .given .1)) (c .before .before .before .before .before .before .before .before .before .before .if1 .taken) (c .before .before .before .before .before .before .before .before .before .before .before .before .before .before .before .drop-pointer .ensures (a .flags .now) (a .keys .now) (a .windows .now) (a .contents .now)) (c .before .before .before .before .before .before .free-block .ensures _ _ _ _)
+
+same-length-6 : tie.Need-same-length-6
+same-length-6 c = refl
+
+same-length-7 : tie.Need-same-length-7
+same-length-7 c = refl
+
+same-length-8 : tie.Need-same-length-8
+same-length-8 c = refl
+
+same-length-9 : tie.Need-same-length-9
+same-length-9 c = refl
+
+same-length-10 : tie.Need-same-length-10
+same-length-10 c = refl
+
+returns-2 : tie.Need-returns-2
+unfolding performSound
+returns-2 c = let a = c .before .before .before .before .before .before .before .before .before .before .before .before .before .before .before .before .args in let k = card (a .info) (a .flags .now) (a .keys .now) (a .counts .now) (a .pointers .now) (a .windows .now) (a .contents .now) in refuses k _ _ (c .refused .ensures) (refused-check (a .port) k _ (c .before .before .before .before .delete-check .ensures) (c .before .before .why .given .1))
+
+same-length-11 : tie.Need-same-length-11
+same-length-11 c = refl
+
+same-length-12 : tie.Need-same-length-12
+same-length-12 c = refl
+
+same-length-13 : tie.Need-same-length-13
+same-length-13 c = c .before .before .before .before .before .drop-pointer .kept .1 .0
+
+same-length-14 : tie.Need-same-length-14
+same-length-14 c = c .before .before .before .before .before .drop-pointer .kept .1 .1 .0
+
+same-length-15 : tie.Need-same-length-15
+same-length-15 c = refl
+
+returns-3 : tie.Need-returns-3
+returns-3 c = let a = c .before .before .before .before .before .before .before .before .before .before .before .before .before .before .before .before .before .before .before .before .before .before .before .before .args in let k = card (a .info) (a .flags .now) (a .keys .now) (a .counts .now) (a .pointers .now) (a .windows .now) (a .contents .now) in deleted-more (a .port) k (a .o) (passed-check (a .port) k _ (c .before .before .before .before .before .before .before .before .before .before .before .before .delete-check .ensures) (c .before .before .before .before .before .before .before .before .before .before .enum-told .given .1)) (c .if1 .left) (c .before .before .before .before .before .drop-pointer .ensures _ _ _ _)
+
+pub delete-sound-spec : {M : Type 1} → statement M
+delete-sound-spec =
+    tie.close
+    (tie.spec
+    delete-check-requires
+    enum-known-why
+    refused-requires
+    enum-told
+    cast-last
+    mul-last
+    slice-read-last
+    drop-pointer-requires
+    free-block-requires
+    same-length
+    same-length-2
+    same-length-3
+    same-length-4
+    same-length-5
+    returns
+    same-length-6
+    same-length-7
+    same-length-8
+    same-length-9
+    same-length-10
+    returns-2
+    same-length-11
+    same-length-12
+    same-length-13
+    same-length-14
+    same-length-15
+    returns-3)

@@ -1,0 +1,304 @@
+// CREATE and DELETE: the calls that point to a block and that take a pointer away.
+use card::Answer;
+use card::CreateOperands;
+use card::DeleteOperands;
+use card::Info;
+use card::Mode;
+use card::Outcome;
+use card::Port;
+use card::Refusal;
+use checks::Checked;
+ghost use mathlib.Core.Path.{_≡_};
+ghost use mathlib.Core.List.{List, []};
+ghost use Prim.Native.Nat.{ℕ, _+_, _*_, _≤_, _<_};
+ghost use lib.ListN.{length, getD};
+ghost use Rattle.card.specs.Pointers.{pointer};
+ghost use Rattle.card.specs.Card.{card, pointsTo};
+ghost use Rattle.card.specs.SoundnessLaws.{SoundCard};
+ghost use Rattle.card.specs.Plan.{addPointer, dropPointer, freeBlock, replaceKeys, change};
+ghost use Rattle.card.specs.declared.NewKey.the-variants.{Absent};
+ghost use Rattle.card.specs.Promises.{Is};
+ghost use Rattle.card.specs.Session.{request, performSound};
+ghost use Rattle.card.specs.declared.Call.the-variants.{Create, Delete};
+ghost use Rattle.card.specs.declared.Info.{Info};
+ghost use Rattle.checks.specs.Checked.{checked};
+ghost use Rattle.tables.specs.InUse.{Sorted, Addable, Removable};
+
+// The source points to the destination.
+fn points_to(info: Info, pointers: &[u32], source: u16, destination: u16) -> bool
+    requires { ⌜ Sorted (now pointers) (info .used) ⌝ }
+    ensures { λ r. ⌜ r ≡ pointsTo (card info [] [] [] (now (pointers .entry)) [] [] .public) source destination ⌝ }
+{
+    let pointer = (source as u32) * 65536 + (destination as u32);
+    tables::holds(pointers, info.used, pointer)
+}
+
+// ---- changes
+
+// A pointer more, and its destination counted once more, whatever the other tables hold.
+fn add_pointer(
+    info: Info,
+    counts: &mut [u16],
+    pointers: &mut [u32],
+    source: u16,
+    destination: u16,
+) -> Info
+    requires { ⌜ Addable (now pointers) (info .used) (pointer source destination) ⌝ }
+    requires { ⌜ destination < length (now counts) ⌝ }
+    requires { ⌜ getD (now counts) destination 0 < 65535 ⌝ }
+    ensures { λ r. ⌜ ((flags keys windows contents : List ℕ) → card r flags keys (now (counts .exit)) (now (pointers .exit)) windows contents ≡ change (card info flags keys (now (counts .entry)) (now (pointers .entry)) windows contents) (addPointer source destination)) ⌝ }
+{
+    let at = destination as usize;
+    let pointer = (source as u32) * 65536 + (destination as u32);
+    tables::insert(pointers, info.used, pointer);
+    counts[at] = counts[at] + 1;
+    tables::with_used(info, info.used + 1)
+}
+
+// A pointer less, and its destination counted once less, whatever the other tables hold.
+fn drop_pointer(
+    info: Info,
+    counts: &mut [u16],
+    pointers: &mut [u32],
+    source: u16,
+    destination: u16,
+) -> Info
+    requires { ⌜ Removable (now pointers) (info .used) (pointer source destination) ⌝ }
+    requires { ⌜ destination < length (now counts) ⌝ }
+    requires { ⌜ 1 ≤ getD (now counts) destination 0 ⌝ }
+    requires { ⌜ 1 ≤ info .used ⌝ }
+    ensures { λ r. ⌜ ((flags keys windows contents : List ℕ) → card r flags keys (now (counts .exit)) (now (pointers .exit)) windows contents ≡ change (card info flags keys (now (counts .entry)) (now (pointers .entry)) windows contents) (dropPointer source destination)) ⌝ }
+{
+    let at = destination as usize;
+    let pointer = (source as u32) * 65536 + (destination as u32);
+    tables::remove(pointers, info.used, pointer);
+    counts[at] = counts[at] - 1;
+    tables::with_used(info, info.used - 1)
+}
+
+// The four words of a block's keys become 0.
+fn clear_keys(keys: &mut [u64], block: u16)
+    requires { ⌜ 4 * block + 4 ≤ length (now keys) ⌝ }
+    ensures { λ _. ⌜ now (keys .exit) ≡ replaceKeys (now (keys .entry)) block Absent Absent ⌝ }
+{
+    let at = 4 * (block as usize);
+    keys[at] = 0;
+    keys[at + 1] = 0;
+    keys[at + 2] = 0;
+    keys[at + 3] = 0;
+}
+
+// Flags, keys and windows of a block become 0, whatever the other tables hold.
+fn free_block(flags: &mut [u8], keys: &mut [u64], windows: &mut [u64], block: u16)
+    requires { ⌜ block < length (now flags) ⌝ }
+    requires { ⌜ 4 * block + 4 ≤ length (now keys) ⌝ }
+    requires { ⌜ 2 * block + 2 ≤ length (now windows) ⌝ }
+    ensures { λ _. ⌜ ((info : Info) (counts pointers contents : List ℕ) → card info (now (flags .exit)) (now (keys .exit)) counts pointers (now (windows .exit)) contents ≡ change (card info (now (flags .entry)) (now (keys .entry)) counts pointers (now (windows .entry)) contents) (freeBlock block)) ⌝ }
+{
+    let b = block as usize;
+    let window = 2 * b;
+    flags[b] = 0;
+    windows[window] = 0;
+    windows[window + 1] = 0;
+    clear_keys(keys, block);
+}
+
+// ---- CREATE
+
+// The checks of CREATE.
+fn create_check(
+    info: Info,
+    flags: &[u8],
+    keys: &[u64],
+    counts: &[u16],
+    pointers: &[u32],
+    windows: &[u64],
+    contents: &[u8],
+    port: Port,
+    o: CreateOperands,
+) -> Checked
+    requires { ⌜ SoundCard (card info (now flags) (now keys) (now counts) (now pointers) (now windows) (now contents)) ⌝ }
+    ensures { λ r. ⌜ r ≡ checked port (card info (now (flags .entry)) (now (keys .entry)) (now (counts .entry)) (now (pointers .entry)) (now (windows .entry)) (now (contents .entry))) (request (Create o) [] [] []) ⌝ }
+{
+    let first = o.credential;
+    let second = o.second;
+    let from = o.source as usize;
+    let to = o.destination as usize;
+    let source_mode = Mode::Writing;
+    let destination_mode = Mode::Writing;
+    if access::missing(info, flags, from) {
+        return Checked::Refused(Refusal::NotAllocated);
+    }
+    if access::missing(info, flags, to) {
+        return Checked::Refused(Refusal::NotAllocated);
+    }
+    if (to < info.roots) | access::root_at_host(port, info, from) {
+        return Checked::Refused(Refusal::IsRoot);
+    }
+    if !access::admits(
+        port,
+        info,
+        flags,
+        keys,
+        pointers,
+        windows,
+        source_mode,
+        from,
+        first,
+    ) {
+        return Checked::Refused(Refusal::NotOpened);
+    }
+    if !access::admits(
+        port,
+        info,
+        flags,
+        keys,
+        pointers,
+        windows,
+        destination_mode,
+        to,
+        second,
+    ) {
+        return Checked::Refused(Refusal::NotOpened);
+    }
+    if (o.source == o.destination) | points_to(info, pointers, o.source, o.destination) {
+        return Checked::Refused(Refusal::PointerExists);
+    }
+    if info.used == pointers.len() {
+        return Checked::Refused(Refusal::TooFewPlaces);
+    }
+    Checked::Passed
+}
+
+// CREATE on a card that has been audited.
+pub fn create_sound(
+    info: Info,
+    flags: &[u8],
+    keys: &[u64],
+    counts: &mut [u16],
+    pointers: &mut [u32],
+    windows: &[u64],
+    contents: &[u8],
+    port: Port,
+    o: CreateOperands,
+) -> Outcome
+    requires { ⌜ SoundCard (card info (now flags) (now keys) (now counts) (now pointers) (now windows) (now contents)) ⌝ }
+    ensures { λ r. ⌜ Is (performSound port (card info (now (flags .entry)) (now (keys .entry)) (now (counts .entry)) (now (pointers .entry)) (now (windows .entry)) (now (contents .entry))) (request (Create o) [] [] [])) (r .answer) (card (r .info) (now (flags .entry)) (now (keys .entry)) (now (counts .exit)) (now (pointers .exit)) (now (windows .entry)) (now (contents .entry))) [] [] ⌝ }
+{
+    match create_check(
+        info,
+        flags,
+        keys,
+        counts,
+        pointers,
+        windows,
+        contents,
+        port,
+        o,
+    ) {
+        Checked::Refused(why) => outcomes::refused(info, why),
+        Checked::Passed => {
+            let left = add_pointer(info, counts, pointers, o.source, o.destination);
+            outcomes::done(left)
+        }
+    }
+}
+
+// ---- DELETE
+
+// The checks of DELETE.
+fn delete_check(
+    info: Info,
+    flags: &[u8],
+    keys: &[u64],
+    counts: &[u16],
+    pointers: &[u32],
+    windows: &[u64],
+    contents: &[u8],
+    port: Port,
+    o: DeleteOperands,
+) -> Checked
+    requires { ⌜ SoundCard (card info (now flags) (now keys) (now counts) (now pointers) (now windows) (now contents)) ⌝ }
+    ensures { λ r. ⌜ r ≡ checked port (card info (now (flags .entry)) (now (keys .entry)) (now (counts .entry)) (now (pointers .entry)) (now (windows .entry)) (now (contents .entry))) (request (Delete o) [] [] []) ⌝ }
+{
+    let credential = o.credential;
+    let from = o.source as usize;
+    let to = o.destination as usize;
+    if access::missing(info, flags, from) {
+        return Checked::Refused(Refusal::NotAllocated);
+    }
+    if access::missing(info, flags, to) {
+        return Checked::Refused(Refusal::NotAllocated);
+    }
+    if access::root_at_host(port, info, from) {
+        return Checked::Refused(Refusal::IsRoot);
+    }
+    if !access::admits(
+        port,
+        info,
+        flags,
+        keys,
+        pointers,
+        windows,
+        Mode::Writing,
+        from,
+        credential,
+    ) {
+        return Checked::Refused(Refusal::NotOpened);
+    }
+    if !points_to(info, pointers, o.source, o.destination) {
+        return Checked::Refused(Refusal::NoPointer);
+    }
+    if counts[to] != 1 {
+        return Checked::Passed;
+    }
+    if tables::points_from(pointers, info.used, o.destination) {
+        return Checked::Refused(Refusal::HasPointers);
+    }
+    Checked::Passed
+}
+
+// DELETE on a card that has been audited.
+pub fn delete_sound(
+    info: Info,
+    flags: &mut [u8],
+    keys: &mut [u64],
+    counts: &mut [u16],
+    pointers: &mut [u32],
+    windows: &mut [u64],
+    contents: &[u8],
+    port: Port,
+    o: DeleteOperands,
+) -> Outcome
+    requires { ⌜ SoundCard (card info (now flags) (now keys) (now counts) (now pointers) (now windows) (now contents)) ⌝ }
+    ensures { λ r. ⌜ Is (performSound port (card info (now (flags .entry)) (now (keys .entry)) (now (counts .entry)) (now (pointers .entry)) (now (windows .entry)) (now (contents .entry))) (request (Delete o) [] [] [])) (r .answer) (card (r .info) (now (flags .exit)) (now (keys .exit)) (now (counts .exit)) (now (pointers .exit)) (now (windows .exit)) (now (contents .entry))) [] [] ⌝ }
+{
+    match delete_check(
+        info,
+        flags,
+        keys,
+        counts,
+        pointers,
+        windows,
+        contents,
+        port,
+        o,
+    ) {
+        Checked::Refused(why) => outcomes::refused(info, why),
+        Checked::Passed => {
+            let last = counts[o.destination as usize] == 1;
+            let left = drop_pointer(info, counts, pointers, o.source, o.destination);
+            if last {
+                free_block(flags, keys, windows, o.destination);
+                return Outcome {
+                    answer: Answer::Value(1),
+                    info: left,
+                };
+            }
+            Outcome {
+                answer: Answer::Value(0),
+                info: left,
+            }
+        }
+    }
+}
