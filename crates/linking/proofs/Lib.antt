@@ -1,4 +1,3 @@
 pub mod Points
-pub mod Changes
 pub mod Creating
 pub mod Deleting

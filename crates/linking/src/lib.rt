@@ -9,20 +9,14 @@ use card::Port;
 use card::Refusal;
 use checks::Checked;
 ghost use mathlib.Core.Path.{_≡_};
-ghost use mathlib.Core.List.{List, []};
-ghost use Prim.Native.Nat.{ℕ, _+_, _*_, _≤_, _<_};
-ghost use lib.ListN.{length, getD};
-ghost use Rattle.card.specs.Pointers.{pointer};
+ghost use mathlib.Core.List.{[]};
 ghost use Rattle.card.specs.Card.{card, pointsTo};
 ghost use Rattle.card.specs.SoundnessLaws.{SoundCard};
-ghost use Rattle.card.specs.Plan.{addPointer, dropPointer, freeBlock, replaceKeys, change};
-ghost use Rattle.card.specs.declared.NewKey.the-variants.{Absent};
 ghost use Rattle.card.specs.Promises.{Is};
 ghost use Rattle.card.specs.Session.{request, performSound};
 ghost use Rattle.card.specs.declared.Call.the-variants.{Create, Delete};
-ghost use Rattle.card.specs.declared.Info.{Info};
 ghost use Rattle.checks.specs.Checked.{checked};
-ghost use Rattle.tables.specs.InUse.{Sorted, Addable, Removable};
+ghost use Rattle.tables.specs.InUse.{Sorted};
 
 // The source points to the destination.
 fn points_to(info: Info, pointers: &[u32], source: u16, destination: u16) -> bool
@@ -31,76 +25,6 @@ fn points_to(info: Info, pointers: &[u32], source: u16, destination: u16) -> boo
 {
     let pointer = (source as u32) * 65536 + (destination as u32);
     tables::holds(pointers, info.used, pointer)
-}
-
-// ---- changes
-
-// A pointer more, and its destination counted once more, whatever the other tables hold.
-fn add_pointer(
-    info: Info,
-    counts: &mut [u16],
-    pointers: &mut [u32],
-    source: u16,
-    destination: u16,
-) -> Info
-    requires { ⌜ Addable (now pointers) (info .used) (pointer source destination) ⌝ }
-    requires { ⌜ destination < length (now counts) ⌝ }
-    requires { ⌜ getD (now counts) destination 0 < 65535 ⌝ }
-    ensures { λ r. ⌜ ((flags keys windows contents : List ℕ) → card r flags keys (now (counts .exit)) (now (pointers .exit)) windows contents ≡ change (card info flags keys (now (counts .entry)) (now (pointers .entry)) windows contents) (addPointer source destination)) ⌝ }
-{
-    let at = destination as usize;
-    let pointer = (source as u32) * 65536 + (destination as u32);
-    tables::insert(pointers, info.used, pointer);
-    counts[at] = counts[at] + 1;
-    tables::with_used(info, info.used + 1)
-}
-
-// A pointer less, and its destination counted once less, whatever the other tables hold.
-fn drop_pointer(
-    info: Info,
-    counts: &mut [u16],
-    pointers: &mut [u32],
-    source: u16,
-    destination: u16,
-) -> Info
-    requires { ⌜ Removable (now pointers) (info .used) (pointer source destination) ⌝ }
-    requires { ⌜ destination < length (now counts) ⌝ }
-    requires { ⌜ 1 ≤ getD (now counts) destination 0 ⌝ }
-    requires { ⌜ 1 ≤ info .used ⌝ }
-    ensures { λ r. ⌜ ((flags keys windows contents : List ℕ) → card r flags keys (now (counts .exit)) (now (pointers .exit)) windows contents ≡ change (card info flags keys (now (counts .entry)) (now (pointers .entry)) windows contents) (dropPointer source destination)) ⌝ }
-{
-    let at = destination as usize;
-    let pointer = (source as u32) * 65536 + (destination as u32);
-    tables::remove(pointers, info.used, pointer);
-    counts[at] = counts[at] - 1;
-    tables::with_used(info, info.used - 1)
-}
-
-// The four words of a block's keys become 0.
-fn clear_keys(keys: &mut [u64], block: u16)
-    requires { ⌜ 4 * block + 4 ≤ length (now keys) ⌝ }
-    ensures { λ _. ⌜ now (keys .exit) ≡ replaceKeys (now (keys .entry)) block Absent Absent ⌝ }
-{
-    let at = 4 * (block as usize);
-    keys[at] = 0;
-    keys[at + 1] = 0;
-    keys[at + 2] = 0;
-    keys[at + 3] = 0;
-}
-
-// Flags, keys and windows of a block become 0, whatever the other tables hold.
-fn free_block(flags: &mut [u8], keys: &mut [u64], windows: &mut [u64], block: u16)
-    requires { ⌜ block < length (now flags) ⌝ }
-    requires { ⌜ 4 * block + 4 ≤ length (now keys) ⌝ }
-    requires { ⌜ 2 * block + 2 ≤ length (now windows) ⌝ }
-    ensures { λ _. ⌜ ((info : Info) (counts pointers contents : List ℕ) → card info (now (flags .exit)) (now (keys .exit)) counts pointers (now (windows .exit)) contents ≡ change (card info (now (flags .entry)) (now (keys .entry)) counts pointers (now (windows .entry)) contents) (freeBlock block)) ⌝ }
-{
-    let b = block as usize;
-    let window = 2 * b;
-    flags[b] = 0;
-    windows[window] = 0;
-    windows[window + 1] = 0;
-    clear_keys(keys, block);
 }
 
 // ---- CREATE
@@ -198,7 +122,7 @@ pub fn create_sound(
     ) {
         Checked::Refused(why) => outcomes::refused(info, why),
         Checked::Passed => {
-            let left = add_pointer(info, counts, pointers, o.source, o.destination);
+            let left = changes::add_pointer(info, counts, pointers, o.source, o.destination);
             outcomes::done(left)
         }
     }
@@ -287,9 +211,9 @@ pub fn delete_sound(
         Checked::Refused(why) => outcomes::refused(info, why),
         Checked::Passed => {
             let last = counts[o.destination as usize] == 1;
-            let left = drop_pointer(info, counts, pointers, o.source, o.destination);
+            let left = changes::drop_pointer(info, counts, pointers, o.source, o.destination);
             if last {
-                free_block(flags, keys, windows, o.destination);
+                changes::free_block(flags, keys, windows, o.destination);
                 return Outcome {
                     answer: Answer::Value(1),
                     info: left,

@@ -1,9 +1,9 @@
--- `linking::add_pointer` is the change of the card that adds a pointer.
+-- `changes::add_pointer` is the change of the card that adds a pointer.
 -- Assumes nothing.
-use Rattle.linking.proofs.Changes.{added}
+use Rattle.changes.proofs.Changes.{added}
 use borrow.Author.Needs.{needs}
-use Rattle.linking.proofs.add_pointer.Statement.{statement}
-use Rattle.linking.proofs.add_pointer.Tie as tie
+use Rattle.changes.proofs.add_pointer.Statement.{statement}
+use Rattle.changes.proofs.add_pointer.Tie as tie
 
 mul-pointer : tie.Need-mul-pointer
 mul-pointer c = search needs

@@ -1,11 +1,11 @@
--- `linking::clear_keys` replaces the keys by absent ones.
+-- `changes::clear_keys` replaces the keys by absent ones.
 -- Assumes nothing.
 use native.Mathlib.Omega.{arith}
 use lib.ListN.{length-set}
-use Rattle.linking.proofs.Changes.{keys-cleared}
+use Rattle.changes.proofs.Changes.{keys-cleared}
 use borrow.Author.Needs.{needs}
-use Rattle.linking.proofs.clear_keys.Statement.{statement}
-use Rattle.linking.proofs.clear_keys.Tie as tie
+use Rattle.changes.proofs.clear_keys.Statement.{statement}
+use Rattle.changes.proofs.clear_keys.Tie as tie
 
 mul-at : tie.Need-mul-at
 mul-at c = search needs

@@ -1,9 +1,9 @@
--- `linking::drop_pointer` is the change of the card that drops a pointer.
+-- `changes::drop_pointer` is the change of the card that drops a pointer.
 -- Assumes nothing.
-use Rattle.linking.proofs.Changes.{dropped}
+use Rattle.changes.proofs.Changes.{dropped}
 use borrow.Author.Needs.{needs}
-use Rattle.linking.proofs.drop_pointer.Statement.{statement}
-use Rattle.linking.proofs.drop_pointer.Tie as tie
+use Rattle.changes.proofs.drop_pointer.Statement.{statement}
+use Rattle.changes.proofs.drop_pointer.Tie as tie
 
 mul-pointer : tie.Need-mul-pointer
 mul-pointer c = search needs

@@ -1,11 +1,11 @@
--- `linking::free_block` is the change of the card that frees a block.
+-- `changes::free_block` is the change of the card that frees a block.
 -- Assumes nothing.
 use native.Mathlib.Omega.{arith}
 use lib.ListN.{length-set}
-use Rattle.linking.proofs.Changes.{freed}
+use Rattle.changes.proofs.Changes.{freed}
 use borrow.Author.Needs.{needs}
-use Rattle.linking.proofs.free_block.Statement.{statement}
-use Rattle.linking.proofs.free_block.Tie as tie
+use Rattle.changes.proofs.free_block.Statement.{statement}
+use Rattle.changes.proofs.free_block.Tie as tie
 
 mul-window : tie.Need-mul-window
 mul-window c = search needs
