@@ -45,7 +45,7 @@ turn-halts : (ordinal : ℕ) (c : Card) (xs : List ℕ) → isWent (turn ordinal
 unfolding turn
 turn-halts ordinal c xs e = next-halts ordinal c xs (decode xs) e
 
-is-went : (s : Stop) → isWent s ≡ true → s ≡ Went
+pub is-went : (s : Stop) → isWent s ≡ true → s ≡ Went
 is-went Went e = refl
 is-went Ended e = absurd (mathlib.Core.Bool.false≢true e)
 is-went Short e = absurd (mathlib.Core.Bool.false≢true e)

@@ -51,7 +51,7 @@ fn operands(length: usize) -> usize
 }
 
 // The record of an input that starts at a place, or why there is none.
-fn find(input: &[u8], from: usize) -> Found
+pub fn find(input: &[u8], from: usize) -> Found
     requires { ⌜ from ≤ length (now input) ⌝ }
     ensures { λ r. ⌜ FoundIs (now (input .entry)) from r ⌝ }
 {
@@ -196,7 +196,7 @@ fn play_turn(
     }
 }
 
-fn went(stop: Stop) -> bool
+pub fn went(stop: Stop) -> bool
     ensures { λ r. ⌜ r ≡ isWent stop ⌝ }
 {
     match stop {

@@ -1,0 +1,4 @@
+pub mod Pieces
+pub mod Answered
+pub mod Turns
+pub mod Serving

@@ -1,0 +1,162 @@
+-- The loop of a batch: what it has reached, and what one turn more makes of it.
+-- Assumes nothing.
+use Prim.Native.Nat.{ℕ, suc, _+_, _-_, _≤_, _<_}
+use mathlib.Core.Path.{_≡_, refl, sym, ap, ap₂, _∙_, subst}
+use mathlib.Core.Bool.{true, false, true≢false}
+use mathlib.Core.List.{List, [], _++_, append-assoc}
+use native.Mathlib.Omega.{arith}
+use native.Mathlib.Nat.{sub-zero, zero-add}
+use lib.ListN.{length, drop, length-append, length-drop}
+use Rattle.card.specs.Card.{Card, card}
+use Rattle.card.specs.Soundness.{verdict}
+use Rattle.card.specs.declared.Info.{Info}
+use Rattle.lines.specs.Written.{Written, written-none, written-join, written-length}
+use Rattle.player.specs.Play.{Turn, Play, goOn}
+use Rattle.player.specs.PlayLaws.{behind}
+use Rattle.player.specs.Playing.{PlayedIs, isWent, is-went}
+use Rattle.player.specs.declared.Stop.{Stop}
+use Rattle.player.specs.declared.Stop.the-variants.{Went, Ended, Short, Refused, Full}
+use Rattle.batch.specs.Serve.{turn, serveWithin, serve}
+use Rattle.batch.specs.Served.{TurnIs}
+use Rattle.batch.proofs.Turns.{turn-left, turn-halts, turn-verdict}
+
+-- Some answers are written, and the batch goes on from here, by at most so many turns after the next.
+pub record Serving (c₀ : Card) (xs out₀ : List ℕ) (count : ℕ) (c : Card) (from at : ℕ) (out : List ℕ) : Type 0 where
+  pub done : List ℕ
+  pub most : ℕ
+  pub within : from ≤ length xs
+  pub enough : length xs - from ≤ most
+  pub counted : count ≤ from
+  pub judged : verdict c ≡ verdict c₀
+  pub fits : length done ≤ length out₀
+  pub written : Written out₀ 0 done out at
+  pub total : serve c₀ xs (length out₀) ≡ behind done (serveWithin (suc most) count c (drop from xs) (length out₀ - length done))
+
+-- A turn that did not go ends the batch.
+goOn-halts : (stop : Stop) (t : Turn) (records room : ℕ) (rest : ℕ → Card → List ℕ → ℕ → Play) → isWent stop ≡ false
+    → goOn stop t records rest room ≡ record { stop = stop; lines = []; records = records; after = t .after; left = t .left }
+unfolding goOn
+goOn-halts Went t records room rest e = absurd (true≢false e)
+goOn-halts Ended t records room rest e = refl
+goOn-halts Short t records room rest e = refl
+goOn-halts Refused t records room rest e = refl
+goOn-halts Full t records room rest e = refl
+
+module _ (c₀ : Card) (xs out₀ : List ℕ) where
+  pub serving-none : Serving c₀ xs out₀ 0 c₀ 0 0 out₀
+  unfolding serve
+  serving-none = record {
+    done = [];
+    most = length xs;
+    within = omega arith;
+    enough = omega arith;
+    counted = omega arith;
+    judged = refl;
+    fits = omega arith;
+    written = written-none out₀ 0;
+    total = ap (λ (room : ℕ). serveWithin (suc (length xs)) 0 c₀ xs room) (sym (sub-zero (length out₀)));
+  }
+
+  module _ {count : ℕ} {c : Card} {from at : ℕ} {out : List ℕ} (p : Serving c₀ xs out₀ count c from at out) where
+    kept : length out ≡ length out₀
+    kept = written-length (p .written) (omega (arith, p .fits))
+
+    reached : at ≡ length (p .done)
+    reached = p .written .ends ∙ zero-add (length (p .done))
+
+    pub serving-at : at ≤ length out
+    serving-at = omega (arith, reached, kept, p .fits)
+
+    abbrev room : ℕ
+    room = length out - at
+
+    -- The turn that is tried next.
+    abbrev one : Turn
+    one = turn c (drop from xs) room
+
+    next-turn : serve c₀ xs (length out₀) ≡ behind (p .done) (goOn (one .stop) one count (serveWithin (p .most)) room)
+    unfolding serveWithin
+    next-turn =
+        let same : length out₀ - length (p .done) ≡ room = omega (arith, reached, kept) in
+        p .total ∙ ap (λ (n : ℕ). behind (p .done) (serveWithin (suc (p .most)) count c (drop from xs) n)) same
+
+    module _ {stop : Stop} {after : Card} {next next-at : ℕ} {to : List ℕ} (t : TurnIs one room stop after xs next out at to next-at) where
+      -- The turn did not go: so the batch ends.
+      pub serving-stopped : isWent stop ≡ false → PlayedIs (serve c₀ xs (length out₀)) stop count after xs next out₀ to next-at
+      serving-stopped n =
+          let halts : isWent (one .stop) ≡ false = ap isWent (sym (t .stops)) ∙ n in
+          let e = next-turn ∙ ap (behind (p .done)) (goOn-halts (one .stop) one count room (serveWithin (p .most)) halts) in
+          let nothing : Written out at [] to next-at = subst (λ (bs : List ℕ). Written out at bs to next-at) (turn-halts c (drop from xs) room halts) (t .writes) in
+          rw e
+          (record {
+            stops = t .stops;
+            counts = refl;
+            leaves = t .leaves;
+            rests = t .rests;
+            within = t .within;
+            writes = written-join (p .written) nothing (omega (arith, p .fits));
+          })
+
+      module _ (w : isWent stop ≡ true) where
+        went : one .stop ≡ Went
+        went = sym (t .stops) ∙ is-went stop w
+
+        -- Each record takes a byte at least.
+        pub serving-further : from < next
+        serving-further =
+            let shorter = turn-left c (drop from xs) room went in
+            omega (arith, shorter, ap length (t .rests), length-drop next xs, length-drop from xs, t .within, p .within)
+
+        abbrev fewer : ℕ
+        fewer = p .most - 1
+
+        most-is : p .most ≡ suc fewer
+        most-is = omega (arith, p .enough, serving-further, t .within)
+
+        -- The rest of the batch, as the rule and as the loop have it.
+        abbrev rest : Play
+        rest = serveWithin (suc fewer) (count + 1) (one .after) (one .left) (room - length (one .lines))
+
+        rest-same : rest ≡ serveWithin (suc fewer) (count + 1) after (drop next xs) (length out₀ - length (p .done ++ one .lines))
+        rest-same =
+            let room-left : room - length (one .lines) ≡ length out₀ - length (p .done ++ one .lines) = omega (arith, reached, kept, length-append (p .done) (one .lines)) in
+            ap₂ (λ (d : Card) (ys : List ℕ). serveWithin (suc fewer) (count + 1) d ys (room - length (one .lines))) (sym (t .leaves)) (sym (t .rests))
+            ∙ ap (serveWithin (suc fewer) (count + 1) after (drop next xs)) room-left
+
+        goes-on : goOn (one .stop) one count (serveWithin (p .most)) room ≡ behind (one .lines) rest
+        unfolding goOn
+        goes-on = ap₂ (λ (s : Stop) (m : ℕ). goOn s one count (serveWithin m) room) went most-is
+
+        -- The turn went: its answer stands behind the others.
+        pub serving-more : Serving c₀ xs out₀ (count + 1) after next next-at to
+        serving-more =
+            let long : length (p .done ++ one .lines) ≡ length (p .done) + length (one .lines) = length-append (p .done) (one .lines) in
+            record {
+              done = p .done ++ one .lines;
+              most = fewer;
+              within = t .within;
+              enough = omega (arith, p .enough, serving-further);
+              counted = omega (arith, p .counted, serving-further);
+              judged = ap verdict (t .leaves) ∙ turn-verdict c (drop from xs) room ∙ p .judged;
+              fits = omega (arith, p .fits, t .short, reached, kept);
+              written = written-join (p .written) (t .writes) (omega (arith, p .fits, t .short, reached, kept));
+              total =
+                  next-turn
+                  ∙ ap (behind (p .done)) goes-on
+                  ∙ ap (λ (bs : List ℕ). record { stop = rest .stop; lines = bs; records = rest .records; after = rest .after; left = rest .left }) (sym (append-assoc (p .done) (one .lines) (rest .lines)))
+                  ∙ ap (behind (p .done ++ one .lines)) rest-same;
+            }
+
+-- ---- the loop's invariant
+
+-- The tables and the answers keep their lengths, and the batch has come so far.
+pub record Loop (info₀ : Info) (flags₀ keys₀ counts₀ pointers₀ windows₀ contents₀ input answers₀ : List ℕ)
+    (info : Info) (flags keys counts pointers windows contents answers : List ℕ) (count from at : ℕ) : Type 0 where
+  pub sameFlags : length flags ≡ length flags₀
+  pub sameKeys : length keys ≡ length keys₀
+  pub sameCounts : length counts ≡ length counts₀
+  pub samePointers : length pointers ≡ length pointers₀
+  pub sameWindows : length windows ≡ length windows₀
+  pub sameContents : length contents ≡ length contents₀
+  pub sameAnswers : length answers ≡ length answers₀
+  pub serving : Serving (card info₀ flags₀ keys₀ counts₀ pointers₀ windows₀ contents₀) input answers₀ count (card info flags keys counts pointers windows contents) from at answers

@@ -1,0 +1,83 @@
+-- `batch::answer_call` meets its contract. Assumes nothing.
+use native.Mathlib.Omega.{arith}
+use Rattle.batch.proofs.Answered.{part-within, answer-room, answered}
+use borrow.Author.Needs.{needs}
+use Rattle.batch.proofs.answer_call.Statement.{statement}
+use Rattle.batch.proofs.answer_call.Tie as tie
+
+lent-size-requires : tie.Need-lent-size-requires
+lent-size-requires c κs = search needs
+
+add-start : tie.Need-add-start
+add-start c = search needs
+
+add-end : tie.Need-add-end
+add-end c = omega (arith, part-within (c .before .before .before .before .before .before .before .before .before .args .info .bytes) (c .before .before .before .before .before .before .before .before .before .args .call) (c .before .before .before .before .before .before .before .before .before .args .at) (c .lent-size .ensures) (c .before .before .before .before .before .before .before .before .before .pre .1))
+
+sub-perform-judged : tie.Need-sub-perform-judged
+sub-perform-judged c = search needs
+
+part-perform-judged-start : tie.Need-part-perform-judged-start
+part-perform-judged-start c = search needs
+
+part-perform-judged-end : tie.Need-part-perform-judged-end
+part-perform-judged-end c = part-within (c .before .before .before .before .before .before .before .before .before .before .before .before .before .before .before .args .info .bytes) (c .before .before .before .before .before .before .before .before .before .before .before .before .before .before .before .args .call) (c .before .before .before .before .before .before .before .before .before .before .before .before .before .before .before .args .at) (c .before .before .before .before .before .before .lent-size .ensures) (c .before .before .before .before .before .before .before .before .before .before .before .before .before .before .before .pre .1)
+
+slice-aggregate-perform-judged : tie.Need-slice-aggregate-perform-judged
+slice-aggregate-perform-judged c = search needs
+
+perform-judged-requires : tie.Need-perform-judged-requires
+perform-judged-requires c κs = search needs
+
+slice-aggregate-put-answer : tie.Need-slice-aggregate-put-answer
+slice-aggregate-put-answer c = search needs
+
+put-answer-requires : tie.Need-put-answer-requires
+put-answer-requires c κs = answer-room (c .before .before .before .before .before .before .before .before .before .before .before .before .before .before .before .before .before .before .before .before .before .before .before .before .before .before .before .before .before .before .before .before .before .before .before .args .port) _ (c .before .before .before .before .before .before .before .before .before .before .before .before .before .before .before .before .before .before .before .before .before .before .before .before .before .before .before .before .before .before .before .before .before .before .before .args .call) (c .before .before .before .before .before .before .before .before .before .before .before .before .before .before .before .before .before .before .before .before .before .before .before .before .before .before .before .before .before .before .before .before .before .before .before .args .payload .now) (c .before .before .before .before .before .before .before .before .before .before .before .before .before .before .before .before .before .before .before .before .before .before .before .before .before .before .before .before .before .before .before .before .before .before .before .args .to .now) (c .before .before .before .before .before .before .before .before .before .before .before .before .before .before .before .before .before .before .before .before .before .before .before .before .before .before .before .before .before .before .before .before .before .before .before .args .at) (c .before .before .before .before .before .before .before .before .before .before .before .before .before .before .before .before .before .before .before .before .before .before .before .before .before .before .lent-size .ensures) (c .before .before .before .before .before .before .before .before .before .before .before .before .before .before .before .before .before .before .before .before .before .before .before .before .before .before .before .before .before .before .before .before .before .before .before .pre .1) (c .before .before .before .before .before .before .before .before .before .before .before .before .before .before .before .before .before .perform-judged .ensures) (c .before .before .before .before .before .before .before .before .before .before .before .before .before .before .before .before .before .perform-judged .kept .1 .1 .1 .1 .1 .1 .1 .1 .1 .1 .1 .0) (c .before .before .before .before .before .before .before .before .before .before .before .before .before .before .before .before .before .perform-judged .kept .1 .1 .1 .1 .1 .1 .1 .1 .1 .1 .1 .1 .0)
+
+same-length : tie.Need-same-length
+same-length c = search needs
+
+same-length-2 : tie.Need-same-length-2
+same-length-2 c = search needs
+
+same-length-3 : tie.Need-same-length-3
+same-length-3 c = search needs
+
+same-length-4 : tie.Need-same-length-4
+same-length-4 c = search needs
+
+same-length-5 : tie.Need-same-length-5
+same-length-5 c = search needs
+
+same-length-6 : tie.Need-same-length-6
+same-length-6 c = search needs
+
+same-length-7 : tie.Need-same-length-7
+same-length-7 c = search needs
+
+returns : tie.Need-returns
+returns c = answered (c .before .before .before .before .before .before .before .before .before .before .before .before .before .before .before .before .before .before .before .before .before .before .before .before .before .before .before .before .before .before .before .before .before .before .before .before .before .before .before .args .port) _ (c .before .before .before .before .before .before .before .before .before .before .before .before .before .before .before .before .before .before .before .before .before .before .before .before .before .before .before .before .before .before .before .before .before .before .before .before .before .before .before .args .call) (c .before .before .before .before .before .before .before .before .before .before .before .before .before .before .before .before .before .before .before .before .before .before .before .before .before .before .before .before .before .before .before .before .before .before .before .before .before .before .before .args .payload .now) (c .before .before .before .before .before .before .before .before .before .before .before .before .before .before .before .before .before .before .before .before .before .before .before .before .before .before .before .before .before .before .before .before .before .before .before .before .before .before .before .args .to .now) (c .before .before .before .before .before .before .before .before .before .before .before .before .before .before .before .before .before .before .before .before .before .before .before .before .before .before .before .before .before .before .before .before .before .before .before .before .before .before .before .args .at) (c .before .before .before .before .before .before .before .before .before .before .before .before .before .before .before .before .before .before .before .before .before .before .before .before .before .before .before .before .before .before .lent-size .ensures) (c .before .before .before .before .before .before .before .before .before .before .before .before .before .before .before .before .before .before .before .before .before .before .before .before .before .before .before .before .before .before .before .before .before .before .before .before .before .before .before .pre .1) (c .before .before .before .before .before .before .before .before .before .before .before .before .before .before .before .before .before .before .before .before .before .perform-judged .ensures) (c .before .before .before .before .before .before .before .before .before .before .before .before .before .before .before .before .before .before .before .before .before .perform-judged .kept .1 .1 .1 .1 .1 .1 .1 .1 .1 .1 .1 .0) (c .before .before .before .before .before .before .before .before .before .before .before .before .before .before .before .before .before .before .before .before .before .perform-judged .kept .1 .1 .1 .1 .1 .1 .1 .1 .1 .1 .1 .1 .0) (c .before .before .before .put-answer .ensures)
+
+pub answer-call-spec : {M : Type 1} → statement M
+answer-call-spec =
+    tie.close
+    (tie.spec
+    lent-size-requires
+    add-start
+    add-end
+    sub-perform-judged
+    part-perform-judged-start
+    part-perform-judged-end
+    slice-aggregate-perform-judged
+    perform-judged-requires
+    slice-aggregate-put-answer
+    put-answer-requires
+    same-length
+    same-length-2
+    same-length-3
+    same-length-4
+    same-length-5
+    same-length-6
+    same-length-7
+    returns)

@@ -1,0 +1,45 @@
+-- `batch::lent_size` meets its contract. Assumes nothing.
+use Rattle.batch.specs.Serve.{lentSize}
+use Rattle.batch.proofs.Pieces.{lent-whole, lent-none}
+use borrow.Author.Needs.{needs}
+use Rattle.batch.proofs.lent_size.Statement.{statement}
+use Rattle.batch.proofs.lent_size.Tie as tie
+
+shown-by-requires : tie.Need-shown-by-requires
+shown-by-requires c κs = search needs
+
+enum-told : tie.Need-enum-told
+enum-told c = search needs
+
+enum-told-2 : tie.Need-enum-told-2
+enum-told-2 c = search needs
+
+enum-told-3 : tie.Need-enum-told-3
+enum-told-3 c = search needs
+
+returns : tie.Need-returns
+unfolding lentSize
+returns c = search needs
+
+returns-2 : tie.Need-returns-2
+returns-2 c = lent-whole (c .before .before .before .before .before .args .info .bytes) (c .before .before .before .before .before .args .call) (c .before .before .before .before .shown-by .ensures) (c .before .before .enum-told2 .given .1) (c .if1 .taken)
+
+returns-3 : tie.Need-returns-3
+returns-3 c = lent-none (c .before .before .before .before .before .args .info .bytes) (c .before .before .before .before .before .args .call) (c .before .before .before .before .shown-by .ensures) (c .before .before .enum-told2 .given .1) (c .if1 .left)
+
+returns-4 : tie.Need-returns-4
+unfolding lentSize
+returns-4 c = search needs
+
+pub lent-size-spec : {M : Type 1} → statement M
+lent-size-spec =
+    tie.close
+    (tie.spec
+    shown-by-requires
+    enum-told
+    enum-told-2
+    enum-told-3
+    returns
+    returns-2
+    returns-3
+    returns-4)

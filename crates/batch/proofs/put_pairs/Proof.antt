@@ -1,0 +1,65 @@
+-- `batch::put_pairs` meets its contract. Assumes nothing.
+use borrow.Author.Needs.{needs}
+use native.Mathlib.Omega.{arith}
+use Prim.Native.Nat.{_-_}
+use mathlib.Core.Path.{refl}
+use lib.ListN.{length, take}
+use Rattle.lines.specs.LinesLaws.{filling-none}
+use Rattle.batch.specs.Serve.{pairs}
+use Rattle.batch.proofs.Pieces.{Pairing, pairing-more, pairing-done}
+use Rattle.batch.proofs.put_pairs.Statement.{statement}
+use Rattle.batch.proofs.put_pairs.Tie as tie
+
+abbrev Inv-loop : tie.InvT-loop
+Inv-loop to₀ at values next₀ i₀ to next i = Pairing values to₀ at to next i
+
+abbrev μ-loop : tie.MeasureT-loop
+μ-loop to₀ at values next₀ i₀ to next i = length values - i
+
+loop-holds : tie.Need-loop-holds Inv-loop μ-loop
+unfolding pairs
+loop-holds c = filling-none 2 (length (c .before .before .args .values .now)) (λ k. pairs (take k (c .before .before .args .values .now))) _ _ refl (c .before .before .pre)
+
+mul-of-place : tie.Need-mul-of-place Inv-loop μ-loop
+mul-of-place c = search needs
+
+shared-slice-read-of-place : tie.Need-shared-slice-read-of-place Inv-loop μ-loop
+shared-slice-read-of-place c = search needs
+
+of-place-requires : tie.Need-of-place-requires Inv-loop μ-loop
+of-place-requires c κs = tt
+
+put-big-endian-requires : tie.Need-put-big-endian-requires Inv-loop μ-loop
+put-big-endian-requires c κs = omega (arith, c .before .before .before .before .loop .inv .room, c .before .before .before .loop-test .taken)
+
+add-i : tie.Need-add-i Inv-loop μ-loop
+add-i c = search needs
+
+loop-less : tie.Need-loop-less Inv-loop μ-loop
+loop-less c = search needs
+
+loop-again : tie.Need-loop-again Inv-loop μ-loop
+loop-again c = pairing-more (c .before .before .before .before .before .before .before .before .before .before .args .values .now) (c .before .before .before .before .before .before .before .before .before .before .args .to .now) (c .before .before .before .before .before .before .before .before .before .before .args .at) (c .before .before .before .before .before .before .before .loop .inv) (c .before .before .before .before .before .before .loop-test .taken) (c .before .before .before .of-place .ensures) (c .before .before .put-big-endian .ensures)
+
+same-length : tie.Need-same-length Inv-loop μ-loop
+same-length c = c .before .loop .inv .kept
+
+returns : tie.Need-returns Inv-loop μ-loop
+returns c = pairing-done (c .before .before .before .before .args .values .now) (c .before .loop .inv) (c .loop-test .left)
+
+pub put-pairs-spec : {M : Type 1} → statement M
+put-pairs-spec =
+    tie.close
+    (tie.spec
+    Inv-loop
+    μ-loop
+    loop-holds
+    mul-of-place
+    shared-slice-read-of-place
+    of-place-requires
+    put-big-endian-requires
+    add-i
+    loop-less
+    loop-again
+    same-length
+    returns)

@@ -1,0 +1,309 @@
+// Call records served on lent tables at the price of one audit: each answer goes into a lent buffer.
+// What comes of it is what auditing before every call makes of it.
+use card::Answer;
+use card::Call;
+use card::Info;
+use card::Port;
+use card::Verdict;
+use lines::Shown;
+use player::Found;
+use player::Part;
+use player::Stop;
+use player::Turned;
+use player::Wrote;
+ghost use Prim.Native.Nat.{_+_, _-_, _*_, _≤_};
+ghost use lib.ListN.{length, take, drop};
+ghost use mathlib.Core.Path.{_≡_};
+ghost use Rattle.card.specs.Card.{card};
+ghost use Rattle.card.specs.Soundness.{verdict};
+ghost use Rattle.fields.specs.Bytes.{bytes};
+ghost use Rattle.lines.specs.Replied.{replied};
+ghost use Rattle.lines.specs.Written.{Written};
+ghost use Rattle.player.specs.Playing.{PlayedIs};
+ghost use Rattle.batch.specs.Serve.{pairs, shownBytes, answerBytes, lentSize, answerRoom, served, turn, serve};
+ghost use Rattle.batch.specs.Served.{AnsweredIs, TurnIs};
+
+// ---- the room for an answer
+
+// As many bytes as READ is lent; no other call is lent any.
+fn lent_size(info: Info, call: Call) -> usize
+    ensures { λ r. ⌜ r ≡ lentSize (info .bytes) call ⌝ }
+{
+    match lines::shown_by(call) {
+        Shown::Nothing => 0,
+        Shown::Bytes => if info.bytes <= 65536 { info.bytes } else { 0 },
+        Shown::Blocks(_) => 0,
+    }
+}
+
+// The room that is kept for the answer to a call.
+fn room_of(info: Info, call: Call) -> usize
+    ensures { λ r. ⌜ r ≡ answerRoom (info .bytes) call ⌝ }
+{
+    match call {
+        Call::Read(_) => 1 + lent_size(info, call),
+        Call::Write(_) => 1,
+        Call::Alloc(_) => 129,
+        Call::Create(_) => 1,
+        Call::Delete(_) => 9,
+        Call::Key(_) => 1,
+        Call::Renew(_) => 1,
+        Call::Force(_) => 1,
+        Call::Free => 9,
+        Call::Tick(_) => 9,
+        Call::Audit => 1,
+    }
+}
+
+// ---- the bytes of an answer
+
+// A number in so many bytes, big-endian.
+fn put_big_endian(to: &mut [u8], at: usize, width: usize, n: u64) -> usize
+    requires { ⌜ at + width ≤ length (now to) ⌝ }
+    ensures { λ r. ⌜ Written (now (to .entry)) at (bytes width n) (now (to .exit)) r ⌝ }
+{
+    if width == 0 {
+        at
+    } else {
+        let next = put_big_endian(to, at, width - 1, n / 256);
+        lines::put_byte(to, next, (n % 256) as u8)
+    }
+}
+
+fn of_place(x: u16) -> u64
+    ensures { λ r. ⌜ r ≡ x ⌝ }
+{
+    x as u64
+}
+
+// Each number of a table in 2 bytes.
+fn put_pairs(to: &mut [u8], at: usize, values: &[u16]) -> usize
+    requires { ⌜ at + 2 * length (now values) ≤ length (now to) ⌝ }
+    ensures { λ r. ⌜ Written (now (to .entry)) at (pairs (now (values .entry))) (now (to .exit)) r ⌝ }
+{
+    let mut next = at;
+    let mut i = 0;
+    while i < values.len() {
+        next = put_big_endian(to, next, 2, of_place(values[i]));
+        i += 1;
+    }
+    next
+}
+
+// The first so many numbers of a table, or all.
+fn put_first(to: &mut [u8], at: usize, values: &[u16], count: usize) -> usize
+    requires { ⌜ at + length (pairs (take count (now values))) ≤ length (now to) ⌝ }
+    ensures { λ r. ⌜ Written (now (to .entry)) at (pairs (take count (now (values .entry)))) (now (to .exit)) r ⌝ }
+{
+    if count < values.len() {
+        put_pairs(to, at, &values[..count])
+    } else {
+        put_pairs(to, at, values)
+    }
+}
+
+// What a done call left in a buffer: READ's bytes, which stand here already, or ALLOC's numbers.
+fn put_shown(to: &mut [u8], at: usize, shown: Shown, size: usize, places: &[u16]) -> usize
+    requires { ⌜ at + size ≤ length (now to) ⌝ ∗ ⌜ at + length (shownBytes shown (take size (drop at (now to))) (now places)) ≤ length (now to) ⌝ }
+    ensures { λ r. ⌜ Written (now (to .entry)) at (shownBytes shown (take size (drop at (now (to .entry)))) (now (places .entry))) (now (to .exit)) r ⌝ }
+{
+    match shown {
+        Shown::Nothing => at,
+        Shown::Bytes => at + size,
+        Shown::Blocks(n) => put_first(to, at, places, n as usize),
+    }
+}
+
+// The answer to a call. READ's bytes stand behind the place of the number already.
+fn put_answer(
+    to: &mut [u8],
+    at: usize,
+    call: Call,
+    answer: Answer,
+    size: usize,
+    places: &[u16],
+) -> usize
+    requires { ⌜ at + 1 + size ≤ length (now to) ⌝ ∗ ⌜ at + length (answerBytes call (replied answer (take size (drop (at + 1) (now to))) (now places))) ≤ length (now to) ⌝ }
+    ensures { λ r. ⌜ Written (now (to .entry)) at (answerBytes call (replied answer (take size (drop (at + 1) (now (to .entry)))) (now (places .entry)))) (now (to .exit)) r ⌝ }
+{
+    match answer {
+        Answer::Refused(r) => put_big_endian(to, at, 1, lines::refusal_number(r)),
+        Answer::Done => {
+            let next = put_big_endian(to, at, 1, 0);
+            put_shown(to, next, lines::shown_by(call), size, places)
+        }
+        Answer::Value(v) => {
+            let next = put_big_endian(to, at, 1, 0);
+            put_big_endian(to, next, 8, v)
+        }
+    }
+}
+
+// ---- one record
+
+// One call on a card of which the verdict is known, and its answer. READ is lent the part of the buffer where its bytes belong.
+fn answer_call(
+    found: Verdict,
+    info: Info,
+    flags: &mut [u8],
+    keys: &mut [u64],
+    counts: &mut [u16],
+    pointers: &mut [u32],
+    windows: &mut [u64],
+    contents: &mut [u8],
+    port: Port,
+    call: Call,
+    payload: &[u8],
+    to: &mut [u8],
+    at: usize,
+) -> Wrote
+    requires { ⌜ found ≡ verdict (card info (now flags) (now keys) (now counts) (now pointers) (now windows) (now contents)) ⌝ ∗ ⌜ at + answerRoom (info .bytes) call ≤ length (now to) ⌝ }
+    ensures { λ r. ⌜ AnsweredIs call (served port (card info (now (flags .entry)) (now (keys .entry)) (now (counts .entry)) (now (pointers .entry)) (now (windows .entry)) (now (contents .entry))) call (now (payload .entry))) (answerRoom (info .bytes) call) (card (r .info) (now (flags .exit)) (now (keys .exit)) (now (counts .exit)) (now (pointers .exit)) (now (windows .exit)) (now (contents .exit))) (now (to .entry)) at (now (to .exit)) (r .at) ⌝ }
+{
+    let mut places = [0u16; 64];
+    let size = lent_size(info, call);
+    let start = at + 1;
+    let end = start + size;
+    let outcome = controller::perform_judged(
+        found,
+        info,
+        flags,
+        keys,
+        counts,
+        pointers,
+        windows,
+        contents,
+        port,
+        call,
+        payload,
+        &mut to[start..end],
+        &mut places,
+    );
+    let answer = outcome.answer;
+    let next = put_answer(to, at, call, answer, size, &places);
+    let left = outcome.info;
+    Wrote {
+        info: left,
+        at: next,
+    }
+}
+
+// The record of an input that starts at a place, served; or why it is not.
+fn serve_turn(
+    found: Verdict,
+    info: Info,
+    flags: &mut [u8],
+    keys: &mut [u64],
+    counts: &mut [u16],
+    pointers: &mut [u32],
+    windows: &mut [u64],
+    contents: &mut [u8],
+    input: &[u8],
+    from: usize,
+    to: &mut [u8],
+    at: usize,
+) -> Turned
+    requires { ⌜ found ≡ verdict (card info (now flags) (now keys) (now counts) (now pointers) (now windows) (now contents)) ⌝ ∗ ⌜ from ≤ length (now input) ⌝ ∗ ⌜ at ≤ length (now to) ⌝ }
+    ensures { λ r. ⌜ TurnIs (turn (card info (now (flags .entry)) (now (keys .entry)) (now (counts .entry)) (now (pointers .entry)) (now (windows .entry)) (now (contents .entry))) (drop from (now (input .entry))) (length (now (to .entry)) - at)) (length (now (to .entry)) - at) (r .stop) (card (r .info) (now (flags .exit)) (now (keys .exit)) (now (counts .exit)) (now (pointers .exit)) (now (windows .exit)) (now (contents .exit))) (now (input .entry)) (r .from) (now (to .entry)) at (now (to .exit)) (r .at) ⌝ }
+{
+    let sent = player::find(input, from);
+    match sent {
+        Found::Nothing(stop) => Turned {
+            stop,
+            info,
+            from,
+            at,
+        },
+        Found::Whole(r) => {
+            let start = r.payload;
+            let next = r.next;
+            let port = r.port;
+            let call = r.call;
+            let room = room_of(info, call);
+            if to.len() - at < room {
+                return Turned {
+                    stop: Stop::Full,
+                    info,
+                    from,
+                    at,
+                };
+            }
+            let wrote = answer_call(
+                found,
+                info,
+                flags,
+                keys,
+                counts,
+                pointers,
+                windows,
+                contents,
+                port,
+                call,
+                &input[start..next],
+                to,
+                at,
+            );
+            let left = wrote.info;
+            Turned {
+                stop: Stop::Went,
+                info: left,
+                from: next,
+                at: wrote.at,
+            }
+        }
+    }
+}
+
+// ---- an input
+
+// Serves an input, record after record, as long as there is room for the answer. The card is audited once.
+pub fn serve(
+    info: Info,
+    flags: &mut [u8],
+    keys: &mut [u64],
+    counts: &mut [u16],
+    pointers: &mut [u32],
+    windows: &mut [u64],
+    contents: &mut [u8],
+    input: &[u8],
+    answers: &mut [u8],
+) -> Part
+    ensures { λ r. ⌜ PlayedIs (serve (card info (now (flags .entry)) (now (keys .entry)) (now (counts .entry)) (now (pointers .entry)) (now (windows .entry)) (now (contents .entry))) (now (input .entry)) (length (now (answers .entry)))) (r .stop) (r .records) (card (r .info) (now (flags .exit)) (now (keys .exit)) (now (counts .exit)) (now (pointers .exit)) (now (windows .exit)) (now (contents .exit))) (now (input .entry)) (r .read) (now (answers .entry)) (now (answers .exit)) (r .written) ⌝ }
+{
+    let found = audit::audit(info, flags, keys, counts, pointers, windows, contents);
+    let mut left = info;
+    let mut count = 0;
+    let mut from = 0;
+    let mut at = 0;
+    loop {
+        let turned = serve_turn(
+            found,
+            left,
+            flags,
+            keys,
+            counts,
+            pointers,
+            windows,
+            contents,
+            input,
+            from,
+            answers,
+            at,
+        );
+        let stop = turned.stop;
+        left = turned.info;
+        from = turned.from;
+        at = turned.at;
+        if player::went(stop) {
+            count += 1;
+        } else {
+            return Part {
+                stop,
+                info: left,
+                records: count,
+                read: from,
+                written: at,
+            };
+        }
+    }
+}
