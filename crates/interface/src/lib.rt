@@ -5,10 +5,13 @@ use card::ForceOperands;
 use card::Port;
 use card::RenewOperands;
 use card::TickOperands;
+use player::Stop;
 use records::Decoding;
+ghost use mathlib.Core.Path.{_≡_};
 ghost use mathlib.Core.List.{[]};
 ghost use Rattle.card.specs.Card.{card};
 ghost use Rattle.operands.specs.Operands.{recordOf, credentialOf, newKeyOf, atPort, readOf, writeOf, allocOf, createOf, deleteOf, keyOf};
+ghost use Rattle.interface.specs.Batch.{stopNumber, left, BatchIs};
 ghost use Rattle.adapter.specs.Effects.{effect, formatEffect, recordEffect, Does, Gives};
 
 // ---- the calls, by their operands
@@ -504,4 +507,60 @@ pub extern "C" fn negvask_serve(
         places,
         value,
     )
+}
+
+// ---- a batch of call records
+
+// Why a batch stopped.
+fn stop_number(stop: Stop) -> u32
+    ensures { λ r. ⌜ r ≡ stopNumber stop ⌝ }
+{
+    match stop {
+        Stop::Went => 0,
+        Stop::Ended => 0,
+        Stop::Short => 14,
+        Stop::Refused => 13,
+        Stop::Full => 15,
+    }
+}
+
+// The records of an input served into `answers`, with one audit: how many, and how far both went.
+#[no_mangle]
+pub extern "C" fn negvask_batch(
+    info: &mut [u64],
+    flags: &mut [u8],
+    keys: &mut [u64],
+    counts: &mut [u16],
+    pointers: &mut [u32],
+    windows: &mut [u64],
+    contents: &mut [u8],
+    input: &[u8],
+    answers: &mut [u8],
+    records: &mut u64,
+    read: &mut u64,
+    written: &mut u64,
+) -> u32
+    ensures { λ r. ⌜ BatchIs (left (now (info .entry)) (now (flags .entry)) (now (keys .entry)) (now (counts .entry)) (now (pointers .entry)) (now (windows .entry)) (now (contents .entry)) (now (answers .entry)) (now (records .entry)) (now (read .entry)) (now (written .entry))) (now (input .entry)) r (left (now (info .exit)) (now (flags .exit)) (now (keys .exit)) (now (counts .exit)) (now (pointers .exit)) (now (windows .exit)) (now (contents .exit)) (now (answers .exit)) (now (records .exit)) (now (read .exit)) (now (written .exit))) ⌝ }
+{
+    if info.len() != 5 {
+        return 1;
+    }
+    let part = batch::serve(
+        operands::load(info),
+        flags,
+        keys,
+        counts,
+        pointers,
+        windows,
+        contents,
+        input,
+        answers,
+    );
+    let after = part.info;
+    let stop = part.stop;
+    operands::store(info, after);
+    *records = part.records;
+    *read = part.read as u64;
+    *written = part.written as u64;
+    stop_number(stop)
 }
