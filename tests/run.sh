@@ -1,7 +1,7 @@
 #!/usr/bin/env bash
 # Builds the tests against the library's archive and runs them: one line each, exit status 1 if one fails.
 #
-#   tests/run.sh [ARCHIVE]              differential test and example host
+#   tests/run.sh [ARCHIVE]              differential test and the examples in C
 #   tests/run.sh [ARCHIVE] --benchmark  the benchmark's table instead
 #
 # ARCHIVE: target/staticlib/libinterface.a unless given. Needs rustc and a C compiler, no crates.
@@ -45,11 +45,13 @@ else
 	failed=1
 fi
 
-if ${CC:-cc} -std=c99 -Wall -Wextra -pedantic -Werror -O2 -I include examples/host.c "$work/libnegvask.a" -o "$work/host" &&
-	"$work/host" > "$work/host.out" && diff examples/host.expected "$work/host.out"; then
-	echo "example host: passed"
-else
-	echo "example host: FAILED"
-	failed=1
-fi
+for example in host batch; do
+	if ${CC:-cc} -std=c99 -Wall -Wextra -pedantic -Werror -O2 -I include "examples/$example.c" "$work/libnegvask.a" -o "$work/$example" &&
+		"$work/$example" > "$work/$example.out" && diff "examples/$example.expected" "$work/$example.out"; then
+		echo "example $example: passed"
+	else
+		echo "example $example: FAILED"
+		failed=1
+	fi
+done
 exit $failed
