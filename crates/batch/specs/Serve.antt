@@ -1,5 +1,5 @@
 -- A batch of call records: the card that it leaves and the bytes of its answers, every call with its own audit.
-use Prim.Native.Nat.{ℕ, zero, suc, _+_}
+use Prim.Native.Nat.{ℕ, zero, suc, _+_, _*_}
 use mathlib.Core.Bool.{cond}
 use mathlib.Core.List.{List, [], _∷_, _++_}
 use lib.Dec.{ltb, leb}
@@ -65,14 +65,14 @@ lentPlaces = 64
 unfoldable pub answerRoom : ℕ → Call → ℕ
 answerRoom size (Read o) = 1 + lentSize size (Read o)
 answerRoom size (Write o) = 1
-answerRoom size (Alloc o) = 129
+answerRoom size (Alloc o) = 1 + 2 * lentPlaces
 answerRoom size (Create o) = 1
-answerRoom size (Delete o) = 9
+answerRoom size (Delete o) = 1 + 8
 answerRoom size (Key o) = 1
 answerRoom size (Renew o) = 1
 answerRoom size (Force o) = 1
-answerRoom size Free = 9
-answerRoom size (Tick o) = 9
+answerRoom size Free = 1 + 8
+answerRoom size (Tick o) = 1 + 8
 answerRoom size Audit = 1
 
 -- ---- one record

@@ -1,0 +1,87 @@
+-- Batches, and what the rule makes of them: rows of one table, shown by one proof that is computed.
+-- Assumes nothing.
+use Prim.Native.Nat.{ℕ}
+use mathlib.Core.Path.{_≡_, refl}
+use mathlib.Core.List.{List, [], _∷_, _++_, map}
+use lib.ListN.{length}
+use Rattle.card.specs.Contents.{zeros}
+use Rattle.card.specs.Card.{Card}
+use Rattle.card.specs.Trials.{rules, blankCard, playerCard}
+use Rattle.records.specs.Bytes.{number, bytes, zeroed}
+use Rattle.records.specs.Kinds.{row, dataLength, names, kindNumber, lengthOf, operandsLength, among, kindOf, kindLength, bodyLength}
+use Rattle.records.specs.Decode.{credential, newKey, withCredential, createWith, keyWith, decodeCall, decodeKnown, decodeBody, nameOf, dataOf, nextOf, decode}
+use Rattle.player.specs.Play.{Play, goOn, isShort, fault}
+use Rattle.player.specs.declared.Stop.{Stop}
+use Rattle.player.specs.declared.Stop.the-variants.{Ended, Short, Refused, Full}
+use Rattle.batch.specs.Serve.{pairs, answerBytes, lentSize, answerRoom, served, turnOf, turn, serveWithin, serve}
+
+-- ---- records in bytes
+
+abbrev nothing : List ℕ
+nothing = zeros 17
+
+-- ALLOC at root 0 at the service port, no hint, count 2.
+abbrev alloc : List ℕ
+alloc = 131 ∷ 0 ∷ 0 ∷ (nothing ++ (255 ∷ 255 ∷ 2 ∷ []))
+
+-- A host's READ by nothing, interval 0.
+abbrev read : ℕ → List ℕ
+read b = 1 ∷ 0 ∷ b ∷ (nothing ++ zeros 4)
+
+-- DELETE of the pointer from root 0 at the service port.
+abbrev delete : ℕ → List ℕ
+delete b = 133 ∷ 0 ∷ 0 ∷ (nothing ++ (0 ∷ b ∷ []))
+
+abbrev free : List ℕ
+free = 9 ∷ []
+
+abbrev tick : ℕ → List ℕ
+tick n = 10 ∷ (zeros 7 ++ (n ∷ []))
+
+abbrev audit : List ℕ
+audit = 11 ∷ []
+
+-- ---- the table
+
+-- What is told of a batch: why it stopped, the answers, the records served, and how many bytes of the input are left.
+pub record Told : Type 0 where
+  pub stop : Stop
+  pub answers : List ℕ
+  pub records : ℕ
+  pub left : ℕ
+
+abbrev told : Play → Told
+told p = record { stop = p .stop; answers = p .lines; records = p .records; left = length (p .left) }
+
+-- A card, an input and the room for its answers, and what is told of it.
+pub record Sample : Type 0 where
+  pub start : Card
+  pub input : List ℕ
+  pub room : ℕ
+  pub gives : Told
+
+abbrev sample : Card → List ℕ → ℕ → Stop → List ℕ → ℕ → ℕ → Sample
+sample start input room stop answers records left = record { start = start; input = input; room = room; gives = record { stop = stop; answers = answers; records = records; left = left } }
+
+unfoldable pub table : List Sample
+table =
+    sample playerCard [] 0 Ended [] 0 0
+    -- blocks 1 and 2, refusal 5, 13 blocks free, the bytes of block 0, the time 10, block 2 freed, and no result
+    ∷ sample playerCard (alloc ++ (read 1 ++ (free ++ (read 0 ++ (tick 10 ++ (delete 2 ++ audit)))))) 1000 Ended
+    (0 ∷ 0 ∷ 1 ∷ 0 ∷ 2 ∷ 5 ∷ 0 ∷ (zeros 7 ++ (13 ∷ 0 ∷ (zeros 512 ++ (0 ∷ (zeros 7 ++ (10 ∷ 0 ∷ (zeros 7 ++ (1 ∷ 0 ∷ []))))))))) 7 0
+    -- READ wants 513 bytes of room, whatever it answers; with one less the record is left
+    ∷ sample playerCard (free ++ read 1) 522 Ended (0 ∷ (zeros 7 ++ (15 ∷ 3 ∷ []))) 2 0
+    ∷ sample playerCard (free ++ read 1) 521 Full (0 ∷ (zeros 7 ++ (15 ∷ []))) 1 24
+    -- a body cut short, and another kind
+    ∷ sample playerCard (audit ++ (10 ∷ 0 ∷ [])) 100 Short (0 ∷ []) 1 2
+    ∷ sample playerCard (audit ++ (12 ∷ 0 ∷ [])) 100 Refused (0 ∷ []) 1 2
+    -- before FORMAT the card is unsound, and every call is refused 2
+    ∷ sample blankCard (free ++ (read 0 ++ tick 10)) 600 Ended (2 ∷ 2 ∷ 2 ∷ []) 3 0
+    ∷ []
+
+abbrev found : Sample → Told
+found s = told (serve (s .start) (s .input) (s .room))
+
+pub samples-hold : map found table ≡ map (λ s. s .gives) table
+unfolding rules playerCard number bytes zeroed row dataLength names kindNumber lengthOf operandsLength among kindOf kindLength bodyLength credential newKey withCredential createWith keyWith decodeCall decodeKnown decodeBody nameOf dataOf nextOf decode goOn isShort fault pairs answerBytes lentSize answerRoom served turnOf turn serveWithin serve table
+samples-hold = refl
