@@ -7,9 +7,10 @@ use lib.ListN.{length}
 use Rattle.card.specs.Contents.{zeros}
 use Rattle.card.specs.Card.{Card}
 use Rattle.card.specs.Trials.{rules, blankCard, playerCard}
-use Rattle.records.specs.Bytes.{number, bytes, zeroed}
-use Rattle.records.specs.Kinds.{row, dataLength, names, kindNumber, lengthOf, operandsLength, among, kindOf, kindLength, bodyLength}
-use Rattle.records.specs.Decode.{credential, newKey, withCredential, createWith, keyWith, decodeCall, decodeKnown, decodeBody, nameOf, dataOf, nextOf, decode}
+use Rattle.fields.specs.Bytes.{number, bytes, zeroed}
+use Rattle.kinds.specs.Kinds.{row, dataLength, names, kindNumber, lengthOf, operandsLength, among, kindOf, kindLength, bodyLength}
+use Rattle.fields.specs.Fields.{credential, newKey}
+use Rattle.records.specs.Decode.{withCredential, createWith, keyWith, decodeCall, decodeKnown, decodeBody, nameOf, dataOf, nextOf, decode}
 use Rattle.player.specs.Play.{Play, goOn, isShort, fault}
 use Rattle.player.specs.declared.Stop.{Stop}
 use Rattle.player.specs.declared.Stop.the-variants.{Ended, Short, Refused, Full}
