@@ -4,15 +4,19 @@
 //! and blocks, then the call's own work with binary search and block moves. The floor is what no version can
 //! undercut by much: one addition for every word of the tables but contents, and the copy or fill of the call.
 //! The model is the differential test's, built for release: it favours plain rules over speed.
-//! Times are the best of many batches, taken in turns; none is asserted.
+//! Call records are served by `negvask_batch`, with one audit, beside `negvask_serve`, with one for each.
+//! Times are the best of many rounds, taken in turns; none is asserted.
 
 #[allow(dead_code)]
 mod library;
 #[allow(dead_code)]
 mod model;
 
-use library::{Direct, LentBuffers, RawCredential, RawNewKey, Tables};
-use model::{ends, word, Buffers, Call, Card, Credential, Key, Port, ALLOCATED, DAY, READ_KEY, TIME_END, WRITE_KEY};
+use library::{Direct, LentBatch, LentBuffers, RawCredential, RawNewKey, Tables};
+use model::{
+    ends, word, Buffers, Call, Card, Credential, Key, Port, Progress, ALLOCATED, DAY, READ_KEY, TIME_END, WRITE_KEY,
+};
+use std::cell::RefCell;
 use std::collections::BTreeSet;
 use std::hint::black_box;
 use std::time::{Duration, Instant};
@@ -432,6 +436,151 @@ fn model_time(card: &Card, before: &[&Direct], call: &Direct) -> f64 {
     best.min().unwrap().as_nanos() as f64
 }
 
+// ---- Batches of call records ----
+
+/// Records in a batch of the table.
+const BATCH: usize = 1_000;
+
+/// Records in the batches of which the growth is shown.
+const BATCHES: [usize; 3] = [100, 1_000, 10_000];
+
+/// At least so many times the records a second of call by call, for READ at full size.
+const BATCH_TARGET: f64 = 100.0;
+
+/// Call records that are done and leave the card as it was.
+struct Load {
+    records: Vec<(u8, Vec<u8>)>,
+    lent: RefCell<LentBatch>,
+}
+
+/// The calls as records with ample room for their answers, once the batch is seen to answer as call by call.
+fn load(side: &mut Side, calls: impl Iterator<Item = Direct>) -> Load {
+    let records: Vec<_> = calls.map(|call| call.record().expect("a call with a record")).collect();
+    let (mut input, mut expected) = (Vec::new(), Vec::new());
+    for (kind, body) in &records {
+        input.push(*kind);
+        input.extend(body);
+        expected.push(side.tables.serve(*kind, body, &mut side.buffers) as u8);
+        match kind {
+            1 => expected.extend(side.buffers.out.values()),
+            5 => expected.extend(side.buffers.value.values()[0].to_be_bytes()),
+            _ => {}
+        }
+    }
+    let room = expected.len() + 1_024;
+    expected.resize(room, 0);
+    let mut lent = LentBatch::new(&input, &vec![0; room], Progress::default());
+    done(side.tables.batch(&mut lent));
+    let (served, read, written) = (records.len() as u64, input.len() as u64, room as u64 - 1_024);
+    let progress = Progress { records: served, read, written };
+    assert_eq!(lent.difference(&input, &expected, progress), None, "the batch answers otherwise");
+    assert_eq!(side.tables.difference(&side.plain), None, "the records have changed the card");
+    Load { records, lent: RefCell::new(lent) }
+}
+
+/// READs by key, of one block after the other.
+fn reads(card: &Card, count: usize) -> impl Iterator<Item = Direct> {
+    let keyed: Vec<u16> = (2..card.blocks()).filter(|&b| card.flags[b] & READ_KEY != 0).map(|b| b as u16).collect();
+    let credential = RawCredential::from(Credential::Key(READER));
+    (0..count).map(move |i| Direct::Read { port: 0, block: keyed[i % keyed.len()], credential, interval: 0 })
+}
+
+/// Of every eight records four READ, two WRITE what stands there, one CREATE and one DELETE that undoes it.
+fn mixed(card: &Card, count: usize) -> impl Iterator<Item = Direct> {
+    let key = RawCredential::from(Credential::Key(WRITER));
+    let data = card.contents[..512].to_vec();
+    let mut blocks = reads(card, count);
+    let mut pointed = 0;
+    (0..count).map(move |i| {
+        let Some(Direct::Read { block, .. }) = blocks.next() else { unreachable!() };
+        match i % 8 {
+            1 | 5 => Direct::Write { port: 0, block, credential: key, interval: 0, data: data.clone() },
+            3 => {
+                pointed = block;
+                let (source, destination) = (1, block);
+                Direct::Create { port: 0, source, source_credential: key, destination, destination_credential: key }
+            }
+            7 => Direct::Delete { port: 0, source: 1, credential: key, destination: pointed },
+            _ => Direct::Read { port: 0, block, credential: key, interval: 0 },
+        }
+    })
+}
+
+fn batch_time(side: &mut Side, load: &Load) -> Duration {
+    let lent = &mut *load.lent.borrow_mut();
+    timed(|| done(side.tables.batch(lent)))
+}
+
+/// The records timed together call by call, so that a slow moment spoils few of them, as it spoils one batch.
+const SLICE: usize = 10;
+
+/// The best time of the batch, and the sum of the best times of the slices, in turns; nanoseconds a record.
+fn batch_and_single(side: &mut Side, load: &Load) -> [f64; 2] {
+    let mut batch = Duration::MAX;
+    let mut slices = vec![Duration::MAX; load.records.chunks(SLICE).len()];
+    let start = Instant::now();
+    let mut rounds = 0;
+    while rounds < 10 || (start.elapsed() < SHARE && rounds < 20_000) {
+        batch = batch_time(side, load).min(batch);
+        for (best, slice) in slices.iter_mut().zip(load.records.chunks(SLICE)) {
+            let time =
+                timed(|| slice.iter().for_each(|(kind, body)| done(side.tables.serve(*kind, body, &mut side.buffers))));
+            *best = time.min(*best);
+        }
+        rounds += 1;
+    }
+    [batch, slices.iter().sum()].map(|d| d.as_nanos() as f64 / load.records.len() as f64)
+}
+
+fn batch_table() {
+    println!("Records a second, {BATCH} records with one audit by negvask_batch and call by call by negvask_serve.");
+    println!();
+    println!("| records | size | N | P | batch | call by call | batch / call by call | target |");
+    println!("| --- | --- | ---: | ---: | ---: | ---: | ---: | ---: |");
+    for name in ["READ", "mixed"] {
+        for size in SIZES {
+            let s = &mut side(size, 1);
+            let card = s.plain.clone();
+            let load = if name == "READ" { load(s, reads(&card, BATCH)) } else { load(s, mixed(&card, BATCH)) };
+            let [batch, single] = batch_and_single(s, &load);
+            assert_eq!(s.tables.difference(&card), None, "the records have changed the card");
+            let ratio = single / batch;
+            let target = match (name, size.name) {
+                ("READ", "full") => format!("{BATCH_TARGET:.0}{}", if ratio < BATCH_TARGET { " (below)" } else { "" }),
+                _ => String::new(),
+            };
+            println!(
+                "| {name} | {} | {} | {} | {:.0} | {:.0} | {ratio:.1} | {target} |",
+                size.name,
+                size.blocks,
+                size.places,
+                1e9 / batch,
+                1e9 / single
+            );
+        }
+    }
+}
+
+fn batch_growth_table() {
+    let s = &mut side(SIZES[2], 0);
+    let card = s.plain.clone();
+    let loads = BATCHES.map(|count| load(s, reads(&card, count)));
+    let works = [0, 1, 2].map(|i| {
+        let load = &loads[i];
+        move |s: &mut Side| batch_time(s, load)
+    });
+    let times = in_turns(s, 1, [&works[0], &works[1], &works[2]]);
+    println!("| READs in a batch, full | microseconds | nanoseconds a record | records grow | time grows |");
+    println!("| ---: | ---: | ---: | ---: | ---: |");
+    for (i, (&count, &time)) in BATCHES.iter().zip(&times).enumerate() {
+        let grown = match i {
+            0 => " | ".to_string(),
+            _ => format!("{:.1} | {:.1}", count as f64 / BATCHES[i - 1] as f64, time / times[i - 1]),
+        };
+        println!("| {count} | {:.0} | {:.0} | {grown} |", time / 1e3, time / count as f64);
+    }
+}
+
 // ---- The stack ----
 
 const STACK: usize = 256 * 1024;
@@ -481,7 +630,19 @@ fn deepest() -> (&'static str, usize) {
         let depth = stack_of(&mut || done(s.tables.call(call, &mut s.buffers)));
         (*name, depth)
     });
-    depths.max_by_key(|(_, depth)| *depth).unwrap()
+    let deepest = depths.max_by_key(|(_, depth)| *depth).unwrap();
+
+    // All of them in one batch.
+    let mut s = side(size, 64);
+    let input: Vec<u8> =
+        calls.iter().filter_map(|(_, call)| call.record()).flat_map(|(k, b)| [vec![k], b].concat()).collect();
+    let mut lent = LentBatch::new(&input, &[0; 2_048], Progress::default());
+    let batch = stack_of(&mut || done(s.tables.batch(&mut lent)));
+    if batch > deepest.1 {
+        ("negvask_batch", batch)
+    } else {
+        deepest
+    }
 }
 
 // ---- The table ----
@@ -640,7 +801,7 @@ fn rows(size: Size) -> Vec<Row> {
 
 fn main() {
     let all: Vec<Row> = SIZES.iter().flat_map(|&size| rows(size)).collect();
-    println!("Nanoseconds a call, best of many batches taken in turns. B is 512.");
+    println!("Nanoseconds a call, best of many rounds taken in turns. B is 512.");
     println!();
     println!(
         "| call | size | N | P | library | plain | model | floor | library / plain | ratio for the target | target |"
@@ -689,6 +850,10 @@ fn main() {
             );
         }
     }
+    println!();
+    batch_table();
+    println!();
+    batch_growth_table();
     let (call, bytes) = deepest();
     println!();
     println!("stack: {bytes} bytes below the caller in the deepest call, {call}, at full size");

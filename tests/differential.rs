@@ -1,14 +1,16 @@
 //! Differential test: the library against the model, call by call.
 //!
-//! Three parts, each on random cards from a printed seed:
+//! Four parts, all but the first on random cards from a printed seed:
 //! - the document's own trials and its example of ten records, by the library;
 //! - random calls by the C functions on one card and as records on another, damaged tables among them; after each,
 //!   the answer, the record, every table, every lent buffer and the memory beside them are compared with the model;
+//! - batches of call records, the model with an audit for each record;
 //! - secrecy: one host session on two cards that differ in hidden and unallocated contents only.
 //!
 //! Options: --calls N --seed S. Exit status 1 on a difference, or at the default size on a pair of call and answer
-//! that can occur and did not.
+//! or a stop of a batch that can occur and did not.
 
+mod batch;
 mod damage;
 mod library;
 mod model;
@@ -17,6 +19,7 @@ mod random_card;
 mod secrecy;
 mod trials;
 
+use batch::{batches, Batches};
 use damage::{damage, DAMAGES, SHAPE_DAMAGES};
 use library::{Direct, LentBuffers, Tables};
 use model::{number, Buffers, Card};
@@ -317,7 +320,47 @@ const ENDS: [(Size, u64); 7] = [
     (Size { blocks: 4_096, roots: 1, bytes: 65_536, places: 16_384 }, 3),
 ];
 
-fn run(calls: u64, seed: u64, reached: &mut Reached, seen: &mut Secrecy) -> Result<(), String> {
+/// Batches on cards at the ends of the ranges: how many, and the most records in each.
+const BATCH_ENDS: [(Size, u64, u64); 4] = [
+    (Size { blocks: 16, roots: 8, bytes: 512, places: 1 }, 20, 60),
+    (Size { blocks: 16, roots: 1, bytes: 65_536, places: 16_384 }, 20, 20),
+    (Size { blocks: 64, roots: 2, bytes: 1_024, places: 200 }, 20, 60),
+    (Size { blocks: 4_096, roots: 1, bytes: 512, places: 16_384 }, 2, 8),
+];
+
+fn run_batches(count: u64, seed: u64, whole: bool, seen: &mut Batches) -> Result<(), String> {
+    let mut card = 0;
+    let mut next = |size: Option<(Size, u64, u64)>, seen: &mut Batches| {
+        card += 1;
+        let mut rnd = Random(seed.wrapping_mul(9_000_011).wrapping_add(card));
+        let (size, batches_here, most) = size.unwrap_or_else(|| {
+            let size = random_size(&mut rnd);
+            let heavy = size.blocks > 100 || size.bytes > 1_024 || size.places > 2_000;
+            (size, if heavy { 1 } else { 4 }, if heavy { 15 } else { 70 })
+        });
+        batches(&mut rnd, size, batches_here, most, seen).map_err(|e| {
+            format!("batch card {card} (N {}, R {}, B {}, P {}), {e}", size.blocks, size.roots, size.bytes, size.places)
+        })
+    };
+    for &end in BATCH_ENDS.iter().filter(|_| whole) {
+        next(Some(end), seen)?;
+    }
+    while seen.batches < count {
+        next(None, seen)?;
+    }
+    println!(
+        "batch: {} batches ({} of them on damaged tables) on {} cards, {} records ({} done), stops: {}, no difference",
+        seen.batches,
+        seen.damaged,
+        seen.cards,
+        seen.records,
+        seen.done,
+        seen.stops()
+    );
+    Ok(())
+}
+
+fn run(calls: u64, seed: u64, reached: &mut Reached, batched: &mut Batches, seen: &mut Secrecy) -> Result<(), String> {
     let rows = trials()?;
     println!("trials of the document: {rows} of {rows} as written");
     let whole = calls >= DEFAULT_CALLS;
@@ -339,6 +382,7 @@ fn run(calls: u64, seed: u64, reached: &mut Reached, seen: &mut Secrecy) -> Resu
         })?;
     }
     println!("differential: {} calls on {card} cards, each by function and by record, no difference", reached.calls);
+    run_batches(calls / 50, seed, whole, batched)?;
     for session in 0..calls / 100 {
         let mut rnd = Random(seed.wrapping_mul(7_000_003).wrapping_add(session));
         secrecy(&mut rnd, seen).map_err(|e| format!("session {session}, {e}"))?;
@@ -365,12 +409,13 @@ fn main() {
         }
     }
     println!("seed {seed}, {calls} calls");
-    let (mut reached, mut seen) = (Reached::default(), Secrecy::default());
-    if let Err(report) = run(calls, seed, &mut reached, &mut seen) {
+    let (mut reached, mut batched, mut seen) = (Reached::default(), Batches::default(), Secrecy::default());
+    if let Err(report) = run(calls, seed, &mut reached, &mut batched, &mut seen) {
         println!("DIFFERENCE with --calls {calls} --seed {seed}: {report}");
         std::process::exit(1);
     }
     let mut missing = reached.table();
+    missing.extend(batched.missing());
     if seen.hidden == 0 || seen.freed == 0 || seen.reads == 0 {
         missing.push("secrecy: no hidden block, none freed or no READ done".to_string());
     }

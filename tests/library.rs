@@ -1,6 +1,6 @@
 //! The library's C interface as Rust sees it: lent tables with guards around them, and every call with raw operands.
 
-use crate::model::{Buffers, Call, Card, Credential, Key, Port};
+use crate::model::{Buffers, Call, Card, Credential, Key, Port, Progress};
 
 /// Declares functions that all begin with the record and the six tables.
 macro_rules! library {
@@ -41,6 +41,8 @@ library! {
     negvask_tick(seconds: u64, value: *mut u64);
     negvask_serve(kind: u8, body: *const u8, body_len: usize, out: *mut u8, out_len: usize,
                   places: *mut u16, places_len: usize, value: *mut u64);
+    negvask_batch(input: *const u8, input_len: usize, answers: *mut u8, answers_len: usize,
+                  records: *mut u64, read: *mut u64, written: *mut u64);
 }
 
 const GUARDS: usize = 16;
@@ -213,6 +215,37 @@ impl LentBuffers {
     }
 }
 
+/// Input, answers and the three numbers of a batch as lent to the library.
+pub struct LentBatch {
+    pub input: Lent<u8>,
+    pub answers: Lent<u8>,
+    pub records: Lent<u64>,
+    pub read: Lent<u64>,
+    pub written: Lent<u64>,
+}
+
+impl LentBatch {
+    pub fn new(input: &[u8], answers: &[u8], numbers: Progress) -> Self {
+        let number = |value| Lent::new(&[value], 0xA5A5_A5A5_A5A5_A5A5);
+        LentBatch {
+            input: Lent::new(input, 0xA5),
+            answers: Lent::new(answers, 0xA5),
+            records: number(numbers.records),
+            read: number(numbers.read),
+            written: number(numbers.written),
+        }
+    }
+
+    /// The first place where they are not as the model has them.
+    pub fn difference(&self, input: &[u8], answers: &[u8], numbers: Progress) -> Option<String> {
+        differs("records", &self.records, &[numbers.records])
+            .or_else(|| differs("read", &self.read, &[numbers.read]))
+            .or_else(|| differs("written", &self.written, &[numbers.written]))
+            .or_else(|| differs("answers", &self.answers, answers))
+            .or_else(|| differs("input", &self.input, input))
+    }
+}
+
 fn differs<T: Copy + PartialEq + std::fmt::Debug>(name: &str, library: &Lent<T>, model: &[T]) -> Option<String> {
     if !library.guards_kept() {
         return Some(format!("memory beside {name} was written to"));
@@ -374,6 +407,21 @@ impl Tables {
             lent.places.pointer(),
             lent.places.length(),
             lent.value.pointer()
+        )
+    }
+
+    /// The records of an input with one audit.
+    pub fn batch(&mut self, lent: &mut LentBatch) -> u32 {
+        with_tables!(
+            negvask_batch,
+            self,
+            lent.input.pointer(),
+            lent.input.length(),
+            lent.answers.pointer(),
+            lent.answers.length(),
+            lent.records.pointer(),
+            lent.read.pointer(),
+            lent.written.pointer()
         )
     }
 }

@@ -25,6 +25,10 @@ pub const NO_PLACE: u32 = 11;
 pub const CLOCK: u32 = 12;
 pub const MALFORMED: u32 = 13;
 
+/// Why a batch stops, besides its end and a malformed record.
+pub const CUT_SHORT: u32 = 14;
+pub const NO_ROOM: u32 = 15;
+
 /// What a call answers: done, or the refusal's number.
 pub type Answer = Result<(), u32>;
 
@@ -660,5 +664,110 @@ pub fn serve(card: &mut Card, kind: u8, body: &[u8], lent: &mut Buffers) -> Answ
     match decode(kind, body) {
         None => Err(MALFORMED),
         Some((port, call)) => card.perform(port, &call, lent),
+    }
+}
+
+// ---- Batches of call records ----
+
+/// The length of a record's body by its kind; None for a kind that does not exist.
+pub fn body_length(kind: u8) -> Option<usize> {
+    match kind {
+        1 | 129 => Some(23),
+        2 | 130 => Some(535),
+        3 | 131 => Some(22),
+        4 | 132 => Some(38),
+        5 | 133 => Some(21),
+        6 | 134 => Some(53),
+        7 => Some(23),
+        8 => Some(2),
+        9 | 11 => Some(0),
+        10 => Some(8),
+        _ => None,
+    }
+}
+
+/// The record at the front of an input.
+pub struct Record {
+    pub kind: u8,
+    pub port: Port,
+    pub call: Call,
+    /// With the byte of its kind.
+    pub length: usize,
+}
+
+/// The next record, or why a batch stops here.
+pub fn next_record(input: &[u8]) -> Result<Record, u32> {
+    let Some((&kind, rest)) = input.split_first() else { return Err(0) };
+    let length = body_length(kind).ok_or(MALFORMED)?;
+    let body = rest.get(..length).ok_or(CUT_SHORT)?;
+    let (port, call) = decode(kind, body).ok_or(MALFORMED)?;
+    Ok(Record { kind, port, call, length: length + 1 })
+}
+
+/// The bytes that a batch lends to READ.
+fn lent_bytes(card: &Card) -> usize {
+    if card.info[2] > 65_536 {
+        0
+    } else {
+        card.bytes()
+    }
+}
+
+/// The room that must be left before a batch performs the call.
+pub fn answer_room(card: &Card, call: &Call) -> usize {
+    match call {
+        Call::Read { .. } => 1 + lent_bytes(card),
+        Call::Alloc { .. } => 1 + 2 * 64,
+        Call::Delete { .. } | Call::Free | Call::Tick { .. } => 1 + 8,
+        _ => 1,
+    }
+}
+
+/// Performs the call; its answer as a batch writes it.
+pub fn answer_bytes(card: &mut Card, port: Port, call: &Call) -> Vec<u8> {
+    let mut lent = Buffers { out: vec![0; lent_bytes(card)], places: vec![0; 64], value: 0 };
+    let number = number(card.perform(port, call, &mut lent));
+    let mut bytes = vec![number as u8];
+    if number == 0 {
+        match call {
+            Call::Read { .. } => bytes.extend(&lent.out),
+            Call::Alloc { count, .. } => {
+                bytes.extend(lent.places[..*count as usize].iter().flat_map(|p| p.to_be_bytes()))
+            }
+            Call::Delete { .. } | Call::Free | Call::Tick { .. } => bytes.extend(lent.value.to_be_bytes()),
+            _ => {}
+        }
+    }
+    bytes
+}
+
+/// How far a batch went.
+#[derive(Clone, Copy, Debug, PartialEq, Default)]
+pub struct Progress {
+    pub records: u64,
+    pub read: u64,
+    pub written: u64,
+}
+
+/// Serves the records of an input, each with its own audit; why it stopped.
+pub fn batch(card: &mut Card, input: &[u8], answers: &mut [u8], progress: &mut Progress) -> u32 {
+    if card.info.len() != 5 {
+        return SHAPE;
+    }
+    *progress = Progress::default();
+    loop {
+        let record = match next_record(&input[progress.read as usize..]) {
+            Ok(record) => record,
+            Err(stop) => return stop,
+        };
+        let left = &mut answers[progress.written as usize..];
+        if left.len() < answer_room(card, &record.call) {
+            return NO_ROOM;
+        }
+        let answer = answer_bytes(card, record.port, &record.call);
+        left[..answer.len()].copy_from_slice(&answer);
+        progress.records += 1;
+        progress.read += record.length as u64;
+        progress.written += answer.len() as u64;
     }
 }

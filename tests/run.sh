@@ -38,7 +38,7 @@ if [ "$mode" = benchmark ]; then
 fi
 
 if build differential && "$work/differential" > "$work/differential.out"; then
-	echo "differential test: passed ($(grep -E '^(differential|secrecy):' "$work/differential.out" | paste -sd ';' | sed 's/;/; /'))"
+	echo "differential test: passed ($(grep -E '^(differential|batch|secrecy):' "$work/differential.out" | paste -sd ';' | sed 's/;/; /g'))"
 else
 	grep -A3 -E '^(DIFFERENCE|not reached)' "$work/differential.out" 2>/dev/null
 	echo "differential test: FAILED"
