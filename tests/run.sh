@@ -1,8 +1,8 @@
 #!/usr/bin/env bash
 # Builds the tests against the library's archive and runs them: one line each, exit status 1 if one fails.
 #
-#   tests/run.sh [ARCHIVE]              differential test and the examples in C
-#   tests/run.sh [ARCHIVE] --benchmark  the benchmark's table instead
+#   tests/run.sh [ARCHIVE] [--calls N] [--seed S]   differential test and the examples in C
+#   tests/run.sh [ARCHIVE] --benchmark              the benchmark's tables instead
 #
 # ARCHIVE: target/staticlib/libinterface.a unless given. Needs rustc and a C compiler, no crates.
 set -uo pipefail
@@ -10,11 +10,17 @@ cd "$(dirname "$0")/.."
 
 archive=target/staticlib/libinterface.a
 mode=tests
-for word in "$@"; do
-	case $word in
+options=()
+while [ $# -gt 0 ]; do
+	case $1 in
 		--benchmark) mode=benchmark ;;
-		*) archive=$word ;;
+		--calls | --seed)
+			options+=("$1" "${2:-}")
+			shift
+			;;
+		*) archive=$1 ;;
 	esac
+	shift
 done
 if [ ! -f "$archive" ]; then
 	echo "tests: no archive $archive (make it with: rt staticlib interface)" >&2
@@ -37,7 +43,7 @@ if [ "$mode" = benchmark ]; then
 	exit
 fi
 
-if build differential && "$work/differential" > "$work/differential.out"; then
+if build differential && "$work/differential" "${options[@]}" > "$work/differential.out"; then
 	echo "differential test: passed ($(grep -E '^(differential|batch|secrecy):' "$work/differential.out" | paste -sd ';' | sed 's/;/; /g'))"
 else
 	grep -A3 -E '^(DIFFERENCE|not reached)' "$work/differential.out" 2>/dev/null
