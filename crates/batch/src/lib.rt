@@ -70,12 +70,6 @@ fn put_big_endian(to: &mut [u8], at: usize, width: usize, n: u64) -> usize
     }
 }
 
-fn of_place(x: u16) -> u64
-    ensures { λ r. ⌜ r ≡ x ⌝ }
-{
-    x as u64
-}
-
 // Each number of a table in 2 bytes.
 fn put_pairs(to: &mut [u8], at: usize, values: &[u16]) -> usize
     requires { ⌜ at + 2 * length (now values) ≤ length (now to) ⌝ }
@@ -84,7 +78,7 @@ fn put_pairs(to: &mut [u8], at: usize, values: &[u16]) -> usize
     let mut next = at;
     let mut i = 0;
     while i < values.len() {
-        next = put_big_endian(to, next, 2, of_place(values[i]));
+        next = put_big_endian(to, next, 2, lines::of_block(values[i]));
         i += 1;
     }
     next

@@ -48,7 +48,7 @@ fn of_byte(x: u8) -> u64
     x as u64
 }
 
-fn of_block(x: u16) -> u64
+pub fn of_block(x: u16) -> u64
     ensures { λ r. ⌜ r ≡ x ⌝ }
 {
     x as u64

@@ -20,14 +20,14 @@ loop-holds : tie.Need-loop-holds Inv-loop μ-loop
 unfolding pairs
 loop-holds c = filling-none 2 (length (c .before .before .args .values .now)) (λ k. pairs (take k (c .before .before .args .values .now))) _ _ refl (c .before .before .pre)
 
-mul-of-place : tie.Need-mul-of-place Inv-loop μ-loop
-mul-of-place c = search needs
+mul-of-block : tie.Need-mul-of-block Inv-loop μ-loop
+mul-of-block c = search needs
 
-shared-slice-read-of-place : tie.Need-shared-slice-read-of-place Inv-loop μ-loop
-shared-slice-read-of-place c = search needs
+shared-slice-read-of-block : tie.Need-shared-slice-read-of-block Inv-loop μ-loop
+shared-slice-read-of-block c = search needs
 
-of-place-requires : tie.Need-of-place-requires Inv-loop μ-loop
-of-place-requires c κs = tt
+of-block-requires : tie.Need-of-block-requires Inv-loop μ-loop
+of-block-requires c κs = tt
 
 put-big-endian-requires : tie.Need-put-big-endian-requires Inv-loop μ-loop
 put-big-endian-requires c κs = omega (arith, c .before .before .before .before .loop .inv .room, c .before .before .before .loop-test .taken)
@@ -39,7 +39,7 @@ loop-less : tie.Need-loop-less Inv-loop μ-loop
 loop-less c = search needs
 
 loop-again : tie.Need-loop-again Inv-loop μ-loop
-loop-again c = pairing-more (c .before .before .before .before .before .before .before .before .before .before .args .values .now) (c .before .before .before .before .before .before .before .before .before .before .args .to .now) (c .before .before .before .before .before .before .before .before .before .before .args .at) (c .before .before .before .before .before .before .before .loop .inv) (c .before .before .before .before .before .before .loop-test .taken) (c .before .before .before .of-place .ensures) (c .before .before .put-big-endian .ensures)
+loop-again c = pairing-more (c .before .before .before .before .before .before .before .before .before .before .args .values .now) (c .before .before .before .before .before .before .before .before .before .before .args .to .now) (c .before .before .before .before .before .before .before .before .before .before .args .at) (c .before .before .before .before .before .before .before .loop .inv) (c .before .before .before .before .before .before .loop-test .taken) (c .before .before .before .of-block .ensures) (c .before .before .put-big-endian .ensures)
 
 same-length : tie.Need-same-length Inv-loop μ-loop
 same-length c = c .before .loop .inv .kept
@@ -54,9 +54,9 @@ put-pairs-spec =
     Inv-loop
     μ-loop
     loop-holds
-    mul-of-place
-    shared-slice-read-of-place
-    of-place-requires
+    mul-of-block
+    shared-slice-read-of-block
+    of-block-requires
     put-big-endian-requires
     add-i
     loop-less
