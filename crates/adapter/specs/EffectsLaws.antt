@@ -10,7 +10,7 @@ use lib.Dec.{eqb}
 use lib.ListN.{length, take, drop}
 use borrow.Author.Tests.{eq-eqb, ne-eqb}
 use Rattle.card.specs.Card.{Card, card}
-use Rattle.card.specs.Plan.{Plan, Buffers, settle, changes, judge}
+use Rattle.card.specs.Plan.{Plan, Buffers, Result, settle, changes, judge}
 use Rattle.card.specs.Calls.{refusalNumber, answerNumber, format, freePlan, auditPlan}
 use Rattle.card.specs.Promises.{Is}
 use Rattle.card.specs.Session.{request, plan, perform}
@@ -28,7 +28,7 @@ use Rattle.records.specs.DecodeLaws.{OfKind, decoded-kind}
 use Rattle.records.specs.declared.Decoding.{Decoding}
 use Rattle.records.specs.declared.Decoding.the-variants.{Decoded, Bad}
 use Rattle.operands.specs.Operands.{recordOf, numbersOf}
-use Rattle.adapter.specs.Effects.{Effect, valueAfter, effect, formatEffect, dataSize, dataFrom, dataIn, recordEffect, Does, Gives}
+use Rattle.adapter.specs.Effects.{Effect, valueAfter, effectOf, effect, formatEffect, dataSize, dataFrom, dataIn, recordEffect, Does, Gives}
 
 pub refusal-small : (r : Refusal) → refusalNumber r ≤ 13
 refusal-small Misshapen = omega arith
@@ -57,6 +57,21 @@ module _ (info : List ℕ) (c : Card) (input out places : List ℕ) (value : ℕ
   effect-record e n =
       rw (e, ne-eqb (length info) 5 n) (record { does = record { answers = refl; records = refl; leaves = refl; fillsOut = refl; fillsPlaces = refl }; gives = refl })
 
+-- What a rule's result comes to, once its answer is reported and the record stored.
+reported : {want : Result} (value : ℕ) (left : Info) (flags keys counts pointers windows contents : List ℕ) {answer : Answer} {number given : ℕ} {numbers out places : List ℕ}
+    → Is want answer (card left flags keys counts pointers windows contents) out places → numbers ≡ numbersOf left → number ≡ answerNumber answer → given ≡ valueAfter answer value
+    → Gives (effectOf want value) number given numbers (card (recordOf numbers) flags keys counts pointers windows contents) out places
+reported value left flags keys counts pointers windows contents i s a g = record {
+  does = record {
+    answers = a ∙ ap answerNumber (i .answers);
+    records = s ∙ ap (λ (after : Card). numbersOf (after .public .info)) (i .leaves);
+    leaves = ap (λ (xs : List ℕ). card (recordOf xs) flags keys counts pointers windows contents) s ∙ i .leaves;
+    fillsOut = i .fillsOut;
+    fillsPlaces = i .fillsPlaces;
+  };
+  gives = g ∙ ap (λ (r : Answer). valueAfter r value) (i .answers);
+}
+
 -- The call was performed on the record that was loaded, and its answer reported.
 module _ (info flags keys counts pointers windows contents input out places : List ℕ) (value : ℕ) {d : Decoding} {port : Port} {call : Call} where
   pub effect-called : {loaded : Info} (left : Info) (flags' keys' counts' pointers' windows' contents' : List ℕ) {answer : Answer} {number given : ℕ} {numbers out' places' : List ℕ}
@@ -68,17 +83,7 @@ module _ (info flags keys counts pointers windows contents input out places : Li
   effect-called left flags' keys' counts' pointers' windows' contents' {answer} {out' = out'} {places' = places'} e n l j s a g =
       let i : Is (perform port (card (recordOf info) flags keys counts pointers windows contents) (request call input out places)) answer (card left flags' keys' counts' pointers' windows' contents') out' places' =
       subst (λ (o : Info). Is (perform port (card o flags keys counts pointers windows contents) (request call input out places)) answer (card left flags' keys' counts' pointers' windows' contents') out' places') l j in
-      rw (e, eq-eqb (length info) 5 n)
-      (record {
-        does = record {
-          answers = a ∙ ap answerNumber (i .answers);
-          records = s ∙ ap (λ (after : Card). numbersOf (after .public .info)) (i .leaves);
-          leaves = ap (λ (xs : List ℕ). card (recordOf xs) flags' keys' counts' pointers' windows' contents') s ∙ i .leaves;
-          fillsOut = i .fillsOut;
-          fillsPlaces = i .fillsPlaces;
-        };
-        gives = g ∙ ap (λ (r : Answer). valueAfter r value) (i .answers);
-      })
+      rw (e, eq-eqb (length info) 5 n) (reported value left flags' keys' counts' pointers' windows' contents' i s a g)
 
 -- ---- buffers that are not lent
 
@@ -157,14 +162,7 @@ module _ (blocks roots bytes : ℕ) (info : List ℕ) where
   formatted flags keys counts pointers windows contents left flags' keys' counts' pointers' windows' contents' {answer} n l j s a =
       let i : Is (format blocks roots bytes (card (recordOf info) flags keys counts pointers windows contents)) answer (card left flags' keys' counts' pointers' windows' contents') [] [] =
       subst (λ (o : Info). Is (format blocks roots bytes (card o flags keys counts pointers windows contents)) answer (card left flags' keys' counts' pointers' windows' contents') [] []) l j in
-      rw (eq-eqb (length info) 5 n)
-      (record {
-        answers = a ∙ ap answerNumber (i .answers);
-        records = s ∙ ap (λ (after : Card). numbersOf (after .public .info)) (i .leaves);
-        leaves = ap (λ (xs : List ℕ). card (recordOf xs) flags' keys' counts' pointers' windows' contents') s ∙ i .leaves;
-        fillsOut = i .fillsOut;
-        fillsPlaces = i .fillsPlaces;
-      })
+      rw (eq-eqb (length info) 5 n) (reported 0 left flags' keys' counts' pointers' windows' contents' i s a refl .does)
 
 -- ---- a call record
 
