@@ -11,11 +11,11 @@ use Rattle.card.specs.Card.{Card, card}
 use Rattle.card.specs.Soundness.{verdict}
 use Rattle.card.specs.declared.Info.{Info}
 use Rattle.lines.specs.Written.{Written, written-none, written-join, written-length}
-use Rattle.player.specs.Play.{Turn, Play, goOn}
-use Rattle.player.specs.PlayLaws.{behind}
-use Rattle.player.specs.Playing.{PlayedIs, isWent, is-went}
-use Rattle.player.specs.declared.Stop.{Stop}
-use Rattle.player.specs.declared.Stop.the-variants.{Went, Ended, Short, Refused, Full}
+use Rattle.input.specs.Play.{Turn, Play, goOn}
+use Rattle.input.specs.PlayLaws.{behind}
+use Rattle.input.specs.Played.{PlayedIs, isWent, is-went}
+use Rattle.input.specs.declared.Stop.{Stop}
+use Rattle.input.specs.declared.Stop.the-variants.{Went, Ended, Short, Refused, Full}
 use Rattle.batch.specs.Serve.{turn, serveWithin, serve}
 use Rattle.batch.specs.Served.{TurnIs}
 use Rattle.batch.proofs.Turns.{turn-left, turn-halts, turn-verdict}

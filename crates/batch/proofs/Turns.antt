@@ -16,15 +16,15 @@ use Rattle.card.specs.declared.Call.{Call}
 use Rattle.records.specs.Decode.{Next, ended, refused, sent, decode}
 use Rattle.records.specs.DecodeLaws.{decode-shorter}
 use Rattle.lines.specs.Written.{written-none}
-use Rattle.player.specs.Play.{Turn, halted, fault}
-use Rattle.player.specs.PlayLaws.{fault-stops}
-use Rattle.player.specs.Playing.{isWent}
-use Rattle.player.specs.Found.{WholeIs, NothingIs, FoundIs}
-use Rattle.player.specs.declared.Stop.{Stop}
-use Rattle.player.specs.declared.Stop.the-variants.{Went, Ended, Short, Refused, Full}
-use Rattle.player.specs.declared.Record.{Record}
-use Rattle.player.specs.declared.Found.{Found}
-use Rattle.player.specs.declared.Found.the-variants.{Whole, Nothing}
+use Rattle.input.specs.Play.{Turn, halted, fault}
+use Rattle.input.specs.PlayLaws.{fault-stops}
+use Rattle.input.specs.Played.{isWent}
+use Rattle.input.specs.Found.{WholeIs, NothingIs, FoundIs}
+use Rattle.input.specs.declared.Stop.{Stop}
+use Rattle.input.specs.declared.Stop.the-variants.{Went, Ended, Short, Refused, Full}
+use Rattle.input.specs.declared.Record.{Record}
+use Rattle.input.specs.declared.Found.{Found}
+use Rattle.input.specs.declared.Found.the-variants.{Whole, Nothing}
 use Rattle.batch.specs.Serve.{answerBytes, answerRoom, served, answering, turnOf, turn}
 use Rattle.batch.specs.Served.{AnsweredIs, TurnIs}
 use Rattle.batch.proofs.Answered.{verdict-kept}

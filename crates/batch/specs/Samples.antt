@@ -11,9 +11,9 @@ use Rattle.fields.specs.Bytes.{number, bytes, zeroed}
 use Rattle.kinds.specs.Kinds.{row, dataLength, names, kindNumber, lengthOf, operandsLength, among, kindOf, kindLength, bodyLength}
 use Rattle.fields.specs.Fields.{credential, newKey}
 use Rattle.records.specs.Decode.{withCredential, createWith, keyWith, decodeCall, decodeKnown, decodeBody, nameOf, dataOf, nextOf, decode}
-use Rattle.player.specs.Play.{Play, goOn, isShort, fault}
-use Rattle.player.specs.declared.Stop.{Stop}
-use Rattle.player.specs.declared.Stop.the-variants.{Ended, Short, Refused, Full}
+use Rattle.input.specs.Play.{Play, goOn, isShort, fault}
+use Rattle.input.specs.declared.Stop.{Stop}
+use Rattle.input.specs.declared.Stop.the-variants.{Ended, Short, Refused, Full}
 use Rattle.batch.specs.Serve.{pairs, answerBytes, lentSize, answerRoom, served, turnOf, turn, serveWithin, serve}
 
 -- ---- records in bytes

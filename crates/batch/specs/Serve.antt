@@ -19,8 +19,8 @@ use Rattle.records.specs.Decode.{Next, ended, refused, sent, decode}
 use Rattle.lines.specs.Replied.{shownBy}
 use Rattle.lines.specs.declared.Shown.{Shown}
 use Rattle.lines.specs.declared.Shown.the-variants.{Nothing, Bytes, Blocks}
-use Rattle.player.specs.Play.{Turn, halted, fault, Play, goOn}
-use Rattle.player.specs.declared.Stop.the-variants.{Went, Ended, Full}
+use Rattle.input.specs.Play.{Turn, halted, fault, Play, goOn}
+use Rattle.input.specs.declared.Stop.the-variants.{Went, Ended, Full}
 
 -- ---- the bytes of an answer
 

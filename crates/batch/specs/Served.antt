@@ -8,8 +8,8 @@ use Rattle.card.specs.Plan.{Result}
 use Rattle.card.specs.Session.{reply}
 use Rattle.card.specs.declared.Call.{Call}
 use Rattle.lines.specs.Written.{Written}
-use Rattle.player.specs.Play.{Turn}
-use Rattle.player.specs.declared.Stop.{Stop}
+use Rattle.input.specs.Play.{Turn}
+use Rattle.input.specs.declared.Stop.{Stop}
 use Rattle.batch.specs.Serve.{answerBytes}
 
 -- A call's answer stands at its place and takes at most the room.

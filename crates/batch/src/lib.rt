@@ -6,11 +6,11 @@ use card::Info;
 use card::Port;
 use card::Verdict;
 use lines::Shown;
-use player::Found;
-use player::Part;
-use player::Stop;
-use player::Turned;
-use player::Wrote;
+use input::Found;
+use input::Part;
+use input::Stop;
+use input::Turned;
+use input::Wrote;
 ghost use Prim.Native.Nat.{_+_, _-_, _*_, _≤_};
 ghost use lib.ListN.{length, take, drop};
 ghost use mathlib.Core.Path.{_≡_};
@@ -19,7 +19,7 @@ ghost use Rattle.card.specs.Soundness.{verdict};
 ghost use Rattle.fields.specs.Bytes.{bytes};
 ghost use Rattle.lines.specs.Replied.{replied};
 ghost use Rattle.lines.specs.Written.{Written};
-ghost use Rattle.player.specs.Playing.{PlayedIs};
+ghost use Rattle.input.specs.Played.{PlayedIs};
 ghost use Rattle.batch.specs.Serve.{pairs, shownBytes, answerBytes, lentSize, answerRoom, served, turn, serve};
 ghost use Rattle.batch.specs.Served.{AnsweredIs, TurnIs};
 
@@ -200,7 +200,7 @@ fn serve_turn(
     requires { ⌜ found ≡ verdict (card info (now flags) (now keys) (now counts) (now pointers) (now windows) (now contents)) ⌝ ∗ ⌜ from ≤ length (now input) ⌝ ∗ ⌜ at ≤ length (now to) ⌝ }
     ensures { λ r. ⌜ TurnIs (turn (card info (now (flags .entry)) (now (keys .entry)) (now (counts .entry)) (now (pointers .entry)) (now (windows .entry)) (now (contents .entry))) (drop from (now (input .entry))) (length (now (to .entry)) - at)) (length (now (to .entry)) - at) (r .stop) (card (r .info) (now (flags .exit)) (now (keys .exit)) (now (counts .exit)) (now (pointers .exit)) (now (windows .exit)) (now (contents .exit))) (now (input .entry)) (r .from) (now (to .entry)) at (now (to .exit)) (r .at) ⌝ }
 {
-    let sent = player::find(input, from);
+    let sent = input::find(input, from);
     match sent {
         Found::Nothing(stop) => Turned {
             stop,
@@ -288,7 +288,7 @@ pub fn serve(
         left = turned.info;
         from = turned.from;
         at = turned.at;
-        if player::went(stop) {
+        if input::went(stop) {
             count += 1;
         } else {
             return Part {

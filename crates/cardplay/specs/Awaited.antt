@@ -18,9 +18,9 @@ use Rattle.kinds.specs.declared.Kind.the-variants.{Known, Unknown}
 use Rattle.records.specs.declared.Decoding.{Decoding}
 use Rattle.records.specs.declared.Decoding.the-variants.{Decoded, Bad}
 use Rattle.lines.specs.Lines.{lineRoom}
-use Rattle.player.specs.Play.{isShort, fault, Turn, halted, turnOf, turn, Play, goOn, playWithin, play}
-use Rattle.player.specs.declared.Stop.{Stop}
-use Rattle.player.specs.declared.Stop.the-variants.{Went, Ended, Short, Refused, Full}
+use Rattle.input.specs.Play.{isShort, fault, Turn, halted, turnOf, turn, Play, goOn, playWithin, play}
+use Rattle.input.specs.declared.Stop.{Stop}
+use Rattle.input.specs.declared.Stop.the-variants.{Went, Ended, Short, Refused, Full}
 use Rattle.cardplay.specs.Buffers.{recordRoom}
 use Rattle.cardplay.specs.Progress.{needsInput}
 

@@ -11,11 +11,11 @@ use lib.ListN.{length, length-append}
 use Rattle.card.specs.Card.{Card}
 use Rattle.records.specs.Decode.{Next, ended, refused, sent, decode}
 use Rattle.lines.specs.Lines.{lineRoom}
-use Rattle.player.specs.Play.{Turn, halted, turnOf, turn, Play, goOn, playWithin, play}
-use Rattle.player.specs.PlayLaws.{behind, stopped, play-went, play-stopped, fault-stops}
-use Rattle.player.specs.declared.Stop.{Stop}
-use Rattle.player.specs.declared.Stop.the-variants.{Went, Ended, Short, Refused, Full}
-use Rattle.player.specs.Playing.{isWent}
+use Rattle.input.specs.Play.{Turn, halted, turnOf, turn, Play, goOn, playWithin, play}
+use Rattle.input.specs.PlayLaws.{behind, stopped, play-went, play-stopped, fault-stops}
+use Rattle.input.specs.declared.Stop.{Stop}
+use Rattle.input.specs.declared.Stop.the-variants.{Went, Ended, Short, Refused, Full}
+use Rattle.input.specs.Played.{isWent}
 use Rattle.cardplay.specs.Progress.{isFull}
 use Rattle.cardplay.specs.DecodeLonger.{decode-longer}
 use Rattle.cardplay.specs.Session.{Halted}

@@ -7,9 +7,9 @@ use lib.Dec.{ltb}
 use lib.ListN.{length, take}
 use Rattle.card.specs.Card.{Card}
 use Rattle.lines.specs.Written.{Written}
-use Rattle.player.specs.Play.{Play}
-use Rattle.player.specs.declared.Stop.{Stop}
-use Rattle.player.specs.declared.Stop.the-variants.{Went, Ended, Short, Refused, Full}
+use Rattle.input.specs.Play.{Play}
+use Rattle.input.specs.declared.Stop.{Stop}
+use Rattle.input.specs.declared.Stop.the-variants.{Went, Ended, Short, Refused, Full}
 use Rattle.cardplay.specs.Buffers.{FilledIs}
 
 -- There was no room for another line.

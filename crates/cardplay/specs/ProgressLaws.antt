@@ -12,9 +12,9 @@ use Rattle.card.specs.Card.{Card}
 use Rattle.card.specs.Contents.{overwrite}
 use Rattle.lines.specs.Lines.{lastLine}
 use Rattle.lines.specs.Written.{Written}
-use Rattle.player.specs.Play.{Play}
-use Rattle.player.specs.Playing.{PlayedIs as PartIs}
-use Rattle.player.specs.declared.Stop.{Stop}
+use Rattle.input.specs.Play.{Play}
+use Rattle.input.specs.Played.{PlayedIs as PartIs}
+use Rattle.input.specs.declared.Stop.{Stop}
 use Rattle.cardplay.specs.Buffers.{recordRoom, FilledIs}
 use Rattle.cardplay.specs.BuffersLaws.{written-within}
 use Rattle.cardplay.specs.Progress.{isFull, needsInput, PlayedIs, ReadIs, TurnIs}

@@ -6,9 +6,9 @@ use mathlib.Core.List.{List, _++_}
 use lib.ListN.{length}
 use Rattle.card.specs.Card.{Card}
 use Rattle.lines.specs.Lines.{lineRoom, lastLine}
-use Rattle.player.specs.Play.{play, endNumber, transcript}
-use Rattle.player.specs.PlayLaws.{behind, stopped}
-use Rattle.player.specs.declared.Stop.{Stop}
+use Rattle.input.specs.Play.{play, endNumber, transcript}
+use Rattle.input.specs.PlayLaws.{behind, stopped}
+use Rattle.input.specs.declared.Stop.{Stop}
 
 -- Some input has been read and some lines were written, and whatever follows is played from here.
 pub record Session (c₀ : Card) (records : ℕ) (c : Card) (left : List ℕ) : Type 0 where

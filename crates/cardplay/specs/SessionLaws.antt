@@ -9,9 +9,9 @@ use native.Mathlib.Nat.{sub-zero}
 use lib.ListN.{length, length-append}
 use Rattle.card.specs.Card.{Card}
 use Rattle.lines.specs.Lines.{lineRoom, lastLine}
-use Rattle.player.specs.Play.{Play, play, endNumber, transcript}
-use Rattle.player.specs.PlayLaws.{behind}
-use Rattle.player.specs.declared.Stop.{Stop}
+use Rattle.input.specs.Play.{Play, play, endNumber, transcript}
+use Rattle.input.specs.PlayLaws.{behind}
+use Rattle.input.specs.declared.Stop.{Stop}
 use Rattle.cardplay.specs.Session.{Session, Halted, Whole, SessionIs}
 use Rattle.cardplay.specs.PlayLonger.{behind-behind, play-longer}
 

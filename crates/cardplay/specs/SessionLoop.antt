@@ -12,8 +12,8 @@ use borrow.Author.Tests.{ltb-true, ltb-false}
 use Rattle.card.specs.Card.{Card, card}
 use Rattle.card.specs.ListsLaws.{and-left, and-right, or-false-left, or-false-right}
 use Rattle.card.specs.declared.Info.{Info}
-use Rattle.player.specs.Play.{Play, play}
-use Rattle.player.specs.declared.Stop.{Stop}
+use Rattle.input.specs.Play.{Play, play}
+use Rattle.input.specs.declared.Stop.{Stop}
 use Rattle.cardplay.specs.Progress.{isFull, TurnIs}
 use Rattle.cardplay.specs.Session.{Session, Halted}
 use Rattle.cardplay.specs.SessionLaws.{session-read, session-played}

@@ -1,7 +1,7 @@
 // Plays the call records of standard input on a fresh card, and writes their lines to standard output.
 // Both pass through buffers, so that no record takes a system call of its own.
 use card::Info;
-use player::Stop;
+use input::Stop;
 ghost use Prim.Native.Nat.{_-_, _≤_, _<_};
 ghost use mathlib.Core.Bool.{true};
 ghost use mathlib.Core.Path.{_≡_};
@@ -10,7 +10,7 @@ ghost use Rattle.card.specs.Calls.{format};
 ghost use Rattle.card.specs.Card.{card};
 ghost use Rattle.lines.specs.Lines.{lineRoom, lastLine};
 ghost use Rattle.lines.specs.Written.{Written};
-ghost use Rattle.player.specs.Play.{play, endNumber};
+ghost use Rattle.input.specs.Play.{play, endNumber};
 ghost use Rattle.cardplay.specs.Buffers.{recordRoom, FilledIs};
 ghost use Rattle.cardplay.specs.Progress.{isFull, needsInput, ReadIs, PlayedIs, TurnIs};
 ghost use Rattle.cardplay.specs.Session.{SessionIs};

@@ -6,9 +6,9 @@ use mathlib.Core.List.{List}
 use lib.ListN.{length}
 use Rattle.card.specs.Card.{Card, card}
 use Rattle.card.specs.declared.Info.{Info}
-use Rattle.player.specs.Playing.{PlayedIs}
-use Rattle.player.specs.declared.Stop.{Stop}
-use Rattle.player.specs.declared.Stop.the-variants.{Went, Ended, Short, Refused, Full}
+use Rattle.input.specs.Played.{PlayedIs}
+use Rattle.input.specs.declared.Stop.{Stop}
+use Rattle.input.specs.declared.Stop.the-variants.{Went, Ended, Short, Refused, Full}
 use Rattle.operands.specs.Operands.{recordOf, numbersOf}
 use Rattle.batch.specs.Serve.{serve}
 

@@ -5,7 +5,7 @@ use card::ForceOperands;
 use card::Port;
 use card::RenewOperands;
 use card::TickOperands;
-use player::Stop;
+use input::Stop;
 use records::Decoding;
 ghost use mathlib.Core.Path.{_≡_};
 ghost use mathlib.Core.List.{[]};

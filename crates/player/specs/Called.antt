@@ -15,13 +15,13 @@ use Rattle.lines.specs.Lines.{line, lineRoom}
 use Rattle.lines.specs.Replied.{Lent, replied}
 use Rattle.lines.specs.AnswersLaws.{line-short}
 use Rattle.lines.specs.Written.{Written, written-none}
-use Rattle.player.specs.Play.{played, Turn, turnOf, turn}
-use Rattle.player.specs.Found.{WholeIs, NothingIs, FoundIs}
-use Rattle.player.specs.declared.Stop.{Stop}
-use Rattle.player.specs.declared.Stop.the-variants.{Went, Ended, Short, Refused, Full}
-use Rattle.player.specs.declared.Record.{Record}
-use Rattle.player.specs.declared.Found.{Found}
-use Rattle.player.specs.declared.Found.the-variants.{Whole, Nothing}
+use Rattle.input.specs.Play.{played, Turn, turnOf, turn}
+use Rattle.input.specs.Found.{WholeIs, NothingIs, FoundIs}
+use Rattle.input.specs.declared.Stop.{Stop}
+use Rattle.input.specs.declared.Stop.the-variants.{Went, Ended, Short, Refused, Full}
+use Rattle.input.specs.declared.Record.{Record}
+use Rattle.input.specs.declared.Found.{Found}
+use Rattle.input.specs.declared.Found.the-variants.{Whole, Nothing}
 
 pub record CalledIs (ordinal kind : ℕ) (call : Call) (want : Result) (after : Card) (before : List ℕ) (at : ℕ) (to : List ℕ) (behind : ℕ) : Type 0 where
   pub leaves : after ≡ want .after
@@ -77,7 +77,3 @@ module _ (ordinal : ℕ) (c : Card) (input : List ℕ) (from : ℕ) (fits : from
         writes = rw (w .hasKind) (h .writes);
         short = rw (w .hasKind) (h .short);
       })
-
--- The bounds of a whole record.
-pub whole-within : (input : List ℕ) (from : ℕ) {found : Found} {r : Record} → FoundIs input from found → found ≡ Whole r → (r .payload ≤ r .next) × (r .next ≤ length input)
-whole-within input from {r = r} f e = let w : WholeIs input from r = subst (FoundIs input from) e f in (w .payloadWithin, w .nextWithin)

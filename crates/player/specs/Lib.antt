@@ -1,6 +1,2 @@
-pub mod Play
-pub mod PlayLaws
-pub mod Found
-pub mod FoundLaws
 pub mod Called
 pub mod Playing

@@ -11,27 +11,12 @@ use Rattle.card.specs.declared.Info.{Info}
 use Rattle.records.specs.Decode.{Next, ended, refused, sent, decode}
 use Rattle.lines.specs.Lines.{lineRoom}
 use Rattle.lines.specs.Written.{Written, written-none, written-join, written-length}
-use Rattle.player.specs.Play.{Turn, turnOf, turn, Play, play}
-use Rattle.player.specs.PlayLaws.{behind, stopped, play-full, play-went, play-stopped, turn-left, fault-stops}
+use Rattle.input.specs.Play.{Turn, turnOf, turn, Play, play}
+use Rattle.input.specs.PlayLaws.{behind, stopped, play-full, play-went, play-stopped, turn-left, fault-stops}
+use Rattle.input.specs.Played.{PlayedIs, isWent, is-went, not-went}
 use Rattle.player.specs.Called.{TurnedIs}
-use Rattle.player.specs.declared.Stop.{Stop}
-use Rattle.player.specs.declared.Stop.the-variants.{Went, Ended, Short, Refused, Full}
-
--- The play of an input is what was asked: why it stopped, its records, the card, the input left and the lines.
-pub record PlayedIs (want : Play) (stop : Stop) (records : ℕ) (after : Card) (input : List ℕ) (read : ℕ) (before to : List ℕ) (written : ℕ) : Type 0 where
-  pub stops : stop ≡ want .stop
-  pub counts : records ≡ want .records
-  pub leaves : after ≡ want .after
-  pub rests : drop read input ≡ want .left
-  pub within : read ≤ length input
-  pub writes : Written before 0 (want .lines) to written
-
-abbrev pub isWent : Stop → Bool
-isWent Went = true
-isWent Ended = false
-isWent Short = false
-isWent Refused = false
-isWent Full = false
+use Rattle.input.specs.declared.Stop.{Stop}
+use Rattle.input.specs.declared.Stop.the-variants.{Went, Ended, Short, Refused, Full}
 
 -- ---- a turn that did not go changes nothing
 
@@ -44,16 +29,6 @@ next-halts ordinal c xs (sent port call payload rest) e = absurd (mathlib.Core.B
 turn-halts : (ordinal : ℕ) (c : Card) (xs : List ℕ) → isWent (turn ordinal c xs .stop) ≡ false → (turn ordinal c xs .after ≡ c) × (turn ordinal c xs .left ≡ xs) × (turn ordinal c xs .lines ≡ [])
 unfolding turn
 turn-halts ordinal c xs e = next-halts ordinal c xs (decode xs) e
-
-pub is-went : (s : Stop) → isWent s ≡ true → s ≡ Went
-is-went Went e = refl
-is-went Ended e = absurd (mathlib.Core.Bool.false≢true e)
-is-went Short e = absurd (mathlib.Core.Bool.false≢true e)
-is-went Refused e = absurd (mathlib.Core.Bool.false≢true e)
-is-went Full e = absurd (mathlib.Core.Bool.false≢true e)
-
-not-went : (s : Stop) → isWent s ≡ false → s ≡ Went → ⊥
-not-went s e q = mathlib.Core.Bool.true≢false (sym (ap isWent q) ∙ e)
 
 -- ---- what the loop has reached
 

@@ -1,6 +1,6 @@
 -- `batch::serve_turn` meets its contract. Assumes nothing.
 use native.Mathlib.Omega.{arith}
-use Rattle.player.specs.Called.{whole-within}
+use Rattle.input.specs.FoundLaws.{whole-within}
 use Rattle.batch.proofs.Turns.{found-nothing, found-full, found-served}
 use borrow.Author.Needs.{needs}
 use Rattle.batch.proofs.serve_turn.Statement.{statement}

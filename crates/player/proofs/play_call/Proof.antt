@@ -1,6 +1,6 @@
 -- `player::play_call` meets its contract. Assumes nothing.
 use native.Mathlib.Omega.{arith}
-use Rattle.player.specs.Play.{played}
+use Rattle.input.specs.Play.{played}
 use Rattle.player.specs.Called.{called}
 use borrow.Author.Needs.{needs}
 use Rattle.player.proofs.play_call.Statement.{statement}

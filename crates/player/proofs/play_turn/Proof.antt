@@ -1,5 +1,6 @@
 -- `player::play_turn` meets its contract. Assumes nothing.
-use Rattle.player.specs.Called.{found-nothing, turned-whole, whole-within}
+use Rattle.input.specs.FoundLaws.{whole-within}
+use Rattle.player.specs.Called.{found-nothing, turned-whole}
 use borrow.Author.Needs.{needs}
 use Rattle.player.proofs.play_turn.Statement.{statement}
 use Rattle.player.proofs.play_turn.Tie as tie

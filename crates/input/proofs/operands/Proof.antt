@@ -1,7 +1,7 @@
--- `player::operands` meets its contract. Assumes nothing.
+-- `input::operands` meets its contract. Assumes nothing.
 use borrow.Author.Tests.{ne-eqb}
-use Rattle.player.proofs.operands.Statement.{statement}
-use Rattle.player.proofs.operands.Tie as tie
+use Rattle.input.proofs.operands.Statement.{statement}
+use Rattle.input.proofs.operands.Tie as tie
 
 returns : tie.Need-returns
 returns c = rw (c .if1 .taken)

@@ -15,8 +15,8 @@ use Rattle.kinds.specs.Kinds.{bodyLength}
 use Rattle.kinds.specs.declared.Length.{Length}
 use Rattle.kinds.specs.declared.Length.the-variants.{Bytes, Unknown}
 use Rattle.lines.specs.Lines.{line, lineRoom, lastLine}
-use Rattle.player.specs.declared.Stop.{Stop}
-use Rattle.player.specs.declared.Stop.the-variants.{Went, Ended, Short, Refused, Full}
+use Rattle.input.specs.declared.Stop.{Stop}
+use Rattle.input.specs.declared.Stop.the-variants.{Went, Ended, Short, Refused, Full}
 
 -- ---- one record
 

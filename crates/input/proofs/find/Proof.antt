@@ -1,9 +1,9 @@
--- `player::find` meets its contract. Assumes nothing.
+-- `input::find` meets its contract. Assumes nothing.
 use native.Mathlib.Omega.{arith}
-use Rattle.player.specs.FoundLaws.{operands-most, found-ended, found-unknown, found-short, found-bad, found-whole}
+use Rattle.input.specs.FoundLaws.{operands-most, found-ended, found-unknown, found-short, found-bad, found-whole}
 use borrow.Author.Needs.{needs}
-use Rattle.player.proofs.find.Statement.{statement}
-use Rattle.player.proofs.find.Tie as tie
+use Rattle.input.proofs.find.Statement.{statement}
+use Rattle.input.proofs.find.Tie as tie
 
 returns : tie.Need-returns
 returns c = found-ended (c .before .before .args .input .now) (c .before .before .args .from) (c .if1 .taken)

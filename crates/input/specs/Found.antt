@@ -6,12 +6,12 @@ use mathlib.Core.List.{List}
 use lib.Dec.{eqb}
 use lib.ListN.{length, take, drop, getD}
 use Rattle.records.specs.Decode.{Next, ended, refused, sent, decode}
-use Rattle.player.specs.Play.{fault}
-use Rattle.player.specs.declared.Stop.{Stop}
-use Rattle.player.specs.declared.Stop.the-variants.{Went, Ended, Short, Refused, Full}
-use Rattle.player.specs.declared.Record.{Record}
-use Rattle.player.specs.declared.Found.{Found}
-use Rattle.player.specs.declared.Found.the-variants.{Whole, Nothing}
+use Rattle.input.specs.Play.{fault}
+use Rattle.input.specs.declared.Stop.{Stop}
+use Rattle.input.specs.declared.Stop.the-variants.{Went, Ended, Short, Refused, Full}
+use Rattle.input.specs.declared.Record.{Record}
+use Rattle.input.specs.declared.Found.{Found}
+use Rattle.input.specs.declared.Found.the-variants.{Whole, Nothing}
 
 -- The length of the operands in a body of a length.
 abbrev pub operandsWithin : ℕ → ℕ

@@ -25,11 +25,13 @@ use Rattle.kinds.specs.declared.Length.{Length}
 use Rattle.kinds.specs.declared.Length.the-variants.{Bytes, Unknown as UnknownLength}
 use Rattle.records.specs.declared.Decoding.{Decoding}
 use Rattle.records.specs.declared.Decoding.the-variants.{Decoded, Bad}
-use Rattle.player.specs.Play.{isShort, fault}
-use Rattle.player.specs.Found.{operandsWithin, WholeIs, NothingIs}
-use Rattle.player.specs.declared.Stop.{Stop}
-use Rattle.player.specs.declared.Stop.the-variants.{Short, Refused}
-use Rattle.player.specs.declared.Record.{Record}
+use Rattle.input.specs.Play.{isShort, fault}
+use Rattle.input.specs.Found.{operandsWithin, WholeIs, NothingIs, FoundIs}
+use Rattle.input.specs.declared.Stop.{Stop}
+use Rattle.input.specs.declared.Stop.the-variants.{Short, Refused}
+use Rattle.input.specs.declared.Record.{Record}
+use Rattle.input.specs.declared.Found.{Found}
+use Rattle.input.specs.declared.Found.the-variants.{Whole}
 
 -- ---- a body's operands and data
 
@@ -154,3 +156,7 @@ module _ (input : List ℕ) (from : ℕ) (h : from < length input) where
 
       length-is : (a b : ℕ) → Bytes a ≡ Bytes b → a ≡ b
       length-is a b p = cc
+
+-- The bounds of a whole record.
+pub whole-within : (input : List ℕ) (from : ℕ) {found : Found} {r : Record} → FoundIs input from found → found ≡ Whole r → (r .payload ≤ r .next) × (r .next ≤ length input)
+whole-within input from {r = r} f e = let w : WholeIs input from r = subst (FoundIs input from) e f in (w .payloadWithin, w .nextWithin)

@@ -1,0 +1,5 @@
+pub mod Play
+pub mod PlayLaws
+pub mod Found
+pub mod FoundLaws
+pub mod Played

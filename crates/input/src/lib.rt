@@ -1,0 +1,114 @@
+// An input of call records: the record that starts at a place of it, and how far a play of it has come.
+use card::Call;
+use card::Info;
+use card::Port;
+use kinds::Length;
+use records::Decoding;
+ghost use Prim.Native.Nat.{_≤_};
+ghost use lib.ListN.{length};
+ghost use mathlib.Core.Path.{_≡_};
+ghost use Rattle.input.specs.Found.{operandsWithin, FoundIs};
+ghost use Rattle.input.specs.Played.{isWent};
+
+// Why a player stopped.
+pub enum Stop {
+    // It did not: the record was played.
+    Went,
+    // The input is at its end.
+    Ended,
+    // The input ends within a record.
+    Short,
+    // A record is refused 13.
+    Refused,
+    // There is no room for another line.
+    Full,
+}
+
+// A whole record of an input: its call, and where its data and the next record start.
+pub struct Record {
+    pub kind: u8,
+    pub port: Port,
+    pub call: Call,
+    pub payload: usize,
+    pub next: usize,
+}
+
+// What an input holds from a place on.
+pub enum Found {
+    Whole(Record),
+    Nothing(Stop),
+}
+
+// The bytes of a body beside its operands are WRITE's 512, its last; no other body is as long.
+fn operands(length: usize) -> usize
+    ensures { λ r. ⌜ r ≡ operandsWithin length ⌝ }
+{
+    if length == 535 { 23 } else { length }
+}
+
+// The record of an input that starts at a place, or why there is none.
+pub fn find(input: &[u8], from: usize) -> Found
+    requires { ⌜ from ≤ length (now input) ⌝ }
+    ensures { λ r. ⌜ FoundIs (now (input .entry)) from r ⌝ }
+{
+    if from == input.len() {
+        return Found::Nothing(Stop::Ended);
+    }
+    let kind = input[from];
+    let start = from + 1;
+    let body = &input[start..];
+    let Length::Bytes(length) = kinds::body_length(kind) else {
+        return Found::Nothing(Stop::Refused);
+    };
+    if body.len() < length {
+        return Found::Nothing(Stop::Short);
+    }
+    match records::decode(kind, body) {
+        Decoding::Bad => Found::Nothing(Stop::Refused),
+        Decoding::Decoded(port, call) => Found::Whole(Record {
+            kind,
+            port,
+            call,
+            payload: start + operands(length),
+            next: start + length,
+        }),
+    }
+}
+
+// ---- how far a play has come
+
+// What is left after one record: the record of the card, and the place behind its line.
+pub struct Wrote {
+    pub info: Info,
+    pub at: usize,
+}
+
+// Where a player stands after one turn.
+pub struct Turned {
+    pub stop: Stop,
+    pub info: Info,
+    pub from: usize,
+    pub at: usize,
+}
+
+// What a play comes to: why it stopped, the card's record, the records played, and how far it read and wrote.
+pub struct Part {
+    pub stop: Stop,
+    pub info: Info,
+    pub records: u64,
+    pub read: usize,
+    pub written: usize,
+}
+
+// Whether the record was played.
+pub fn went(stop: Stop) -> bool
+    ensures { λ r. ⌜ r ≡ isWent stop ⌝ }
+{
+    match stop {
+        Stop::Went => true,
+        Stop::Ended => false,
+        Stop::Short => false,
+        Stop::Refused => false,
+        Stop::Full => false,
+    }
+}
