@@ -22,9 +22,6 @@ source-pointer a b h = omega arith
 pub destination-pointer : (a b : ℕ) → b < 65536 → destination (pointer a b) ≡ b
 destination-pointer a b h = omega arith
 
-pub pointer-ends : (w : ℕ) → pointer (source w) (destination w) ≡ w
-pointer-ends w = omega arith
-
 -- ---- contains
 
 pub contains-cons : (w x : ℕ) (xs : List ℕ) → contains w (x ∷ xs) ≡ eqb x w || contains w xs

@@ -421,10 +421,6 @@ pub sound-verdict : {c : Card} → SoundCard c → verdict c ≡ FoundSound
 unfolding verdict
 sound-verdict h = rw (true-shape (h .shaped), true-sound (h .isSound)) refl
 
-pub unsound-verdict : (c : Card) → shape c ≡ true → sound c ≡ false → verdict c ≡ Unsound
-unfolding verdict
-unsound-verdict c e f = rw (e, f) refl
-
 pub misshapen-verdict : (c : Card) → shape c ≡ false → verdict c ≡ Misshapen
 unfolding verdict
 misshapen-verdict c e = rw e refl

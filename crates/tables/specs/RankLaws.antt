@@ -76,27 +76,6 @@ rank-below w (x ∷ xs) e (suc i) l h =
     (λ (b : w ≤ x). omega (arith, rank-cons-above w x xs e b))
     (below-or-not x w)
 
--- The elements before the rank are below w.
-pub before-rank : (w : ℕ) (ws : List ℕ) → ascending ws ≡ true → (i : ℕ) → i < rank w ws → getD ws i 0 < w
-before-rank w ws e i h =
-    ⊎-elim
-    (λ (b : getD ws i 0 < w). b)
-    (λ (b : w ≤ getD ws i 0).
-    let short : rank w ws ≤ length ws = rank-length w ws in
-    let back : rank w ws ≤ i = rank-below w ws e i (omega arith) b in
-    absurd (omega arith))
-    (below-or-not (getD ws i 0) w)
-
--- Those from it on are not.
-pub from-rank : (w : ℕ) (ws : List ℕ) → ascending ws ≡ true → (i : ℕ) → rank w ws ≤ i → i < length ws → w ≤ getD ws i 0
-from-rank w ws e i h l =
-    ⊎-elim
-    (λ (b : getD ws i 0 < w).
-    let front : i < rank w ws = rank-above w ws e i l b in
-    absurd (omega arith))
-    (λ (b : w ≤ getD ws i 0). b)
-    (below-or-not (getD ws i 0) w)
-
 -- ---- search
 
 ltb-suc : (a b : ℕ) → ltb (suc a) (suc b) ≡ ltb a b
