@@ -273,100 +273,112 @@ pub extern "C" fn negvask_key(
 #[no_mangle]
 pub extern "C" fn negvask_renew(
     info: &mut [u64],
-    flags: &mut [u8],
-    keys: &mut [u64],
-    counts: &mut [u16],
-    pointers: &mut [u32],
+    flags: &[u8],
+    keys: &[u64],
+    counts: &[u16],
+    pointers: &[u32],
     windows: &mut [u64],
-    contents: &mut [u8],
+    contents: &[u8],
     mode: u8,
     block: u16,
     high: u64,
     low: u64,
     interval: u32,
 ) -> u32
-    ensures { λ r. ⌜ Does (effect (Decoding.Decoded Port.Host (Call.Renew (record { mode = mode; block = block; high = high; low = low; interval = interval }))) (now (info .entry)) (card (recordOf (now (info .entry))) (now (flags .entry)) (now (keys .entry)) (now (counts .entry)) (now (pointers .entry)) (now (windows .entry)) (now (contents .entry))) [] [] [] 0) r (now (info .exit)) (card (recordOf (now (info .exit))) (now (flags .exit)) (now (keys .exit)) (now (counts .exit)) (now (pointers .exit)) (now (windows .exit)) (now (contents .exit))) [] [] ⌝ }
+    ensures { λ r. ⌜ Does (effect (Decoding.Decoded Port.Host (Call.Renew (record { mode = mode; block = block; high = high; low = low; interval = interval }))) (now (info .entry)) (card (recordOf (now (info .entry))) (now (flags .entry)) (now (keys .entry)) (now (counts .entry)) (now (pointers .entry)) (now (windows .entry)) (now (contents .entry))) [] [] [] 0) r (now (info .exit)) (card (recordOf (now (info .exit))) (now (flags .entry)) (now (keys .entry)) (now (counts .entry)) (now (pointers .entry)) (now (windows .exit)) (now (contents .entry))) [] [] ⌝ }
 {
-    let call = Call::Renew(RenewOperands {
-        mode,
-        block,
-        high,
-        low,
-        interval,
-    });
-    let decoding = Decoding::Decoded(Port::Host, call);
-    let mut value = 0;
-    adapter::perform_alone(
-        info,
+    if info.len() != 5 {
+        return 1;
+    }
+    let outcome = calls::renew(
+        operands::load(info),
         flags,
         keys,
         counts,
         pointers,
         windows,
         contents,
-        decoding,
-        &mut value,
-    )
+        RenewOperands {
+            mode,
+            block,
+            high,
+            low,
+            interval,
+        },
+    );
+    let left = outcome.info;
+    let answer = outcome.answer;
+    operands::store(info, left);
+    let mut value = 0;
+    adapter::report(answer, &mut value)
 }
 
 // FORCE: both windows of the block closed.
 #[no_mangle]
 pub extern "C" fn negvask_force(
     info: &mut [u64],
-    flags: &mut [u8],
-    keys: &mut [u64],
-    counts: &mut [u16],
-    pointers: &mut [u32],
+    flags: &[u8],
+    keys: &[u64],
+    counts: &[u16],
+    pointers: &[u32],
     windows: &mut [u64],
-    contents: &mut [u8],
+    contents: &[u8],
     block: u16,
 ) -> u32
-    ensures { λ r. ⌜ Does (effect (Decoding.Decoded Port.Host (Call.Force (record { block = block }))) (now (info .entry)) (card (recordOf (now (info .entry))) (now (flags .entry)) (now (keys .entry)) (now (counts .entry)) (now (pointers .entry)) (now (windows .entry)) (now (contents .entry))) [] [] [] 0) r (now (info .exit)) (card (recordOf (now (info .exit))) (now (flags .exit)) (now (keys .exit)) (now (counts .exit)) (now (pointers .exit)) (now (windows .exit)) (now (contents .exit))) [] [] ⌝ }
+    ensures { λ r. ⌜ Does (effect (Decoding.Decoded Port.Host (Call.Force (record { block = block }))) (now (info .entry)) (card (recordOf (now (info .entry))) (now (flags .entry)) (now (keys .entry)) (now (counts .entry)) (now (pointers .entry)) (now (windows .entry)) (now (contents .entry))) [] [] [] 0) r (now (info .exit)) (card (recordOf (now (info .exit))) (now (flags .entry)) (now (keys .entry)) (now (counts .entry)) (now (pointers .entry)) (now (windows .exit)) (now (contents .entry))) [] [] ⌝ }
 {
-    let call = Call::Force(ForceOperands { block });
-    let decoding = Decoding::Decoded(Port::Host, call);
-    let mut value = 0;
-    adapter::perform_alone(
-        info,
+    if info.len() != 5 {
+        return 1;
+    }
+    let outcome = calls::force(
+        operands::load(info),
         flags,
         keys,
         counts,
         pointers,
         windows,
         contents,
-        decoding,
-        &mut value,
-    )
+        ForceOperands { block },
+    );
+    let left = outcome.info;
+    let answer = outcome.answer;
+    operands::store(info, left);
+    let mut value = 0;
+    adapter::report(answer, &mut value)
 }
 
 // TICK: `value` the new time.
 #[no_mangle]
 pub extern "C" fn negvask_tick(
     info: &mut [u64],
-    flags: &mut [u8],
-    keys: &mut [u64],
-    counts: &mut [u16],
-    pointers: &mut [u32],
-    windows: &mut [u64],
-    contents: &mut [u8],
+    flags: &[u8],
+    keys: &[u64],
+    counts: &[u16],
+    pointers: &[u32],
+    windows: &[u64],
+    contents: &[u8],
     seconds: u64,
     value: &mut u64,
 ) -> u32
-    ensures { λ r. ⌜ Gives (effect (Decoding.Decoded Port.Host (Call.Tick (record { seconds = seconds }))) (now (info .entry)) (card (recordOf (now (info .entry))) (now (flags .entry)) (now (keys .entry)) (now (counts .entry)) (now (pointers .entry)) (now (windows .entry)) (now (contents .entry))) [] [] [] (now (value .entry))) r (now (value .exit)) (now (info .exit)) (card (recordOf (now (info .exit))) (now (flags .exit)) (now (keys .exit)) (now (counts .exit)) (now (pointers .exit)) (now (windows .exit)) (now (contents .exit))) [] [] ⌝ }
+    ensures { λ r. ⌜ Gives (effect (Decoding.Decoded Port.Host (Call.Tick (record { seconds = seconds }))) (now (info .entry)) (card (recordOf (now (info .entry))) (now (flags .entry)) (now (keys .entry)) (now (counts .entry)) (now (pointers .entry)) (now (windows .entry)) (now (contents .entry))) [] [] [] (now (value .entry))) r (now (value .exit)) (now (info .exit)) (card (recordOf (now (info .exit))) (now (flags .entry)) (now (keys .entry)) (now (counts .entry)) (now (pointers .entry)) (now (windows .entry)) (now (contents .entry))) [] [] ⌝ }
 {
-    let call = Call::Tick(TickOperands { seconds });
-    let decoding = Decoding::Decoded(Port::Host, call);
-    adapter::perform_alone(
-        info,
+    if info.len() != 5 {
+        return 1;
+    }
+    let outcome = calls::tick(
+        operands::load(info),
         flags,
         keys,
         counts,
         pointers,
         windows,
         contents,
-        decoding,
-        value,
-    )
+        TickOperands { seconds },
+    );
+    let left = outcome.info;
+    let answer = outcome.answer;
+    operands::store(info, left);
+    adapter::report(answer, value)
 }
 
 // FREE: `value` the number of unallocated blocks.
