@@ -3,7 +3,6 @@ use card::Answer;
 use card::Call;
 use records::Decoding;
 ghost use mathlib.Core.Path.{_≡_};
-ghost use mathlib.Core.List.{[]};
 ghost use Rattle.card.specs.Card.{card};
 ghost use Rattle.card.specs.Calls.{answerNumber};
 ghost use Rattle.operands.specs.Operands.{recordOf};
@@ -67,39 +66,6 @@ pub fn perform(
     let answer = outcome.answer;
     operands::store(info, left);
     report(answer, value)
-}
-
-// A call that has no use for a buffer.
-pub fn perform_alone(
-    info: &mut [u64],
-    flags: &mut [u8],
-    keys: &mut [u64],
-    counts: &mut [u16],
-    pointers: &mut [u32],
-    windows: &mut [u64],
-    contents: &mut [u8],
-    decoding: Decoding,
-    value: &mut u64,
-) -> u32
-    ensures { λ r. ⌜ Gives (effect (decoding) (now (info .entry)) (card (recordOf (now (info .entry))) (now (flags .entry)) (now (keys .entry)) (now (counts .entry)) (now (pointers .entry)) (now (windows .entry)) (now (contents .entry))) [] [] [] (now (value .entry))) r (now (value .exit)) (now (info .exit)) (card (recordOf (now (info .exit))) (now (flags .exit)) (now (keys .exit)) (now (counts .exit)) (now (pointers .exit)) (now (windows .exit)) (now (contents .exit))) [] [] ⌝ }
-{
-    let input = [0u8; 0];
-    let mut out = [0u8; 0];
-    let mut places = [0u16; 0];
-    perform(
-        info,
-        flags,
-        keys,
-        counts,
-        pointers,
-        windows,
-        contents,
-        decoding,
-        &input,
-        &mut out,
-        &mut places,
-        value,
-    )
 }
 
 // ---- the bytes of a record
