@@ -1,11 +1,13 @@
 // A decoded call on the card's record as five lent numbers, and the bytes of a record beside its operands.
 use card::Answer;
 use card::Call;
+use card::Outcome;
 use records::Decoding;
 ghost use mathlib.Core.Path.{_≡_};
+ghost use lib.ListN.{length};
 ghost use Rattle.card.specs.Card.{card};
 ghost use Rattle.card.specs.Calls.{answerNumber};
-ghost use Rattle.operands.specs.Operands.{recordOf};
+ghost use Rattle.operands.specs.Operands.{recordOf, numbersOf};
 ghost use Rattle.adapter.specs.Effects.{valueAfter, effect, dataSize, dataFrom, Gives};
 
 // ---- calls
@@ -23,6 +25,19 @@ pub fn report(answer: Answer, value: &mut u64) -> u32
             0
         }
     }
+}
+
+// What a call leaves of the record is stored, and its answer reported.
+pub fn settle(info: &mut [u64], outcome: Outcome, value: &mut u64) -> u32
+    requires { ⌜ length (now info) ≡ 5 ⌝ }
+    ensures stored { λ _. ⌜ now (info .exit) ≡ numbersOf (outcome .info) ⌝ }
+    ensures number { λ r. ⌜ r ≡ answerNumber (outcome .answer) ⌝ }
+    ensures result { λ _. ⌜ now (value .exit) ≡ valueAfter (outcome .answer) (now (value .entry)) ⌝ }
+{
+    let left = outcome.info;
+    let answer = outcome.answer;
+    operands::store(info, left);
+    report(answer, value)
 }
 
 // A call on the lent record and tables: refused 13 where there is none, and 1 where the record has not five numbers.
@@ -62,10 +77,7 @@ pub fn perform(
         out,
         places,
     );
-    let left = outcome.info;
-    let answer = outcome.answer;
-    operands::store(info, left);
-    report(answer, value)
+    settle(info, outcome, value)
 }
 
 // ---- the bytes of a record

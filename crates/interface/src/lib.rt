@@ -68,11 +68,8 @@ pub extern "C" fn negvask_read(
         },
         out,
     );
-    let left = outcome.info;
-    let answer = outcome.answer;
-    operands::store(info, left);
     let mut value = 0;
-    adapter::report(answer, &mut value)
+    adapter::settle(info, outcome, &mut value)
 }
 
 // WRITE: `data` into the block.
@@ -119,11 +116,8 @@ pub extern "C" fn negvask_write(
         },
         bytes,
     );
-    let left = outcome.info;
-    let answer = outcome.answer;
-    operands::store(info, left);
     let mut value = 0;
-    adapter::report(answer, &mut value)
+    adapter::settle(info, outcome, &mut value)
 }
 
 // ALLOC: `count` blocks below the block, their numbers into `places`.
@@ -172,11 +166,8 @@ pub extern "C" fn negvask_alloc(
         },
         places,
     );
-    let left = outcome.info;
-    let answer = outcome.answer;
-    operands::store(info, left);
     let mut value = 0;
-    adapter::report(answer, &mut value)
+    adapter::settle(info, outcome, &mut value)
 }
 
 // CREATE: a pointer from the source to the destination, each with its credential.
@@ -230,11 +221,8 @@ pub extern "C" fn negvask_create(
             second,
         },
     );
-    let left = outcome.info;
-    let answer = outcome.answer;
-    operands::store(info, left);
     let mut value = 0;
-    adapter::report(answer, &mut value)
+    adapter::settle(info, outcome, &mut value)
 }
 
 // DELETE: the pointer from the source to the destination; `value` 1 if that freed the destination, else 0.
@@ -280,10 +268,7 @@ pub extern "C" fn negvask_delete(
             destination,
         },
     );
-    let left = outcome.info;
-    let answer = outcome.answer;
-    operands::store(info, left);
-    adapter::report(answer, value)
+    adapter::settle(info, outcome, value)
 }
 
 // KEY: both keys of the block replaced.
@@ -335,11 +320,8 @@ pub extern "C" fn negvask_key(
         at,
         made,
     );
-    let left = outcome.info;
-    let answer = outcome.answer;
-    operands::store(info, left);
     let mut value = 0;
-    adapter::report(answer, &mut value)
+    adapter::settle(info, outcome, &mut value)
 }
 
 // RENEW: the window for the mode, by a key.
@@ -379,11 +361,8 @@ pub extern "C" fn negvask_renew(
             interval,
         },
     );
-    let left = outcome.info;
-    let answer = outcome.answer;
-    operands::store(info, left);
     let mut value = 0;
-    adapter::report(answer, &mut value)
+    adapter::settle(info, outcome, &mut value)
 }
 
 // FORCE: both windows of the block closed.
@@ -413,11 +392,8 @@ pub extern "C" fn negvask_force(
         contents,
         ForceOperands { block },
     );
-    let left = outcome.info;
-    let answer = outcome.answer;
-    operands::store(info, left);
     let mut value = 0;
-    adapter::report(answer, &mut value)
+    adapter::settle(info, outcome, &mut value)
 }
 
 // TICK: `value` the new time.
@@ -448,10 +424,7 @@ pub extern "C" fn negvask_tick(
         contents,
         TickOperands { seconds },
     );
-    let left = outcome.info;
-    let answer = outcome.answer;
-    operands::store(info, left);
-    adapter::report(answer, value)
+    adapter::settle(info, outcome, value)
 }
 
 // FREE: `value` the number of unallocated blocks.
@@ -547,11 +520,8 @@ pub extern "C" fn negvask_format(
         windows,
         contents,
     );
-    let left = outcome.info;
-    let answer = outcome.answer;
-    operands::store(info, left);
     let mut value = 0;
-    adapter::report(answer, &mut value)
+    adapter::settle(info, outcome, &mut value)
 }
 
 // ---- call records

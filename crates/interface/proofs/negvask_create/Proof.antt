@@ -40,23 +40,20 @@ load-requires c κs = search needs
 create-requires : tie.Need-create-requires
 create-requires c κs = tt
 
-store-requires : tie.Need-store-requires
-store-requires c κs = search needs
-
-report-requires : tie.Need-report-requires
-report-requires c κs = tt
+settle-requires : tie.Need-settle-requires
+settle-requires c κs = search needs
 
 same-length : tie.Need-same-length
-same-length c = c .before .before .before .before .store .kept .0
+same-length c = c .before .before .settle .kept .0
 
 same-length-2 : tie.Need-same-length-2
-same-length-2 c = c .before .before .before .before .before .before .before .before .before .before .before .create .kept .1 .1 .1 .0
+same-length-2 c = c .before .before .before .before .before .before .before .before .before .create .kept .1 .1 .1 .0
 
 same-length-3 : tie.Need-same-length-3
-same-length-3 c = c .before .before .before .before .before .before .before .before .before .before .before .create .kept .1 .1 .1 .1 .0
+same-length-3 c = c .before .before .before .before .before .before .before .before .before .create .kept .1 .1 .1 .1 .0
 
 returns-4 : tie.Need-returns-4
-returns-4 c = effect-called (c .before .before .before .before .before .before .before .before .before .before .before .before .before .before .before .before .before .before .before .before .before .before .before .before .before .before .before .before .before .before .before .before .args .info .now) _ _ _ _ _ _ [] [] [] 0 _ _ _ _ _ _ _ (created _ _ (c .before .before .before .before .before .before .before .before .before .before .before .before .before .before .before .before .before .before .before .before .before .before .before .before .caller-of .ensures) _ _ _ (c .before .before .before .before .before .before .before .before .before .before .before .before .before .before .before .before .before .before .before .before .before .before .caller .given .1) (sym (c .before .before .before .before .before .before .before .before .before .before .before .before .before .before .before .before .before .before .before .before .credential-of .ensures) ∙ (c .before .before .before .before .before .before .before .before .before .before .before .before .before .before .before .before .before .before .presented .given .1))) (c .before .before .before .before .before .before .before .before .before .before .before .before .before .before .before .before .if1 .left) (c .before .before .before .before .before .before .before .before .before .before .before .before .before .before .load .ensures) (c .before .before .before .before .before .before .before .before .before .before .before .create .ensures) (c .before .before .before .before .store .ensures) (c .report .ensures .0) (c .report .ensures .1) .does
+returns-4 c = effect-called (c .before .before .before .before .before .before .before .before .before .before .before .before .before .before .before .before .before .before .before .before .before .before .before .before .before .before .before .before .before .before .args .info .now) _ _ _ _ _ _ [] [] [] 0 _ _ _ _ _ _ _ (created _ _ (c .before .before .before .before .before .before .before .before .before .before .before .before .before .before .before .before .before .before .before .before .before .before .caller-of .ensures) _ _ _ (c .before .before .before .before .before .before .before .before .before .before .before .before .before .before .before .before .before .before .before .before .caller .given .1) (sym (c .before .before .before .before .before .before .before .before .before .before .before .before .before .before .before .before .before .before .credential-of .ensures) ∙ (c .before .before .before .before .before .before .before .before .before .before .before .before .before .before .before .before .presented .given .1))) (c .before .before .before .before .before .before .before .before .before .before .before .before .before .before .if1 .left) (c .before .before .before .before .before .before .before .before .before .before .before .before .load .ensures) (c .before .before .before .before .before .before .before .before .before .create .ensures) (c .before .before .settle .ensures .0) (c .before .before .settle .ensures .1 .0) (c .before .before .settle .ensures .1 .1) .does
 
 pub negvask-create-spec : {M : Type 1} → statement M
 negvask-create-spec =
@@ -73,8 +70,7 @@ negvask-create-spec =
     returns-3
     load-requires
     create-requires
-    store-requires
-    report-requires
+    settle-requires
     same-length
     same-length-2
     same-length-3

@@ -16,17 +16,14 @@ load-requires c κs = search needs
 tick-requires : tie.Need-tick-requires
 tick-requires c κs = tt
 
-store-requires : tie.Need-store-requires
-store-requires c κs = search needs
-
-report-requires : tie.Need-report-requires
-report-requires c κs = tt
+settle-requires : tie.Need-settle-requires
+settle-requires c κs = search needs
 
 same-length : tie.Need-same-length
-same-length c = c .before .before .before .before .store .kept .0
+same-length c = c .before .before .settle .kept .0
 
 returns-2 : tie.Need-returns-2
-returns-2 c = effect-called (c .before .before .before .before .before .before .before .before .before .before .before .before .before .before .before .before .before .before .args .info .now) _ _ _ _ _ _ [] [] [] (c .before .before .before .before .before .before .before .before .before .before .before .before .before .before .before .before .before .before .args .value .now) _ _ _ _ _ _ _ refl (c .before .before .before .before .before .before .before .before .before .before .if1 .left) (c .before .before .before .before .before .before .before .before .load .ensures) (c .before .before .before .before .before .before .before .tick .ensures Host) (c .before .before .before .before .store .ensures) (c .report .ensures .0) (c .report .ensures .1)
+returns-2 c = effect-called (c .before .before .before .before .before .before .before .before .before .before .before .before .before .before .before .before .args .info .now) _ _ _ _ _ _ [] [] [] (c .before .before .before .before .before .before .before .before .before .before .before .before .before .before .before .before .args .value .now) _ _ _ _ _ _ _ refl (c .before .before .before .before .before .before .before .before .if1 .left) (c .before .before .before .before .before .before .load .ensures) (c .before .before .before .before .before .tick .ensures Host) (c .before .before .settle .ensures .0) (c .before .before .settle .ensures .1 .0) (c .before .before .settle .ensures .1 .1)
 
 pub negvask-tick-spec : {M : Type 1} → statement M
 negvask-tick-spec =
@@ -35,7 +32,6 @@ negvask-tick-spec =
     returns
     load-requires
     tick-requires
-    store-requires
-    report-requires
+    settle-requires
     same-length
     returns-2)

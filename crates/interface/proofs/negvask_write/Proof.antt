@@ -27,23 +27,20 @@ load-requires c κs = search needs
 write-requires : tie.Need-write-requires
 write-requires c κs = tt
 
-store-requires : tie.Need-store-requires
-store-requires c κs = search needs
-
-report-requires : tie.Need-report-requires
-report-requires c κs = tt
+settle-requires : tie.Need-settle-requires
+settle-requires c κs = search needs
 
 same-length : tie.Need-same-length
-same-length c = c .before .before .before .before .store .kept .0
+same-length c = c .before .before .settle .kept .0
 
 same-length-2 : tie.Need-same-length-2
-same-length-2 c = c .before .before .before .before .before .before .before .before .before .before .before .write .kept .1 .1 .1 .1 .1 .0
+same-length-2 c = c .before .before .before .before .before .before .before .before .before .write .kept .1 .1 .1 .1 .1 .0
 
 same-length-3 : tie.Need-same-length-3
-same-length-3 c = c .before .before .before .before .before .before .before .before .before .before .before .write .kept .1 .1 .1 .1 .1 .1 .0
+same-length-3 c = c .before .before .before .before .before .before .before .before .before .write .kept .1 .1 .1 .1 .1 .1 .0
 
 returns-3 : tie.Need-returns-3
-returns-3 c = effect-called (c .before .before .before .before .before .before .before .before .before .before .before .before .before .before .before .before .before .before .before .before .before .before .before .before .before .before .before .before .before .args .info .now) _ _ _ _ _ _ (c .before .before .before .before .before .before .before .before .before .before .before .before .before .before .before .before .before .before .before .before .before .before .before .before .before .before .before .before .before .args .bytes .now) [] [] 0 _ _ _ _ _ _ _ (called _ _ (c .before .before .before .before .before .before .before .before .before .before .before .before .before .before .before .before .before .before .before .before .caller-of .ensures) _ (c .before .before .before .before .before .before .before .before .before .before .before .before .before .before .before .before .before .before .caller .given .1)) (c .before .before .before .before .before .before .before .before .before .before .before .before .before .before .before .before .if1 .left) (c .before .before .before .before .before .before .before .before .before .before .before .before .before .before .load .ensures) (c .before .before .before .before .before .before .before .before .before .before .before .write .ensures) (c .before .before .before .before .store .ensures) (c .report .ensures .0) (c .report .ensures .1) .does
+returns-3 c = effect-called (c .before .before .before .before .before .before .before .before .before .before .before .before .before .before .before .before .before .before .before .before .before .before .before .before .before .before .before .args .info .now) _ _ _ _ _ _ (c .before .before .before .before .before .before .before .before .before .before .before .before .before .before .before .before .before .before .before .before .before .before .before .before .before .before .before .args .bytes .now) [] [] 0 _ _ _ _ _ _ _ (called _ _ (c .before .before .before .before .before .before .before .before .before .before .before .before .before .before .before .before .before .before .caller-of .ensures) _ (c .before .before .before .before .before .before .before .before .before .before .before .before .before .before .before .before .caller .given .1)) (c .before .before .before .before .before .before .before .before .before .before .before .before .before .before .if1 .left) (c .before .before .before .before .before .before .before .before .before .before .before .before .load .ensures) (c .before .before .before .before .before .before .before .before .before .write .ensures) (c .before .before .settle .ensures .0) (c .before .before .settle .ensures .1 .0) (c .before .before .settle .ensures .1 .1) .does
 
 pub negvask-write-spec : {M : Type 1} → statement M
 negvask-write-spec =
@@ -56,8 +53,7 @@ negvask-write-spec =
     returns-2
     load-requires
     write-requires
-    store-requires
-    report-requires
+    settle-requires
     same-length
     same-length-2
     same-length-3
