@@ -1,6 +1,6 @@
 -- The card's record, credentials, new keys and calls as C passes them: in plain numbers.
 use Prim.Native.Nat.{ℕ}
-use mathlib.Core.Bool.{Bool, _&&_, cond}
+use mathlib.Core.Bool.{_&&_, cond}
 use mathlib.Core.List.{List, [], _∷_}
 use lib.Dec.{eqb}
 use lib.ListN.{getD}
@@ -45,6 +45,7 @@ newKeyOf present high low =
 
 -- ---- who calls
 
+-- The port and the credential, where both are good.
 unfoldable pub callerOf : ℕ → Presented → Caller
 callerOf port (Presents c) = cond (eqb port 0) (Calls Host c) (cond (eqb port 1) (Calls Service c) BadCaller)
 callerOf port BadCredential = BadCaller
@@ -90,8 +91,10 @@ createOf source destination (Presents c) (Presents d) = Good (Create (record { s
 createOf source destination (Presents c) BadCredential = BadOperands
 createOf source destination BadCredential second = BadOperands
 
+abbrev pub keyWith : Keying → Made
+keyWith (Keys o) = Good (Key o)
+keyWith BadKeying = BadOperands
+
 unfoldable pub keyOf : ℕ → Presented → Replacing → Replacing → Made
-keyOf block (Presents c) (Replaces r) (Replaces w) = Good (Key (record { block = block; credential = c; read = r; write = w }))
-keyOf block (Presents c) (Replaces r) BadKey = BadOperands
-keyOf block (Presents c) BadKey write = BadOperands
+keyOf block (Presents c) read write = keyWith (keyingOf block c read write)
 keyOf block BadCredential read write = BadOperands

@@ -20,7 +20,7 @@ use Rattle.fields.specs.declared.Replacing.{Replacing}
 use Rattle.fields.specs.declared.Replacing.the-variants.{Good as Replaces, Bad as BadKey}
 use Rattle.records.specs.declared.Decoding.{Decoding}
 use Rattle.records.specs.declared.Decoding.the-variants.{Decoded, Bad}
-use Rattle.operands.specs.Operands.{numbersOf, callerOf, keyingOf, Made, Good, BadOperands, atPort, madeWith, createOf, keyOf}
+use Rattle.operands.specs.Operands.{numbersOf, callerOf, keyingOf, Made, Good, BadOperands, atPort, madeWith, createOf, keyWith, keyOf}
 use Rattle.operands.specs.declared.Caller.{Caller}
 use Rattle.operands.specs.declared.Caller.the-variants.{Good as Calls, Bad as BadCaller}
 use Rattle.operands.specs.declared.Keying.{Keying}
@@ -54,16 +54,12 @@ at-port port BadOperands = no-choice (eqb port 0) (eqb port 1)
     no-choice false true = refl
     no-choice false false = refl
 
+-- Whatever is made of a credential, none of a wrong one.
 module _ (made : Presented → Made) (none : made BadCredential ≡ BadOperands) (port : ℕ) where
   by-caller : (p : Presented) → atPort port (made p) ≡ calledBy (λ (c : Credential). made (Presents c)) (callerOf port p)
-  unfolding callerOf calledBy decodedAt
+  unfolding atPort callerOf calledBy
   by-caller (Presents c) = at-port port (made (Presents c)) ∙ choice (λ (c : Credential). made (Presents c)) c (eqb port 0) (eqb port 1)
-  by-caller BadCredential = ap (atPort port) none ∙ (at-port port BadOperands ∙ no-call (eqb port 0) (eqb port 1))
-    where
-      no-call : (host service : Bool) → cond host Bad (cond service Bad Bad) ≡ Bad
-      no-call true service = refl
-      no-call false true = refl
-      no-call false false = refl
+  by-caller BadCredential = ap (atPort port) none
 
   module _ (p : Presented) {caller : Caller} (e : caller ≡ callerOf port p) where
     by-bad : caller ≡ BadCaller → atPort port (made p) ≡ Bad
@@ -73,17 +69,6 @@ module _ (made : Presented → Made) (none : made BadCredential ≡ BadOperands)
     by-good : {at : Port} {c : Credential} → caller ≡ Calls at c → atPort port (made p) ≡ decodedAt at (made (Presents c))
     unfolding calledBy
     by-good h = by-caller p ∙ ap (calledBy (λ (c : Credential). made (Presents c))) (sym e ∙ h)
-
--- KEY of the operands that are made for it.
-abbrev madeKey : Keying → Made
-madeKey (Keys o) = Good (Key o)
-madeKey BadKeying = BadOperands
-
-key-made : (block : ℕ) (c : Credential) (r w : Replacing) → keyOf block (Presents c) r w ≡ madeKey (keyingOf block c r w)
-unfolding keyOf keyingOf
-key-made block c (Replaces r) (Replaces w) = refl
-key-made block c (Replaces r) BadKey = refl
-key-made block c BadKey w = refl
 
 module _ (port : ℕ) (p : Presented) {caller : Caller} (e : caller ≡ callerOf port p) where
   -- A call with one credential.
@@ -122,13 +107,17 @@ module _ (port : ℕ) (p : Presented) {caller : Caller} (e : caller ≡ callerOf
     not-keyed = by-bad keying refl port p e
 
     module _ {at : Port} {c : Credential} {k : Keying} (h : caller ≡ Calls at c) (f : k ≡ keyingOf block c r w) where
+      by-keys : {k' : Keying} → k ≡ k' → atPort port (keyOf block p r w) ≡ decodedAt at (keyWith k')
+      unfolding keyOf
+      by-keys s = by-good keying refl port p e h ∙ ap (λ (x : Keying). decodedAt at (keyWith x)) (sym f ∙ s)
+
       pub no-keys : k ≡ BadKeying → atPort port (keyOf block p r w) ≡ Bad
-      unfolding keyOf decodedAt
-      no-keys s = by-good keying refl port p e h ∙ (ap (decodedAt at) (key-made block c r w) ∙ ap (λ (x : Keying). decodedAt at (madeKey x)) (sym f ∙ s))
+      unfolding decodedAt
+      no-keys = by-keys
 
       pub keyed : {o : KeyOperands} → k ≡ Keys o → atPort port (keyOf block p r w) ≡ Decoded at (Key o)
-      unfolding keyOf decodedAt
-      keyed s = by-good keying refl port p e h ∙ (ap (decodedAt at) (key-made block c r w) ∙ ap (λ (x : Keying). decodedAt at (madeKey x)) (sym f ∙ s))
+      unfolding decodedAt
+      keyed = by-keys
 
 -- ---- five numbers stored
 

@@ -1,5 +1,4 @@
 -- `interface::negvask_format` meets its contract. Assumes nothing.
-use mathlib.Core.Path.{_∙_}
 use Rattle.adapter.specs.EffectsLaws.{format-record, formatted}
 use borrow.Author.Needs.{needs}
 use Rattle.interface.proofs.negvask_format.Statement.{statement}

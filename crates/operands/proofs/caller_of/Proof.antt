@@ -1,5 +1,4 @@
 -- `operands::caller_of` meets its contract. Assumes nothing.
-use mathlib.Core.Path.{sym, _∙_}
 use borrow.Author.Tests.{ne-eqb}
 use Rattle.operands.specs.Operands.{callerOf}
 use borrow.Author.Needs.{needs}
