@@ -2,7 +2,6 @@
 -- Assumes nothing.
 use Prim.Native.Nat.{ℕ, _+_, _-_, _≤_}
 use mathlib.Core.Path.{_≡_, refl, sym, ap, _∙_, subst}
-use mathlib.Core.Bool.{Bool, true, false, cond}
 use mathlib.Core.List.{List, [], _∷_}
 use mathlib.Core.Option.{Option, none, some}
 use native.Mathlib.Omega.{arith}
@@ -24,7 +23,7 @@ use Rattle.card.specs.declared.Refusal.{Refusal}
 use Rattle.card.specs.declared.Refusal.the-variants.{Misshapen, Unsound, NotAllocated, BadOperand, NotOpened, IsRoot, PointerExists, NoPointer, HasPointers, TooFewBlocks, TooFewPlaces, TimeEnds, BadRecord}
 use Rattle.kinds.specs.Kinds.{row, lengthOf, dataLength, operandsLength}
 use Rattle.records.specs.Decode.{nameOf, dataOf, decodeBody}
-use Rattle.records.specs.DecodeLaws.{OfKind, decoded-kind}
+use Rattle.records.specs.DecodeLaws.{decoded-kind}
 use Rattle.records.specs.declared.Decoding.{Decoding}
 use Rattle.records.specs.declared.Decoding.the-variants.{Decoded, Bad}
 use Rattle.operands.specs.Operands.{recordOf, numbersOf}
@@ -84,27 +83,6 @@ module _ (info flags keys counts pointers windows contents input out places : Li
       let i : Is (perform port (card (recordOf info) flags keys counts pointers windows contents) (request call input out places)) answer (card left flags' keys' counts' pointers' windows' contents') out' places' =
       subst (λ (o : Info). Is (perform port (card o flags keys counts pointers windows contents) (request call input out places)) answer (card left flags' keys' counts' pointers' windows' contents') out' places') l j in
       rw (e, eq-eqb (length info) 5 n) (reported value left flags' keys' counts' pointers' windows' contents' i s a g)
-
--- ---- buffers that are not lent
-
-empty : (xs : List ℕ) → length xs ≡ 0 → xs ≡ []
-empty [] e = refl
-empty (x ∷ xs) e = absurd (omega arith)
-
-module _ {want : Effect} {number value : ℕ} {info : List ℕ} {after : Card} {out places : List ℕ} (g : Gives want number value info after out places) where
-  pub no-out : length out ≡ 0 → Gives want number value info after [] places
-  no-out e = subst (λ (xs : List ℕ). Gives want number value info after xs places) (empty out e) g
-
-  pub no-places : length places ≡ 0 → Gives want number value info after out []
-  no-places e = subst (λ (xs : List ℕ). Gives want number value info after out xs) (empty places e) g
-
--- ---- a call made of operands
-
--- What is right of a call is right of operands that make it.
-pub of-operands : (info : List ℕ) (c : Card) (input out places : List ℕ) (value : ℕ) {d e : Decoding} {number given : ℕ} {info' : List ℕ} {after : Card} {out' places' : List ℕ} → d ≡ e
-    → Gives (effect d info c input out places value) number given info' after out' places' → Gives (effect e info c input out places value) number given info' after out' places'
-of-operands info c input out places value {number = number} {given = given} {info' = info'} {after = after} {out' = out'} {places' = places'} s g =
-    subst (λ (d : Decoding). Gives (effect d info c input out places value) number given info' after out' places') s g
 
 -- ---- FREE and AUDIT change nothing
 

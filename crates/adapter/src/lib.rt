@@ -1,12 +1,13 @@
 // A decoded call on the card's record as five lent numbers, and the bytes of a record beside its operands.
 use card::Answer;
 use card::Call;
+use card::Outcome;
 use records::Decoding;
 ghost use mathlib.Core.Path.{_≡_};
-ghost use mathlib.Core.List.{[]};
+ghost use lib.ListN.{length};
 ghost use Rattle.card.specs.Card.{card};
 ghost use Rattle.card.specs.Calls.{answerNumber};
-ghost use Rattle.operands.specs.Operands.{recordOf};
+ghost use Rattle.operands.specs.Operands.{recordOf, numbersOf};
 ghost use Rattle.adapter.specs.Effects.{valueAfter, effect, dataSize, dataFrom, Gives};
 
 // ---- calls
@@ -24,6 +25,19 @@ pub fn report(answer: Answer, value: &mut u64) -> u32
             0
         }
     }
+}
+
+// What a call leaves of the record is stored, and its answer reported.
+pub fn settle(info: &mut [u64], outcome: Outcome, value: &mut u64) -> u32
+    requires { ⌜ length (now info) ≡ 5 ⌝ }
+    ensures stored { λ _. ⌜ now (info .exit) ≡ numbersOf (outcome .info) ⌝ }
+    ensures number { λ r. ⌜ r ≡ answerNumber (outcome .answer) ⌝ }
+    ensures result { λ _. ⌜ now (value .exit) ≡ valueAfter (outcome .answer) (now (value .entry)) ⌝ }
+{
+    let left = outcome.info;
+    let answer = outcome.answer;
+    operands::store(info, left);
+    report(answer, value)
 }
 
 // A call on the lent record and tables: refused 13 where there is none, and 1 where the record has not five numbers.
@@ -63,43 +77,7 @@ pub fn perform(
         out,
         places,
     );
-    let left = outcome.info;
-    let answer = outcome.answer;
-    operands::store(info, left);
-    report(answer, value)
-}
-
-// A call that has no use for a buffer.
-pub fn perform_alone(
-    info: &mut [u64],
-    flags: &mut [u8],
-    keys: &mut [u64],
-    counts: &mut [u16],
-    pointers: &mut [u32],
-    windows: &mut [u64],
-    contents: &mut [u8],
-    decoding: Decoding,
-    value: &mut u64,
-) -> u32
-    ensures { λ r. ⌜ Gives (effect (decoding) (now (info .entry)) (card (recordOf (now (info .entry))) (now (flags .entry)) (now (keys .entry)) (now (counts .entry)) (now (pointers .entry)) (now (windows .entry)) (now (contents .entry))) [] [] [] (now (value .entry))) r (now (value .exit)) (now (info .exit)) (card (recordOf (now (info .exit))) (now (flags .exit)) (now (keys .exit)) (now (counts .exit)) (now (pointers .exit)) (now (windows .exit)) (now (contents .exit))) [] [] ⌝ }
-{
-    let input = [0u8; 0];
-    let mut out = [0u8; 0];
-    let mut places = [0u16; 0];
-    perform(
-        info,
-        flags,
-        keys,
-        counts,
-        pointers,
-        windows,
-        contents,
-        decoding,
-        &input,
-        &mut out,
-        &mut places,
-        value,
-    )
+    settle(info, outcome, value)
 }
 
 // ---- the bytes of a record

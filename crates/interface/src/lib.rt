@@ -1,11 +1,19 @@
 // The functions that C links: the card's record as a lent slice of five numbers, tables and buffers as slices,
 // enums as numbers. include/negvask.h describes them.
+use card::AllocOperands;
 use card::Call;
+use card::CreateOperands;
+use card::DeleteOperands;
 use card::ForceOperands;
 use card::Port;
+use card::ReadOperands;
 use card::RenewOperands;
 use card::TickOperands;
+use card::WriteOperands;
+use fields::Presented;
 use input::Stop;
+use operands::Caller;
+use operands::Keying;
 use records::Decoding;
 ghost use mathlib.Core.Path.{_≡_};
 ghost use mathlib.Core.List.{[]};
@@ -20,12 +28,12 @@ ghost use Rattle.adapter.specs.Effects.{effect, formatEffect, recordEffect, Doe
 #[no_mangle]
 pub extern "C" fn negvask_read(
     info: &mut [u64],
-    flags: &mut [u8],
-    keys: &mut [u64],
-    counts: &mut [u16],
-    pointers: &mut [u32],
+    flags: &[u8],
+    keys: &[u64],
+    counts: &[u16],
+    pointers: &[u32],
     windows: &mut [u64],
-    contents: &mut [u8],
+    contents: &[u8],
     port: u8,
     block: u16,
     kind: u8,
@@ -35,38 +43,43 @@ pub extern "C" fn negvask_read(
     interval: u32,
     out: &mut [u8],
 ) -> u32
-    ensures { λ r. ⌜ Does (effect (atPort port (readOf block interval (credentialOf kind reference high low))) (now (info .entry)) (card (recordOf (now (info .entry))) (now (flags .entry)) (now (keys .entry)) (now (counts .entry)) (now (pointers .entry)) (now (windows .entry)) (now (contents .entry))) [] (now (out .entry)) [] 0) r (now (info .exit)) (card (recordOf (now (info .exit))) (now (flags .exit)) (now (keys .exit)) (now (counts .exit)) (now (pointers .exit)) (now (windows .exit)) (now (contents .exit))) (now (out .exit)) [] ⌝ }
+    ensures { λ r. ⌜ Does (effect (atPort port (readOf block interval (credentialOf kind reference high low))) (now (info .entry)) (card (recordOf (now (info .entry))) (now (flags .entry)) (now (keys .entry)) (now (counts .entry)) (now (pointers .entry)) (now (windows .entry)) (now (contents .entry))) [] (now (out .entry)) [] 0) r (now (info .exit)) (card (recordOf (now (info .exit))) (now (flags .entry)) (now (keys .entry)) (now (counts .entry)) (now (pointers .entry)) (now (windows .exit)) (now (contents .entry))) (now (out .exit)) [] ⌝ }
 {
-    let presented = operands::credential_of(kind, reference, high, low);
-    let made = operands::read_of(block, presented, interval);
-    let decoding = operands::at_port(port, made);
-    let input = [0u8; 0];
-    let mut places = [0u16; 0];
-    let mut value = 0;
-    adapter::perform(
-        info,
+    let caller = operands::caller_of(port, kind, reference, high, low);
+    let Caller::Good(at, credential) = caller else {
+        return 13;
+    };
+    if info.len() != 5 {
+        return 1;
+    }
+    let outcome = calls::read(
+        operands::load(info),
         flags,
         keys,
         counts,
         pointers,
         windows,
         contents,
-        decoding,
-        &input,
+        at,
+        ReadOperands {
+            block,
+            credential,
+            interval,
+        },
         out,
-        &mut places,
-        &mut value,
-    )
+    );
+    let mut value = 0;
+    adapter::settle(info, outcome, &mut value)
 }
 
 // WRITE: `data` into the block.
 #[no_mangle]
 pub extern "C" fn negvask_write(
     info: &mut [u64],
-    flags: &mut [u8],
-    keys: &mut [u64],
-    counts: &mut [u16],
-    pointers: &mut [u32],
+    flags: &[u8],
+    keys: &[u64],
+    counts: &[u16],
+    pointers: &[u32],
     windows: &mut [u64],
     contents: &mut [u8],
     port: u8,
@@ -78,28 +91,33 @@ pub extern "C" fn negvask_write(
     interval: u32,
     bytes: &[u8],
 ) -> u32
-    ensures { λ r. ⌜ Does (effect (atPort port (writeOf block interval (credentialOf kind reference high low))) (now (info .entry)) (card (recordOf (now (info .entry))) (now (flags .entry)) (now (keys .entry)) (now (counts .entry)) (now (pointers .entry)) (now (windows .entry)) (now (contents .entry))) (now (bytes .entry)) [] [] 0) r (now (info .exit)) (card (recordOf (now (info .exit))) (now (flags .exit)) (now (keys .exit)) (now (counts .exit)) (now (pointers .exit)) (now (windows .exit)) (now (contents .exit))) [] [] ⌝ }
+    ensures { λ r. ⌜ Does (effect (atPort port (writeOf block interval (credentialOf kind reference high low))) (now (info .entry)) (card (recordOf (now (info .entry))) (now (flags .entry)) (now (keys .entry)) (now (counts .entry)) (now (pointers .entry)) (now (windows .entry)) (now (contents .entry))) (now (bytes .entry)) [] [] 0) r (now (info .exit)) (card (recordOf (now (info .exit))) (now (flags .entry)) (now (keys .entry)) (now (counts .entry)) (now (pointers .entry)) (now (windows .exit)) (now (contents .exit))) [] [] ⌝ }
 {
-    let presented = operands::credential_of(kind, reference, high, low);
-    let made = operands::write_of(block, presented, interval);
-    let decoding = operands::at_port(port, made);
-    let mut out = [0u8; 0];
-    let mut places = [0u16; 0];
-    let mut value = 0;
-    adapter::perform(
-        info,
+    let caller = operands::caller_of(port, kind, reference, high, low);
+    let Caller::Good(at, credential) = caller else {
+        return 13;
+    };
+    if info.len() != 5 {
+        return 1;
+    }
+    let outcome = calls::write(
+        operands::load(info),
         flags,
         keys,
         counts,
         pointers,
         windows,
         contents,
-        decoding,
+        at,
+        WriteOperands {
+            block,
+            credential,
+            interval,
+        },
         bytes,
-        &mut out,
-        &mut places,
-        &mut value,
-    )
+    );
+    let mut value = 0;
+    adapter::settle(info, outcome, &mut value)
 }
 
 // ALLOC: `count` blocks below the block, their numbers into `places`.
@@ -107,10 +125,10 @@ pub extern "C" fn negvask_write(
 pub extern "C" fn negvask_alloc(
     info: &mut [u64],
     flags: &mut [u8],
-    keys: &mut [u64],
+    keys: &[u64],
     counts: &mut [u16],
     pointers: &mut [u32],
-    windows: &mut [u64],
+    windows: &[u64],
     contents: &mut [u8],
     port: u8,
     block: u16,
@@ -122,40 +140,46 @@ pub extern "C" fn negvask_alloc(
     count: u8,
     places: &mut [u16],
 ) -> u32
-    ensures { λ r. ⌜ Does (effect (atPort port (allocOf block hint count (credentialOf kind reference high low))) (now (info .entry)) (card (recordOf (now (info .entry))) (now (flags .entry)) (now (keys .entry)) (now (counts .entry)) (now (pointers .entry)) (now (windows .entry)) (now (contents .entry))) [] [] (now (places .entry)) 0) r (now (info .exit)) (card (recordOf (now (info .exit))) (now (flags .exit)) (now (keys .exit)) (now (counts .exit)) (now (pointers .exit)) (now (windows .exit)) (now (contents .exit))) [] (now (places .exit)) ⌝ }
+    ensures { λ r. ⌜ Does (effect (atPort port (allocOf block hint count (credentialOf kind reference high low))) (now (info .entry)) (card (recordOf (now (info .entry))) (now (flags .entry)) (now (keys .entry)) (now (counts .entry)) (now (pointers .entry)) (now (windows .entry)) (now (contents .entry))) [] [] (now (places .entry)) 0) r (now (info .exit)) (card (recordOf (now (info .exit))) (now (flags .exit)) (now (keys .entry)) (now (counts .exit)) (now (pointers .exit)) (now (windows .entry)) (now (contents .exit))) [] (now (places .exit)) ⌝ }
 {
-    let presented = operands::credential_of(kind, reference, high, low);
-    let made = operands::alloc_of(block, presented, hint, count);
-    let decoding = operands::at_port(port, made);
-    let input = [0u8; 0];
-    let mut out = [0u8; 0];
-    let mut value = 0;
-    adapter::perform(
-        info,
+    let caller = operands::caller_of(port, kind, reference, high, low);
+    let Caller::Good(at, credential) = caller else {
+        return 13;
+    };
+    if info.len() != 5 {
+        return 1;
+    }
+    let outcome = calls::alloc(
+        operands::load(info),
         flags,
         keys,
         counts,
         pointers,
         windows,
         contents,
-        decoding,
-        &input,
-        &mut out,
+        at,
+        AllocOperands {
+            reference: block,
+            credential,
+            hint,
+            count,
+        },
         places,
-        &mut value,
-    )
+    );
+    let mut value = 0;
+    adapter::settle(info, outcome, &mut value)
 }
 
 // CREATE: a pointer from the source to the destination, each with its credential.
 #[no_mangle]
 pub extern "C" fn negvask_create(
     info: &mut [u64],
-    flags: &mut [u8],
-    keys: &mut [u64],
+    flags: &[u8],
+    keys: &[u64],
     counts: &mut [u16],
     pointers: &mut [u32],
-    windows: &mut [u64],
-    contents: &mut [u8],
+    windows: &[u64],
+    contents: &[u8],
     port: u8,
     source: u16,
     kind: u8,
@@ -168,24 +192,37 @@ pub extern "C" fn negvask_create(
     high2: u64,
     low2: u64,
 ) -> u32
-    ensures { λ r. ⌜ Does (effect (atPort port (createOf source destination (credentialOf kind reference high low) (credentialOf kind2 reference2 high2 low2))) (now (info .entry)) (card (recordOf (now (info .entry))) (now (flags .entry)) (now (keys .entry)) (now (counts .entry)) (now (pointers .entry)) (now (windows .entry)) (now (contents .entry))) [] [] [] 0) r (now (info .exit)) (card (recordOf (now (info .exit))) (now (flags .exit)) (now (keys .exit)) (now (counts .exit)) (now (pointers .exit)) (now (windows .exit)) (now (contents .exit))) [] [] ⌝ }
+    ensures { λ r. ⌜ Does (effect (atPort port (createOf source destination (credentialOf kind reference high low) (credentialOf kind2 reference2 high2 low2))) (now (info .entry)) (card (recordOf (now (info .entry))) (now (flags .entry)) (now (keys .entry)) (now (counts .entry)) (now (pointers .entry)) (now (windows .entry)) (now (contents .entry))) [] [] [] 0) r (now (info .exit)) (card (recordOf (now (info .exit))) (now (flags .entry)) (now (keys .entry)) (now (counts .exit)) (now (pointers .exit)) (now (windows .entry)) (now (contents .entry))) [] [] ⌝ }
 {
-    let presented = operands::credential_of(kind, reference, high, low);
-    let second = operands::credential_of(kind2, reference2, high2, low2);
-    let made = operands::create_of(source, presented, destination, second);
-    let decoding = operands::at_port(port, made);
-    let mut value = 0;
-    adapter::perform_alone(
-        info,
+    let caller = operands::caller_of(port, kind, reference, high, low);
+    let Caller::Good(at, credential) = caller else {
+        return 13;
+    };
+    let presented = operands::credential_of(kind2, reference2, high2, low2);
+    let Presented::Good(second) = presented else {
+        return 13;
+    };
+    if info.len() != 5 {
+        return 1;
+    }
+    let outcome = calls::create(
+        operands::load(info),
         flags,
         keys,
         counts,
         pointers,
         windows,
         contents,
-        decoding,
-        &mut value,
-    )
+        at,
+        CreateOperands {
+            source,
+            credential,
+            destination,
+            second,
+        },
+    );
+    let mut value = 0;
+    adapter::settle(info, outcome, &mut value)
 }
 
 // DELETE: the pointer from the source to the destination; `value` 1 if that freed the destination, else 0.
@@ -197,7 +234,7 @@ pub extern "C" fn negvask_delete(
     counts: &mut [u16],
     pointers: &mut [u32],
     windows: &mut [u64],
-    contents: &mut [u8],
+    contents: &[u8],
     port: u8,
     source: u16,
     kind: u8,
@@ -207,22 +244,31 @@ pub extern "C" fn negvask_delete(
     destination: u16,
     value: &mut u64,
 ) -> u32
-    ensures { λ r. ⌜ Gives (effect (atPort port (deleteOf source destination (credentialOf kind reference high low))) (now (info .entry)) (card (recordOf (now (info .entry))) (now (flags .entry)) (now (keys .entry)) (now (counts .entry)) (now (pointers .entry)) (now (windows .entry)) (now (contents .entry))) [] [] [] (now (value .entry))) r (now (value .exit)) (now (info .exit)) (card (recordOf (now (info .exit))) (now (flags .exit)) (now (keys .exit)) (now (counts .exit)) (now (pointers .exit)) (now (windows .exit)) (now (contents .exit))) [] [] ⌝ }
+    ensures { λ r. ⌜ Gives (effect (atPort port (deleteOf source destination (credentialOf kind reference high low))) (now (info .entry)) (card (recordOf (now (info .entry))) (now (flags .entry)) (now (keys .entry)) (now (counts .entry)) (now (pointers .entry)) (now (windows .entry)) (now (contents .entry))) [] [] [] (now (value .entry))) r (now (value .exit)) (now (info .exit)) (card (recordOf (now (info .exit))) (now (flags .exit)) (now (keys .exit)) (now (counts .exit)) (now (pointers .exit)) (now (windows .exit)) (now (contents .entry))) [] [] ⌝ }
 {
-    let presented = operands::credential_of(kind, reference, high, low);
-    let made = operands::delete_of(source, presented, destination);
-    let decoding = operands::at_port(port, made);
-    adapter::perform_alone(
-        info,
+    let caller = operands::caller_of(port, kind, reference, high, low);
+    let Caller::Good(at, credential) = caller else {
+        return 13;
+    };
+    if info.len() != 5 {
+        return 1;
+    }
+    let outcome = calls::delete(
+        operands::load(info),
         flags,
         keys,
         counts,
         pointers,
         windows,
         contents,
-        decoding,
-        value,
-    )
+        at,
+        DeleteOperands {
+            source,
+            credential,
+            destination,
+        },
+    );
+    adapter::settle(info, outcome, value)
 }
 
 // KEY: both keys of the block replaced.
@@ -231,10 +277,10 @@ pub extern "C" fn negvask_key(
     info: &mut [u64],
     flags: &mut [u8],
     keys: &mut [u64],
-    counts: &mut [u16],
-    pointers: &mut [u32],
+    counts: &[u16],
+    pointers: &[u32],
     windows: &mut [u64],
-    contents: &mut [u8],
+    contents: &[u8],
     port: u8,
     block: u16,
     kind: u8,
@@ -248,125 +294,137 @@ pub extern "C" fn negvask_key(
     writehigh: u64,
     writelow: u64,
 ) -> u32
-    ensures { λ r. ⌜ Does (effect (atPort port (keyOf block (credentialOf kind reference high low) (newKeyOf read readhigh readlow) (newKeyOf write writehigh writelow))) (now (info .entry)) (card (recordOf (now (info .entry))) (now (flags .entry)) (now (keys .entry)) (now (counts .entry)) (now (pointers .entry)) (now (windows .entry)) (now (contents .entry))) [] [] [] 0) r (now (info .exit)) (card (recordOf (now (info .exit))) (now (flags .exit)) (now (keys .exit)) (now (counts .exit)) (now (pointers .exit)) (now (windows .exit)) (now (contents .exit))) [] [] ⌝ }
+    ensures { λ r. ⌜ Does (effect (atPort port (keyOf block (credentialOf kind reference high low) (newKeyOf read readhigh readlow) (newKeyOf write writehigh writelow))) (now (info .entry)) (card (recordOf (now (info .entry))) (now (flags .entry)) (now (keys .entry)) (now (counts .entry)) (now (pointers .entry)) (now (windows .entry)) (now (contents .entry))) [] [] [] 0) r (now (info .exit)) (card (recordOf (now (info .exit))) (now (flags .exit)) (now (keys .exit)) (now (counts .entry)) (now (pointers .entry)) (now (windows .exit)) (now (contents .entry))) [] [] ⌝ }
 {
-    let presented = operands::credential_of(kind, reference, high, low);
+    let caller = operands::caller_of(port, kind, reference, high, low);
+    let Caller::Good(at, credential) = caller else {
+        return 13;
+    };
     let first = operands::new_key_of(read, readhigh, readlow);
     let second = operands::new_key_of(write, writehigh, writelow);
-    let made = operands::key_of(block, presented, first, second);
-    let decoding = operands::at_port(port, made);
-    let mut value = 0;
-    adapter::perform_alone(
-        info,
+    let keying = operands::keying_of(block, credential, first, second);
+    let Keying::Good(made) = keying else {
+        return 13;
+    };
+    if info.len() != 5 {
+        return 1;
+    }
+    let outcome = calls::key(
+        operands::load(info),
         flags,
         keys,
         counts,
         pointers,
         windows,
         contents,
-        decoding,
-        &mut value,
-    )
+        at,
+        made,
+    );
+    let mut value = 0;
+    adapter::settle(info, outcome, &mut value)
 }
 
 // RENEW: the window for the mode, by a key.
 #[no_mangle]
 pub extern "C" fn negvask_renew(
     info: &mut [u64],
-    flags: &mut [u8],
-    keys: &mut [u64],
-    counts: &mut [u16],
-    pointers: &mut [u32],
+    flags: &[u8],
+    keys: &[u64],
+    counts: &[u16],
+    pointers: &[u32],
     windows: &mut [u64],
-    contents: &mut [u8],
+    contents: &[u8],
     mode: u8,
     block: u16,
     high: u64,
     low: u64,
     interval: u32,
 ) -> u32
-    ensures { λ r. ⌜ Does (effect (Decoding.Decoded Port.Host (Call.Renew (record { mode = mode; block = block; high = high; low = low; interval = interval }))) (now (info .entry)) (card (recordOf (now (info .entry))) (now (flags .entry)) (now (keys .entry)) (now (counts .entry)) (now (pointers .entry)) (now (windows .entry)) (now (contents .entry))) [] [] [] 0) r (now (info .exit)) (card (recordOf (now (info .exit))) (now (flags .exit)) (now (keys .exit)) (now (counts .exit)) (now (pointers .exit)) (now (windows .exit)) (now (contents .exit))) [] [] ⌝ }
+    ensures { λ r. ⌜ Does (effect (Decoding.Decoded Port.Host (Call.Renew (record { mode = mode; block = block; high = high; low = low; interval = interval }))) (now (info .entry)) (card (recordOf (now (info .entry))) (now (flags .entry)) (now (keys .entry)) (now (counts .entry)) (now (pointers .entry)) (now (windows .entry)) (now (contents .entry))) [] [] [] 0) r (now (info .exit)) (card (recordOf (now (info .exit))) (now (flags .entry)) (now (keys .entry)) (now (counts .entry)) (now (pointers .entry)) (now (windows .exit)) (now (contents .entry))) [] [] ⌝ }
 {
-    let call = Call::Renew(RenewOperands {
-        mode,
-        block,
-        high,
-        low,
-        interval,
-    });
-    let decoding = Decoding::Decoded(Port::Host, call);
-    let mut value = 0;
-    adapter::perform_alone(
-        info,
+    if info.len() != 5 {
+        return 1;
+    }
+    let outcome = calls::renew(
+        operands::load(info),
         flags,
         keys,
         counts,
         pointers,
         windows,
         contents,
-        decoding,
-        &mut value,
-    )
+        RenewOperands {
+            mode,
+            block,
+            high,
+            low,
+            interval,
+        },
+    );
+    let mut value = 0;
+    adapter::settle(info, outcome, &mut value)
 }
 
 // FORCE: both windows of the block closed.
 #[no_mangle]
 pub extern "C" fn negvask_force(
     info: &mut [u64],
-    flags: &mut [u8],
-    keys: &mut [u64],
-    counts: &mut [u16],
-    pointers: &mut [u32],
+    flags: &[u8],
+    keys: &[u64],
+    counts: &[u16],
+    pointers: &[u32],
     windows: &mut [u64],
-    contents: &mut [u8],
+    contents: &[u8],
     block: u16,
 ) -> u32
-    ensures { λ r. ⌜ Does (effect (Decoding.Decoded Port.Host (Call.Force (record { block = block }))) (now (info .entry)) (card (recordOf (now (info .entry))) (now (flags .entry)) (now (keys .entry)) (now (counts .entry)) (now (pointers .entry)) (now (windows .entry)) (now (contents .entry))) [] [] [] 0) r (now (info .exit)) (card (recordOf (now (info .exit))) (now (flags .exit)) (now (keys .exit)) (now (counts .exit)) (now (pointers .exit)) (now (windows .exit)) (now (contents .exit))) [] [] ⌝ }
+    ensures { λ r. ⌜ Does (effect (Decoding.Decoded Port.Host (Call.Force (record { block = block }))) (now (info .entry)) (card (recordOf (now (info .entry))) (now (flags .entry)) (now (keys .entry)) (now (counts .entry)) (now (pointers .entry)) (now (windows .entry)) (now (contents .entry))) [] [] [] 0) r (now (info .exit)) (card (recordOf (now (info .exit))) (now (flags .entry)) (now (keys .entry)) (now (counts .entry)) (now (pointers .entry)) (now (windows .exit)) (now (contents .entry))) [] [] ⌝ }
 {
-    let call = Call::Force(ForceOperands { block });
-    let decoding = Decoding::Decoded(Port::Host, call);
-    let mut value = 0;
-    adapter::perform_alone(
-        info,
+    if info.len() != 5 {
+        return 1;
+    }
+    let outcome = calls::force(
+        operands::load(info),
         flags,
         keys,
         counts,
         pointers,
         windows,
         contents,
-        decoding,
-        &mut value,
-    )
+        ForceOperands { block },
+    );
+    let mut value = 0;
+    adapter::settle(info, outcome, &mut value)
 }
 
 // TICK: `value` the new time.
 #[no_mangle]
 pub extern "C" fn negvask_tick(
     info: &mut [u64],
-    flags: &mut [u8],
-    keys: &mut [u64],
-    counts: &mut [u16],
-    pointers: &mut [u32],
-    windows: &mut [u64],
-    contents: &mut [u8],
+    flags: &[u8],
+    keys: &[u64],
+    counts: &[u16],
+    pointers: &[u32],
+    windows: &[u64],
+    contents: &[u8],
     seconds: u64,
     value: &mut u64,
 ) -> u32
-    ensures { λ r. ⌜ Gives (effect (Decoding.Decoded Port.Host (Call.Tick (record { seconds = seconds }))) (now (info .entry)) (card (recordOf (now (info .entry))) (now (flags .entry)) (now (keys .entry)) (now (counts .entry)) (now (pointers .entry)) (now (windows .entry)) (now (contents .entry))) [] [] [] (now (value .entry))) r (now (value .exit)) (now (info .exit)) (card (recordOf (now (info .exit))) (now (flags .exit)) (now (keys .exit)) (now (counts .exit)) (now (pointers .exit)) (now (windows .exit)) (now (contents .exit))) [] [] ⌝ }
+    ensures { λ r. ⌜ Gives (effect (Decoding.Decoded Port.Host (Call.Tick (record { seconds = seconds }))) (now (info .entry)) (card (recordOf (now (info .entry))) (now (flags .entry)) (now (keys .entry)) (now (counts .entry)) (now (pointers .entry)) (now (windows .entry)) (now (contents .entry))) [] [] [] (now (value .entry))) r (now (value .exit)) (now (info .exit)) (card (recordOf (now (info .exit))) (now (flags .entry)) (now (keys .entry)) (now (counts .entry)) (now (pointers .entry)) (now (windows .entry)) (now (contents .entry))) [] [] ⌝ }
 {
-    let call = Call::Tick(TickOperands { seconds });
-    let decoding = Decoding::Decoded(Port::Host, call);
-    adapter::perform_alone(
-        info,
+    if info.len() != 5 {
+        return 1;
+    }
+    let outcome = calls::tick(
+        operands::load(info),
         flags,
         keys,
         counts,
         pointers,
         windows,
         contents,
-        decoding,
-        value,
-    )
+        TickOperands { seconds },
+    );
+    adapter::settle(info, outcome, value)
 }
 
 // FREE: `value` the number of unallocated blocks.
@@ -462,11 +520,8 @@ pub extern "C" fn negvask_format(
         windows,
         contents,
     );
-    let left = outcome.info;
-    let answer = outcome.answer;
-    operands::store(info, left);
     let mut value = 0;
-    adapter::report(answer, &mut value)
+    adapter::settle(info, outcome, &mut value)
 }
 
 // ---- call records

@@ -1,6 +1,6 @@
 -- The card's record, credentials, new keys and calls as C passes them: in plain numbers.
 use Prim.Native.Nat.{ℕ}
-use mathlib.Core.Bool.{Bool, _&&_, cond}
+use mathlib.Core.Bool.{_&&_, cond}
 use mathlib.Core.List.{List, [], _∷_}
 use lib.Dec.{eqb}
 use lib.ListN.{getD}
@@ -17,8 +17,10 @@ use Rattle.fields.specs.declared.Replacing.{Replacing}
 use Rattle.fields.specs.declared.Replacing.the-variants.{Good as Replaces, Bad as BadKey}
 use Rattle.records.specs.declared.Decoding.{Decoding}
 use Rattle.records.specs.declared.Decoding.the-variants.{Decoded, Bad}
-use Rattle.operands.specs.declared.Made.{Made}
-use Rattle.operands.specs.declared.Made.the-variants.{Good, Bad as BadOperands}
+use Rattle.operands.specs.declared.Caller.{Caller}
+use Rattle.operands.specs.declared.Caller.the-variants.{Good as Calls, Bad as BadCaller}
+use Rattle.operands.specs.declared.Keying.{Keying}
+use Rattle.operands.specs.declared.Keying.the-variants.{Good as Keys, Bad as BadKeying}
 
 -- ---- the record: N, R, B, M and T
 
@@ -41,7 +43,26 @@ newKeyOf present high low =
     cond ((eqb present 0 && eqb high 0) && eqb low 0) (Replaces Absent)
     (cond (eqb present 1) (Replaces (Present high low)) BadKey)
 
+-- ---- who calls
+
+-- The port and the credential, where both are good.
+unfoldable pub callerOf : ℕ → Presented → Caller
+callerOf port (Presents c) = cond (eqb port 0) (Calls Host c) (cond (eqb port 1) (Calls Service c) BadCaller)
+callerOf port BadCredential = BadCaller
+
+-- ---- KEY's operands
+
+unfoldable pub keyingOf : ℕ → Credential → Replacing → Replacing → Keying
+keyingOf block c (Replaces r) (Replaces w) = Keys (record { block = block; credential = c; read = r; write = w })
+keyingOf block c (Replaces r) BadKey = BadKeying
+keyingOf block c BadKey write = BadKeying
+
 -- ---- calls
+
+-- A call, or operands of which none can be made.
+pub data Made : Type 0 where
+  Good : Call → Made
+  BadOperands : Made
 
 -- Port 0 is the host's, 1 the service port. Any other, or a wrong credential or new key, is refused as a record would be.
 unfoldable pub atPort : ℕ → Made → Decoding
@@ -70,8 +91,10 @@ createOf source destination (Presents c) (Presents d) = Good (Create (record { s
 createOf source destination (Presents c) BadCredential = BadOperands
 createOf source destination BadCredential second = BadOperands
 
+abbrev pub keyWith : Keying → Made
+keyWith (Keys o) = Good (Key o)
+keyWith BadKeying = BadOperands
+
 unfoldable pub keyOf : ℕ → Presented → Replacing → Replacing → Made
-keyOf block (Presents c) (Replaces r) (Replaces w) = Good (Key (record { block = block; credential = c; read = r; write = w }))
-keyOf block (Presents c) (Replaces r) BadKey = BadOperands
-keyOf block (Presents c) BadKey write = BadOperands
+keyOf block (Presents c) read write = keyWith (keyingOf block c read write)
 keyOf block BadCredential read write = BadOperands

@@ -1,21 +1,14 @@
 // What C passes as plain numbers: the card's record, ports, credentials, new keys and, of these, calls.
-use card::AllocOperands;
-use card::Call;
-use card::CreateOperands;
 use card::Credential;
-use card::DeleteOperands;
 use card::Info;
 use card::KeyOperands;
 use card::NewKey;
 use card::Port;
-use card::ReadOperands;
-use card::WriteOperands;
 use fields::Presented;
 use fields::Replacing;
-use records::Decoding;
 ghost use mathlib.Core.Path.{_≡_};
 ghost use lib.ListN.{length};
-ghost use Rattle.operands.specs.Operands.{recordOf, numbersOf, credentialOf, newKeyOf, atPort, readOf, writeOf, allocOf, createOf, deleteOf, keyOf};
+ghost use Rattle.operands.specs.Operands.{recordOf, numbersOf, credentialOf, newKeyOf, callerOf, keyingOf};
 
 // ---- the record
 
@@ -77,116 +70,52 @@ pub fn new_key_of(present: u8, high: u64, low: u64) -> Replacing
     Replacing::Bad
 }
 
-// ---- calls
+// ---- who calls
 
-// A call, or operands of which none can be made.
-pub enum Made {
-    Good(Call),
+// The port that a call comes from and the credential that it presents, or numbers that are not both.
+pub enum Caller {
+    Good(Port, Credential),
     Bad,
 }
 
 // Port 0 is the host's, 1 the service port.
-pub fn at_port(port: u8, made: Made) -> Decoding
-    ensures { λ r. ⌜ r ≡ atPort port made ⌝ }
+pub fn caller_of(port: u8, kind: u8, reference: u16, high: u64, low: u64) -> Caller
+    ensures { λ r. ⌜ r ≡ callerOf port (credentialOf kind reference high low) ⌝ }
 {
-    let Made::Good(call) = made else {
-        return Decoding::Bad;
+    let presented = credential_of(kind, reference, high, low);
+    let Presented::Good(credential) = presented else {
+        return Caller::Bad;
     };
     if port == 0 {
-        return Decoding::Decoded(Port::Host, call);
+        return Caller::Good(Port::Host, credential);
     }
     if port == 1 {
-        return Decoding::Decoded(Port::Service, call);
+        return Caller::Good(Port::Service, credential);
     }
-    Decoding::Bad
+    Caller::Bad
 }
 
-pub fn read_of(block: u16, presented: Presented, interval: u32) -> Made
-    ensures { λ r. ⌜ r ≡ readOf block interval presented ⌝ }
-{
-    match presented {
-        Presented::Good(credential) => Made::Good(Call::Read(ReadOperands {
-            block,
-            credential,
-            interval,
-        })),
-        Presented::Bad => Made::Bad,
-    }
+// ---- KEY's operands
+
+// KEY's operands, or numbers of which none can be made.
+pub enum Keying {
+    Good(KeyOperands),
+    Bad,
 }
 
-pub fn write_of(block: u16, presented: Presented, interval: u32) -> Made
-    ensures { λ r. ⌜ r ≡ writeOf block interval presented ⌝ }
+pub fn keying_of(block: u16, credential: Credential, first: Replacing, second: Replacing) -> Keying
+    ensures { λ r. ⌜ r ≡ keyingOf block credential first second ⌝ }
 {
-    match presented {
-        Presented::Good(credential) => Made::Good(Call::Write(WriteOperands {
-            block,
-            credential,
-            interval,
-        })),
-        Presented::Bad => Made::Bad,
-    }
-}
-
-pub fn alloc_of(reference: u16, presented: Presented, hint: u16, count: u8) -> Made
-    ensures { λ r. ⌜ r ≡ allocOf reference hint count presented ⌝ }
-{
-    match presented {
-        Presented::Good(credential) => Made::Good(Call::Alloc(AllocOperands {
-            reference,
-            credential,
-            hint,
-            count,
-        })),
-        Presented::Bad => Made::Bad,
-    }
-}
-
-pub fn create_of(source: u16, first: Presented, destination: u16, other: Presented) -> Made
-    ensures { λ r. ⌜ r ≡ createOf source destination first other ⌝ }
-{
-    let Presented::Good(credential) = first else {
-        return Made::Bad;
-    };
-    let Presented::Good(second) = other else {
-        return Made::Bad;
-    };
-    Made::Good(Call::Create(CreateOperands {
-        source,
-        credential,
-        destination,
-        second,
-    }))
-}
-
-pub fn delete_of(source: u16, presented: Presented, destination: u16) -> Made
-    ensures { λ r. ⌜ r ≡ deleteOf source destination presented ⌝ }
-{
-    match presented {
-        Presented::Good(credential) => Made::Good(Call::Delete(DeleteOperands {
-            source,
-            credential,
-            destination,
-        })),
-        Presented::Bad => Made::Bad,
-    }
-}
-
-pub fn key_of(block: u16, presented: Presented, first: Replacing, second: Replacing) -> Made
-    ensures { λ r. ⌜ r ≡ keyOf block presented first second ⌝ }
-{
-    let Presented::Good(credential) = presented else {
-        return Made::Bad;
-    };
     let Replacing::Good(read) = first else {
-        return Made::Bad;
+        return Keying::Bad;
     };
     let Replacing::Good(write) = second else {
-        return Made::Bad;
+        return Keying::Bad;
     };
-    Made::Good(Call::Key(KeyOperands {
+    Keying::Good(KeyOperands {
         block,
         credential,
         read,
         write,
-    }))
+    })
 }

@@ -1,65 +1,77 @@
 -- `interface::negvask_create` meets its contract. Assumes nothing.
+use mathlib.Core.Path.{sym, _∙_}
 use mathlib.Core.List.{[]}
-use mathlib.Core.Path.{ap, ap₂, _∙_}
-use Rattle.operands.specs.Operands.{atPort, createOf}
-use Rattle.adapter.specs.EffectsLaws.{of-operands}
+use Rattle.operands.specs.OperandsLaws.{not-created, no-second, created}
+use Rattle.adapter.specs.EffectsLaws.{effect-bad, effect-record, effect-called}
 use borrow.Author.Needs.{needs}
 use Rattle.interface.proofs.negvask_create.Statement.{statement}
 use Rattle.interface.proofs.negvask_create.Tie as tie
 
+caller-of-requires : tie.Need-caller-of-requires
+caller-of-requires c κs = tt
+
+enum-known-caller : tie.Need-enum-known-caller
+enum-known-caller c = search needs
+
+enum-told : tie.Need-enum-told
+enum-told c = search needs
+
+returns : tie.Need-returns
+returns c = effect-bad (c .before .before .before .before .before .before .before .before .before .before .args .info .now) _ [] [] [] 0 (not-created _ _ (c .before .before .caller-of .ensures) _ _ _ (c .enum-told .given .1)) .does
+
 credential-of-requires : tie.Need-credential-of-requires
 credential-of-requires c κs = tt
 
-credential-of-requires-2 : tie.Need-credential-of-requires-2
-credential-of-requires-2 c κs = search needs
+enum-known-presented : tie.Need-enum-known-presented
+enum-known-presented c = search needs
 
-create-of-requires : tie.Need-create-of-requires
-create-of-requires c κs = tt
+enum-told-2 : tie.Need-enum-told-2
+enum-told-2 c = search needs
 
-at-port-requires : tie.Need-at-port-requires
-at-port-requires c κs = tt
+returns-2 : tie.Need-returns-2
+returns-2 c = effect-bad (c .before .before .before .before .before .before .before .before .before .before .before .before .before .before .args .info .now) _ [] [] [] 0 (no-second _ _ (c .before .before .before .before .before .before .caller-of .ensures) _ _ _ (c .before .before .before .before .caller .given .1) (sym (c .before .before .credential-of .ensures) ∙ (c .enum-told2 .given .1))) .does
 
-perform-alone-requires : tie.Need-perform-alone-requires
-perform-alone-requires c κs = tt
+returns-3 : tie.Need-returns-3
+returns-3 c = effect-record (c .before .before .before .before .before .before .before .before .before .before .before .before .before .before .before .before .args .info .now) _ [] [] [] 0 (created _ _ (c .before .before .before .before .before .before .before .before .caller-of .ensures) _ _ _ (c .before .before .before .before .before .before .caller .given .1) (sym (c .before .before .before .before .credential-of .ensures) ∙ (c .before .before .presented .given .1))) (c .if1 .taken) .does
+
+load-requires : tie.Need-load-requires
+load-requires c κs = search needs
+
+create-requires : tie.Need-create-requires
+create-requires c κs = tt
+
+settle-requires : tie.Need-settle-requires
+settle-requires c κs = search needs
 
 same-length : tie.Need-same-length
-same-length c = c .before .before .before .before .before .before .before .before .before .before .before .before .before .before .perform-alone .kept .0
+same-length c = c .before .before .settle .kept .0
 
 same-length-2 : tie.Need-same-length-2
-same-length-2 c = c .before .before .before .before .before .before .before .before .before .before .before .before .before .before .perform-alone .kept .1 .0
+same-length-2 c = c .before .before .before .before .before .before .before .before .before .create .kept .1 .1 .1 .0
 
 same-length-3 : tie.Need-same-length-3
-same-length-3 c = c .before .before .before .before .before .before .before .before .before .before .before .before .before .before .perform-alone .kept .1 .1 .0
+same-length-3 c = c .before .before .before .before .before .before .before .before .before .create .kept .1 .1 .1 .1 .0
 
-same-length-4 : tie.Need-same-length-4
-same-length-4 c = c .before .before .before .before .before .before .before .before .before .before .before .before .before .before .perform-alone .kept .1 .1 .1 .0
-
-same-length-5 : tie.Need-same-length-5
-same-length-5 c = c .before .before .before .before .before .before .before .before .before .before .before .before .before .before .perform-alone .kept .1 .1 .1 .1 .0
-
-same-length-6 : tie.Need-same-length-6
-same-length-6 c = c .before .before .before .before .before .before .before .before .before .before .before .before .before .before .perform-alone .kept .1 .1 .1 .1 .1 .0
-
-same-length-7 : tie.Need-same-length-7
-same-length-7 c = c .before .before .before .before .before .before .before .before .before .before .before .before .before .before .perform-alone .kept .1 .1 .1 .1 .1 .1 .0
-
-returns : tie.Need-returns
-returns c = of-operands (c .before .before .before .before .before .before .before .before .before .before .before .before .before .before .before .before .before .before .before .before .before .before .before .before .before .before .before .before .before .before .before .before .before .before .args .info .now) _ [] [] [] 0 (c .before .before .before .before .before .before .before .before .before .before .before .before .before .before .before .before .before .before .before .before .before .before .before .at-port .ensures ∙ ap (atPort _) (c .before .before .before .before .before .before .before .before .before .before .before .before .before .before .before .before .before .before .before .before .before .before .before .before .create-of .ensures ∙ ap₂ (createOf _ _) (c .before .before .before .before .before .before .before .before .before .before .before .before .before .before .before .before .before .before .before .before .before .before .before .before .before .before .credential-of .ensures) (c .before .before .before .before .before .before .before .before .before .before .before .before .before .before .before .before .before .before .before .before .before .before .before .before .before .credential-of2 .ensures))) (c .before .before .before .before .before .before .before .before .before .before .before .before .before .before .perform-alone .ensures) .does
+returns-4 : tie.Need-returns-4
+returns-4 c = effect-called (c .before .before .before .before .before .before .before .before .before .before .before .before .before .before .before .before .before .before .before .before .before .before .before .before .before .before .before .before .before .before .args .info .now) _ _ _ _ _ _ [] [] [] 0 _ _ _ _ _ _ _ (created _ _ (c .before .before .before .before .before .before .before .before .before .before .before .before .before .before .before .before .before .before .before .before .before .before .caller-of .ensures) _ _ _ (c .before .before .before .before .before .before .before .before .before .before .before .before .before .before .before .before .before .before .before .before .caller .given .1) (sym (c .before .before .before .before .before .before .before .before .before .before .before .before .before .before .before .before .before .before .credential-of .ensures) ∙ (c .before .before .before .before .before .before .before .before .before .before .before .before .before .before .before .before .presented .given .1))) (c .before .before .before .before .before .before .before .before .before .before .before .before .before .before .if1 .left) (c .before .before .before .before .before .before .before .before .before .before .before .before .load .ensures) (c .before .before .before .before .before .before .before .before .before .create .ensures) (c .before .before .settle .ensures .0) (c .before .before .settle .ensures .1 .0) (c .before .before .settle .ensures .1 .1) .does
 
 pub negvask-create-spec : {M : Type 1} → statement M
 negvask-create-spec =
     tie.close
     (tie.spec
+    caller-of-requires
+    enum-known-caller
+    enum-told
+    returns
     credential-of-requires
-    credential-of-requires-2
-    create-of-requires
-    at-port-requires
-    perform-alone-requires
+    enum-known-presented
+    enum-told-2
+    returns-2
+    returns-3
+    load-requires
+    create-requires
+    settle-requires
     same-length
     same-length-2
     same-length-3
-    same-length-4
-    same-length-5
-    same-length-6
-    same-length-7
-    returns)
+    returns-4)

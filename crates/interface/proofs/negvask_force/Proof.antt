@@ -1,34 +1,41 @@
 -- `interface::negvask_force` meets its contract. Assumes nothing.
+use mathlib.Core.Path.{refl}
+use mathlib.Core.List.{[]}
+use Rattle.card.specs.declared.Port.the-variants.{Host}
+use Rattle.adapter.specs.EffectsLaws.{effect-record, effect-called}
 use borrow.Author.Needs.{needs}
 use Rattle.interface.proofs.negvask_force.Statement.{statement}
 use Rattle.interface.proofs.negvask_force.Tie as tie
 
-perform-alone-requires : tie.Need-perform-alone-requires
-perform-alone-requires c κs = tt
+returns : tie.Need-returns
+returns c = effect-record (c .before .before .before .before .before .before .before .before .args .info .now) _ [] [] [] 0 refl (c .if1 .taken) .does
+
+load-requires : tie.Need-load-requires
+load-requires c κs = search needs
+
+force-requires : tie.Need-force-requires
+force-requires c κs = tt
+
+settle-requires : tie.Need-settle-requires
+settle-requires c κs = search needs
 
 same-length : tie.Need-same-length
-same-length c = c .before .before .before .before .before .before .before .before .before .before .before .before .before .before .perform-alone .kept .0
+same-length c = c .before .before .settle .kept .0
 
 same-length-2 : tie.Need-same-length-2
-same-length-2 c = c .before .before .before .before .before .before .before .before .before .before .before .before .before .before .perform-alone .kept .1 .0
+same-length-2 c = c .before .before .before .before .before .before .before .force .kept .1 .1 .1 .1 .1 .0
 
-same-length-3 : tie.Need-same-length-3
-same-length-3 c = c .before .before .before .before .before .before .before .before .before .before .before .before .before .before .perform-alone .kept .1 .1 .0
-
-same-length-4 : tie.Need-same-length-4
-same-length-4 c = c .before .before .before .before .before .before .before .before .before .before .before .before .before .before .perform-alone .kept .1 .1 .1 .0
-
-same-length-5 : tie.Need-same-length-5
-same-length-5 c = c .before .before .before .before .before .before .before .before .before .before .before .before .before .before .perform-alone .kept .1 .1 .1 .1 .0
-
-same-length-6 : tie.Need-same-length-6
-same-length-6 c = c .before .before .before .before .before .before .before .before .before .before .before .before .before .before .perform-alone .kept .1 .1 .1 .1 .1 .0
-
-same-length-7 : tie.Need-same-length-7
-same-length-7 c = c .before .before .before .before .before .before .before .before .before .before .before .before .before .before .perform-alone .kept .1 .1 .1 .1 .1 .1 .0
-
-returns : tie.Need-returns
-returns c = c .before .before .before .before .before .before .before .before .before .before .before .before .before .before .perform-alone .ensures .does
+returns-2 : tie.Need-returns-2
+returns-2 c = effect-called (c .before .before .before .before .before .before .before .before .before .before .before .before .before .before .before .before .before .before .before .args .info .now) _ _ _ _ _ _ [] [] [] 0 _ _ _ _ _ _ _ refl (c .before .before .before .before .before .before .before .before .before .before .before .if1 .left) (c .before .before .before .before .before .before .before .before .before .load .ensures) (c .before .before .before .before .before .before .before .force .ensures Host) (c .before .before .settle .ensures .0) (c .before .before .settle .ensures .1 .0) (c .before .before .settle .ensures .1 .1) .does
 
 pub negvask-force-spec : {M : Type 1} → statement M
-negvask-force-spec = tie.close (tie.spec perform-alone-requires same-length same-length-2 same-length-3 same-length-4 same-length-5 same-length-6 same-length-7 returns)
+negvask-force-spec =
+    tie.close
+    (tie.spec
+    returns
+    load-requires
+    force-requires
+    settle-requires
+    same-length
+    same-length-2
+    returns-2)

@@ -1,73 +1,60 @@
 -- `interface::negvask_read` meets its contract. Assumes nothing.
 use mathlib.Core.List.{[]}
-use mathlib.Core.Path.{ap, _∙_}
-use Rattle.operands.specs.Operands.{atPort, readOf}
-use Rattle.adapter.specs.EffectsLaws.{no-places, of-operands}
+use Rattle.operands.specs.OperandsLaws.{not-called, called}
+use Rattle.adapter.specs.EffectsLaws.{effect-bad, effect-record, effect-called}
 use borrow.Author.Needs.{needs}
 use Rattle.interface.proofs.negvask_read.Statement.{statement}
 use Rattle.interface.proofs.negvask_read.Tie as tie
 
-credential-of-requires : tie.Need-credential-of-requires
-credential-of-requires c κs = tt
+caller-of-requires : tie.Need-caller-of-requires
+caller-of-requires c κs = tt
 
-read-of-requires : tie.Need-read-of-requires
-read-of-requires c κs = tt
+enum-known-caller : tie.Need-enum-known-caller
+enum-known-caller c = search needs
 
-at-port-requires : tie.Need-at-port-requires
-at-port-requires c κs = tt
-
-slice-aggregate-perform : tie.Need-slice-aggregate-perform
-slice-aggregate-perform c = search needs
-
-slice-aggregate-perform-2 : tie.Need-slice-aggregate-perform-2
-slice-aggregate-perform-2 c = search needs
-
-perform-requires : tie.Need-perform-requires
-perform-requires c κs = tt
-
-same-length : tie.Need-same-length
-same-length c = c .before .before .before .before .before .before .before .before .before .before .before .before .before .before .before .before .before .perform .kept .0
-
-same-length-2 : tie.Need-same-length-2
-same-length-2 c = c .before .before .before .before .before .before .before .before .before .before .before .before .before .before .before .before .before .perform .kept .1 .0
-
-same-length-3 : tie.Need-same-length-3
-same-length-3 c = c .before .before .before .before .before .before .before .before .before .before .before .before .before .before .before .before .before .perform .kept .1 .1 .0
-
-same-length-4 : tie.Need-same-length-4
-same-length-4 c = c .before .before .before .before .before .before .before .before .before .before .before .before .before .before .before .before .before .perform .kept .1 .1 .1 .0
-
-same-length-5 : tie.Need-same-length-5
-same-length-5 c = c .before .before .before .before .before .before .before .before .before .before .before .before .before .before .before .before .before .perform .kept .1 .1 .1 .1 .0
-
-same-length-6 : tie.Need-same-length-6
-same-length-6 c = c .before .before .before .before .before .before .before .before .before .before .before .before .before .before .before .before .before .perform .kept .1 .1 .1 .1 .1 .0
-
-same-length-7 : tie.Need-same-length-7
-same-length-7 c = c .before .before .before .before .before .before .before .before .before .before .before .before .before .before .before .before .before .perform .kept .1 .1 .1 .1 .1 .1 .0
-
-same-length-8 : tie.Need-same-length-8
-same-length-8 c = c .before .before .before .before .before .before .before .before .before .before .before .before .before .before .before .before .before .perform .kept .1 .1 .1 .1 .1 .1 .1 .1 .1 .0
+enum-told : tie.Need-enum-told
+enum-told c = search needs
 
 returns : tie.Need-returns
-returns c = of-operands (c .before .before .before .before .before .before .before .before .before .before .before .before .before .before .before .before .before .before .before .before .before .before .before .before .before .before .before .before .before .before .before .before .before .before .before .before .before .before .before .before .args .info .now) _ [] (c .before .before .before .before .before .before .before .before .before .before .before .before .before .before .before .before .before .before .before .before .before .before .before .before .before .before .before .before .before .before .before .before .before .before .before .before .before .before .before .before .args .out .now) [] 0 (c .before .before .before .before .before .before .before .before .before .before .before .before .before .before .before .before .before .before .before .before .before .before .before .before .before .before .before .before .before .at-port .ensures ∙ ap (atPort _) (c .before .before .before .before .before .before .before .before .before .before .before .before .before .before .before .before .before .before .before .before .before .before .before .before .before .before .before .before .before .before .read-of .ensures ∙ ap (readOf _ _) (c .before .before .before .before .before .before .before .before .before .before .before .before .before .before .before .before .before .before .before .before .before .before .before .before .before .before .before .before .before .before .before .credential-of .ensures))) (no-places (c .before .before .before .before .before .before .before .before .before .before .before .before .before .before .before .before .before .perform .ensures) (c .before .before .before .before .before .before .before .before .before .before .before .before .before .before .before .before .before .perform .kept .1 .1 .1 .1 .1 .1 .1 .1 .1 .1 .0)) .does
+returns c = effect-bad (c .before .before .before .before .before .before .before .before .before .before .before .args .info .now) _ [] (c .before .before .before .before .before .before .before .before .before .before .before .args .out .now) [] 0 (not-called _ _ (c .before .before .caller-of .ensures) _ (c .enum-told .given .1)) .does
+
+returns-2 : tie.Need-returns-2
+returns-2 c = effect-record (c .before .before .before .before .before .before .before .before .before .before .before .before .before .args .info .now) _ [] (c .before .before .before .before .before .before .before .before .before .before .before .before .before .args .out .now) [] 0 (called _ _ (c .before .before .before .before .caller-of .ensures) _ (c .before .before .caller .given .1)) (c .if1 .taken) .does
+
+load-requires : tie.Need-load-requires
+load-requires c κs = search needs
+
+read-requires : tie.Need-read-requires
+read-requires c κs = tt
+
+settle-requires : tie.Need-settle-requires
+settle-requires c κs = search needs
+
+same-length : tie.Need-same-length
+same-length c = c .before .before .settle .kept .0
+
+same-length-2 : tie.Need-same-length-2
+same-length-2 c = c .before .before .before .before .before .before .before .before .before .read .kept .1 .1 .1 .1 .1 .0
+
+same-length-3 : tie.Need-same-length-3
+same-length-3 c = c .before .before .before .before .before .before .before .before .before .read .kept .1 .1 .1 .1 .1 .1 .1 .1 .1 .0
+
+returns-3 : tie.Need-returns-3
+returns-3 c = effect-called (c .before .before .before .before .before .before .before .before .before .before .before .before .before .before .before .before .before .before .before .before .before .before .before .before .before .before .before .args .info .now) _ _ _ _ _ _ [] (c .before .before .before .before .before .before .before .before .before .before .before .before .before .before .before .before .before .before .before .before .before .before .before .before .before .before .before .args .out .now) [] 0 _ _ _ _ _ _ _ (called _ _ (c .before .before .before .before .before .before .before .before .before .before .before .before .before .before .before .before .before .before .caller-of .ensures) _ (c .before .before .before .before .before .before .before .before .before .before .before .before .before .before .before .before .caller .given .1)) (c .before .before .before .before .before .before .before .before .before .before .before .before .before .before .if1 .left) (c .before .before .before .before .before .before .before .before .before .before .before .before .load .ensures) (c .before .before .before .before .before .before .before .before .before .read .ensures) (c .before .before .settle .ensures .0) (c .before .before .settle .ensures .1 .0) (c .before .before .settle .ensures .1 .1) .does
 
 pub negvask-read-spec : {M : Type 1} → statement M
 negvask-read-spec =
     tie.close
     (tie.spec
-    credential-of-requires
-    read-of-requires
-    at-port-requires
-    slice-aggregate-perform
-    slice-aggregate-perform-2
-    perform-requires
+    caller-of-requires
+    enum-known-caller
+    enum-told
+    returns
+    returns-2
+    load-requires
+    read-requires
+    settle-requires
     same-length
     same-length-2
     same-length-3
-    same-length-4
-    same-length-5
-    same-length-6
-    same-length-7
-    same-length-8
-    returns)
+    returns-3)
