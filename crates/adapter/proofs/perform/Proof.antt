@@ -11,10 +11,15 @@ enum-told : tie.Need-enum-told
 enum-told c = search needs
 
 returns : tie.Need-returns
-returns c = effect-bad (c .before .before .before .before .before .before .before .before .before .before .before .before .args .info .now) _ (c .before .before .before .before .before .before .before .before .before .before .before .before .args .input .now) (c .before .before .before .before .before .before .before .before .before .before .before .before .args .out .now) (c .before .before .before .before .before .before .before .before .before .before .before .before .args .places .now) (c .before .before .before .before .before .before .before .before .before .before .before .before .args .value .now) (c .enum-told .given .1)
+returns c =
+    let start = c .before .before .before .before .before .before .before .before .before .before .before .before in
+    effect-bad (start .args .info .now) _ (start .args .input .now) (start .args .out .now) (start .args .places .now) (start .args .value .now) (c .enum-told .given .1)
 
 returns-2 : tie.Need-returns-2
-returns-2 c = effect-record (c .before .before .before .before .before .before .before .before .before .before .before .before .before .before .args .info .now) _ (c .before .before .before .before .before .before .before .before .before .before .before .before .before .before .args .input .now) (c .before .before .before .before .before .before .before .before .before .before .before .before .before .before .args .out .now) (c .before .before .before .before .before .before .before .before .before .before .before .before .before .before .args .places .now) (c .before .before .before .before .before .before .before .before .before .before .before .before .before .before .args .value .now) (c .before .before .decoding .given .1) (c .if1 .taken)
+returns-2 c =
+    let at-decoding = c .before .before in
+    let start = at-decoding .before .before .before .before .before .before .before .before .before .before .before .before in
+    effect-record (start .args .info .now) _ (start .args .input .now) (start .args .out .now) (start .args .places .now) (start .args .value .now) (at-decoding .decoding .given .1) (c .if1 .taken)
 
 load-requires : tie.Need-load-requires
 load-requires c κs = search needs
@@ -53,7 +58,14 @@ same-length-9 : tie.Need-same-length-9
 same-length-9 c = c .before .before .before .before .before .before .before .before .before .before .before .before .before .before .before .before .before .before .before .before .before .perform .kept .1 .1 .1 .1 .1 .1 .1 .1 .1 .1 .1 .0
 
 returns-3 : tie.Need-returns-3
-returns-3 c = effect-called (c .before .before .before .before .before .before .before .before .before .before .before .before .before .before .before .before .before .before .before .before .before .before .before .before .before .before .before .before .before .before .before .before .before .before .before .before .before .before .before .before .before .before .before .before .before .before .args .info .now) _ _ _ _ _ _ (c .before .before .before .before .before .before .before .before .before .before .before .before .before .before .before .before .before .before .before .before .before .before .before .before .before .before .before .before .before .before .before .before .before .before .before .before .before .before .before .before .before .before .before .before .before .before .args .input .now) (c .before .before .before .before .before .before .before .before .before .before .before .before .before .before .before .before .before .before .before .before .before .before .before .before .before .before .before .before .before .before .before .before .before .before .before .before .before .before .before .before .before .before .before .before .before .before .args .out .now) (c .before .before .before .before .before .before .before .before .before .before .before .before .before .before .before .before .before .before .before .before .before .before .before .before .before .before .before .before .before .before .before .before .before .before .before .before .before .before .before .before .before .before .before .before .before .before .args .places .now) (c .before .before .before .before .before .before .before .before .before .before .before .before .before .before .before .before .before .before .before .before .before .before .before .before .before .before .before .before .before .before .before .before .before .before .before .before .before .before .before .before .before .before .before .before .before .before .args .value .now) _ _ _ _ _ _ _ (c .before .before .before .before .before .before .before .before .before .before .before .before .before .before .before .before .before .before .before .before .before .before .before .before .before .before .before .before .before .before .before .before .before .before .decoding .given .1) (c .before .before .before .before .before .before .before .before .before .before .before .before .before .before .before .before .before .before .before .before .before .before .before .before .before .before .before .before .before .before .before .before .if1 .left) (c .before .before .before .before .before .before .before .before .before .before .before .before .before .before .before .before .before .before .before .before .before .before .before .before .before .before .before .before .before .before .load .ensures) (c .before .before .before .before .before .before .before .before .before .before .before .before .before .before .before .before .before .before .before .before .before .perform .ensures) (c .before .before .settle .ensures .0) (c .before .before .settle .ensures .1 .0) (c .before .before .settle .ensures .1 .1)
+returns-3 c =
+    let at-settle = c .before .before in
+    let at-perform = at-settle .before .before .before .before .before .before .before .before .before .before .before .before .before .before .before .before .before .before .before in
+    let at-load = at-perform .before .before .before .before .before .before .before .before .before in
+    let at-if1 = at-load .before .before in
+    let at-decoding = at-if1 .before .before in
+    let start = at-decoding .before .before .before .before .before .before .before .before .before .before .before .before in
+    effect-called (start .args .info .now) _ _ _ _ _ _ (start .args .input .now) (start .args .out .now) (start .args .places .now) (start .args .value .now) _ _ _ _ _ _ _ (at-decoding .decoding .given .1) (at-if1 .if1 .left) (at-load .load .ensures) (at-perform .perform .ensures) (at-settle .settle .ensures .0) (at-settle .settle .ensures .1 .0) (at-settle .settle .ensures .1 .1)
 
 pub perform-spec : {M : Type 1} → statement M
 perform-spec =

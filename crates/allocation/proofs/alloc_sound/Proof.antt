@@ -30,7 +30,12 @@ cast-take-all : tie.Need-cast-take-all
 cast-take-all c = omega arith
 
 take-all-requires : tie.Need-take-all-requires
-take-all-requires c κs = let a = c .before .before .before .before .before .before .before .before .before .before .before .before .before .before .before .before .before .before .before .before .before .before .args in let k = card (a .info) (a .flags .now) (a .keys .now) (a .counts .now) (a .pointers .now) (a .windows .now) (a .contents .now) in ready (a .port) k (a .o) (a .places .now) (c .before .before .before .before .before .before .before .before .before .before .before .before .before .before .before .before .before .before .before .before .before .before .pre) (passed-check (a .port) k _ (c .before .before .before .before .before .before .before .before .before .alloc-check .ensures) (c .before .before .before .before .before .before .before .enum-told .given .1)) (c .before .before .before .before .before .before .wanted .ensures)
+take-all-requires c κs =
+    let at-wanted = c .before .before .before .before .before .before in
+    let at-enum-told = at-wanted .before in
+    let at-alloc-check = at-enum-told .before .before in
+    let start = at-alloc-check .before .before .before .before .before .before .before .before .before .before .before .before .before in
+    let a = start .args in let k = card (a .info) (a .flags .now) (a .keys .now) (a .counts .now) (a .pointers .now) (a .windows .now) (a .contents .now) in ready (a .port) k (a .o) (a .places .now) (start .pre) (passed-check (a .port) k _ (at-alloc-check .alloc-check .ensures) (at-enum-told .enum-told .given .1)) (at-wanted .wanted .ensures)
 
 done-requires : tie.Need-done-requires
 done-requires c κs = tt
@@ -70,7 +75,13 @@ same-length-10 : tie.Need-same-length-10
 same-length-10 c = c .before .before .before .before .before .before .before .before .before .before .before .take-all .kept .1 .1 .1 .1 .1 .1 .1 .1 .1 .1 .0
 
 returns-2 : tie.Need-returns-2
-returns-2 c = let a = c .before .before .before .before .before .before .before .before .before .before .before .before .before .before .before .before .before .before .before .before .before .before .before .before .before .before .before .before .before .before .before .before .before .before .args in let k = card (a .info) (a .flags .now) (a .keys .now) (a .counts .now) (a .pointers .now) (a .windows .now) (a .contents .now) in took (a .port) k (a .o) (a .places .now) (passed-check (a .port) k _ (c .before .before .before .before .before .before .before .before .before .before .before .before .before .before .before .before .before .before .before .before .before .alloc-check .ensures) (c .before .before .before .before .before .before .before .before .before .before .before .before .before .before .before .before .before .before .before .enum-told .given .1)) (c .before .before .before .before .before .before .before .before .before .before .before .before .before .before .before .before .before .before .wanted .ensures) (c .done .ensures) (c .before .before .before .before .before .before .before .before .before .before .before .take-all .ensures)
+returns-2 c =
+    let at-take-all = c .before .before .before .before .before .before .before .before .before .before .before in
+    let at-wanted = at-take-all .before .before .before .before .before .before .before in
+    let at-enum-told = at-wanted .before in
+    let at-alloc-check = at-enum-told .before .before in
+    let start = at-alloc-check .before .before .before .before .before .before .before .before .before .before .before .before .before in
+    let a = start .args in let k = card (a .info) (a .flags .now) (a .keys .now) (a .counts .now) (a .pointers .now) (a .windows .now) (a .contents .now) in took (a .port) k (a .o) (a .places .now) (passed-check (a .port) k _ (at-alloc-check .alloc-check .ensures) (at-enum-told .enum-told .given .1)) (at-wanted .wanted .ensures) (c .done .ensures) (at-take-all .take-all .ensures)
 
 pub alloc-sound-spec : {M : Type 1} → statement M
 alloc-sound-spec =

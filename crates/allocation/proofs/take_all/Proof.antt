@@ -18,7 +18,9 @@ abbrev μ-loop : tie.MeasureT-loop
     low + (blocks - high)
 
 loop-holds : tie.Need-loop-holds Inv-loop μ-loop
-loop-holds c = collected-start _ _ (c .before .before .before .before .before .before .before .pre .0) (c .before .before .before .before .before .before .before .pre .1 .0) refl (c .before .before .before .before .before .before .before .pre .1 .1)
+loop-holds c =
+    let at-pre = c .before .before .before .before .before .before .before in
+    collected-start _ _ (at-pre .pre .0) (at-pre .pre .1 .0) refl (at-pre .pre .1 .1)
 
 next-requires : tie.Need-next-requires Inv-loop μ-loop
 next-requires c κs = walked-spread (c .before .loop .inv .walked) (c .loop-test .taken)
@@ -45,13 +47,23 @@ add-pointer : tie.Need-add-pointer Inv-loop μ-loop
 add-pointer c = omega (arith, next-narrow (c .before .before .before .before .before .before .loop .inv .walked) (c .before .before .before .before .next .ensures))
 
 take-requires : tie.Need-take-requires Inv-loop μ-loop
-take-requires c κs = takeable (c .before .before .before .before .before .before .before .before .before .loop .inv .walked) (c .before .before .before .before .before .before .before .next .ensures) (c .before .before .before .before .before .before .before .before .loop-test .taken) (c .before .before .before .if1 .taken)
+take-requires c κs =
+    let at-if1 = c .before .before .before in
+    let at-next = at-if1 .before .before .before .before in
+    let at-loop-test = at-next .before in
+    let at-loop = at-loop-test .before in
+    takeable (at-loop .loop .inv .walked) (at-next .next .ensures) (at-loop-test .loop-test .taken) (at-if1 .if1 .taken)
 
 slice-aggregate-insert : tie.Need-slice-aggregate-insert Inv-loop μ-loop
 slice-aggregate-insert c = sym (c .before .before .before .before .before .before .before .before .before .before .before .before .before .before .before .before .before .loop .inv .size)
 
 insert-requires : tie.Need-insert-requires Inv-loop μ-loop
-insert-requires c κs = addable (c .before .before .before .before .before .before .before .before .before .before .before .before .before .before .before .before .before .loop .inv) (c .before .before .before .before .before .before .before .before .before .before .before .before .before .before .before .next .ensures) (c .before .before .before .before .before .before .before .before .before .before .before .before .before .before .before .before .loop-test .taken) (c .before .before .before .before .before .before .before .before .before .before .before .if1 .taken)
+insert-requires c κs =
+    let at-if1 = c .before .before .before .before .before .before .before .before .before .before .before in
+    let at-next = at-if1 .before .before .before .before in
+    let at-loop-test = at-next .before in
+    let at-loop = at-loop-test .before in
+    addable (at-loop .loop .inv) (at-next .next .ensures) (at-loop-test .loop-test .taken) (at-if1 .if1 .taken)
 
 mul-places : tie.Need-mul-places Inv-loop μ-loop
 mul-places c = omega (arith, c .before .before .before .before .before .before .before .before .before .before .before .before .before .before .before .before .before .before .loop-test .taken, ready-low (c .before .before .before .before .before .before .before .before .before .before .before .before .before .before .before .before .before .before .before .before .before .before .before .before .before .before .before .pre .0))
@@ -63,16 +75,39 @@ add-taken : tie.Need-add-taken Inv-loop μ-loop
 add-taken c = omega (arith, c .before .before .before .before .before .before .before .before .before .before .before .before .before .before .before .before .before .before .loop-test .taken, ready-low (c .before .before .before .before .before .before .before .before .before .before .before .before .before .before .before .before .before .before .before .before .before .before .before .before .before .before .before .pre .0))
 
 loop-less : tie.Need-loop-less Inv-loop μ-loop
-loop-less c = walked-fewer (c .before .before .before .before .before .before .before .before .before .before .before .before .before .before .before .before .before .before .before .loop .inv .walked) (c .before .before .before .before .before .before .before .before .before .before .before .before .before .before .before .before .before .next .ensures) (c .before .before .before .before .before .before .before .before .before .before .before .before .before .before .before .before .low-after .ensures) (c .before .before .before .before .before .before .before .before .before .before .before .before .before .before .before .high-after .ensures)
+loop-less c =
+    let at-high-after = c .before .before .before .before .before .before .before .before .before .before .before .before .before .before .before in
+    let at-low-after = at-high-after .before in
+    let at-next = at-low-after .before in
+    let at-loop = at-next .before .before in
+    walked-fewer (at-loop .loop .inv .walked) (at-next .next .ensures) (at-low-after .low-after .ensures) (at-high-after .high-after .ensures)
 
 loop-again : tie.Need-loop-again Inv-loop μ-loop
-loop-again c = collected-taken (c .before .before .before .before .before .before .before .before .before .before .before .before .before .before .before .before .before .before .before .loop .inv) (c .before .before .before .before .before .before .before .before .before .before .before .before .before .before .before .before .before .next .ensures) (c .before .before .before .before .before .before .before .before .before .before .before .before .before .before .before .before .before .before .loop-test .taken) (c .before .before .before .before .before .before .before .before .before .before .before .before .before .if1 .taken) (c .before .before .before .before .before .before .before .before .before .take .ensures) (c .before .insert .ensures) (c .before .before .before .before .before .before .before .before .before .before .before .before .before .before .before .before .low-after .ensures) (c .before .before .before .before .before .before .before .before .before .before .before .before .before .before .before .high-after .ensures)
+loop-again c =
+    let at-take = c .before .before .before .before .before .before .before .before .before in
+    let at-if1 = at-take .before .before .before .before in
+    let at-high-after = at-if1 .before .before in
+    let at-low-after = at-high-after .before in
+    let at-next = at-low-after .before in
+    let at-loop-test = at-next .before in
+    let at-loop = at-loop-test .before in
+    collected-taken (at-loop .loop .inv) (at-next .next .ensures) (at-loop-test .loop-test .taken) (at-if1 .if1 .taken) (at-take .take .ensures) (c .before .insert .ensures) (at-low-after .low-after .ensures) (at-high-after .high-after .ensures)
 
 loop-less-2 : tie.Need-loop-less-2 Inv-loop μ-loop
-loop-less-2 c = walked-fewer (c .before .before .before .before .before .before .loop .inv .walked) (c .before .before .before .before .next .ensures) (c .before .before .before .low-after .ensures) (c .before .before .high-after .ensures)
+loop-less-2 c =
+    let at-high-after = c .before .before in
+    let at-low-after = at-high-after .before in
+    let at-next = at-low-after .before in
+    let at-loop = at-next .before .before in
+    walked-fewer (at-loop .loop .inv .walked) (at-next .next .ensures) (at-low-after .low-after .ensures) (at-high-after .high-after .ensures)
 
 loop-again-2 : tie.Need-loop-again-2 Inv-loop μ-loop
-loop-again-2 c = collected-passed (c .before .before .before .before .before .before .loop .inv) (c .before .before .before .before .next .ensures) (c .if1 .left) (c .before .before .before .low-after .ensures) (c .before .before .high-after .ensures)
+loop-again-2 c =
+    let at-high-after = c .before .before in
+    let at-low-after = at-high-after .before in
+    let at-next = at-low-after .before in
+    let at-loop = at-next .before .before in
+    collected-passed (at-loop .loop .inv) (at-next .next .ensures) (c .if1 .left) (at-low-after .low-after .ensures) (at-high-after .high-after .ensures)
 
 slice-aggregate-merge : tie.Need-slice-aggregate-merge Inv-loop μ-loop
 slice-aggregate-merge c = sym (c .before .before .before .loop .inv .size)
@@ -87,22 +122,36 @@ with-used-requires : tie.Need-with-used-requires Inv-loop μ-loop
 with-used-requires c κs = tt
 
 same-length : tie.Need-same-length Inv-loop μ-loop
-same-length c = flags-same (c .before .before .before .before .before .before .before .before .loop .inv .walked) (c .before .before .before .before .before .before .before .before .before .before .before .before .before .before .before .before .pre .0 .sound)
+same-length c =
+    let at-loop = c .before .before .before .before .before .before .before .before in
+    let at-pre = at-loop .before .before .before .before .before .before .before .before in
+    flags-same (at-loop .loop .inv .walked) (at-pre .pre .0 .sound)
 
 same-length-2 : tie.Need-same-length-2 Inv-loop μ-loop
-same-length-2 c = counts-same (c .before .before .before .before .before .before .before .before .loop .inv .walked) (c .before .before .before .before .before .before .before .before .before .before .before .before .before .before .before .before .pre .0 .sound)
+same-length-2 c =
+    let at-loop = c .before .before .before .before .before .before .before .before in
+    let at-pre = at-loop .before .before .before .before .before .before .before .before in
+    counts-same (at-loop .loop .inv .walked) (at-pre .pre .0 .sound)
 
 same-length-3 : tie.Need-same-length-3 Inv-loop μ-loop
 same-length-3 c = c .before .before .before .before .merge .kept .0
 
 same-length-4 : tie.Need-same-length-4 Inv-loop μ-loop
-same-length-4 c = contents-same (c .before .before .before .before .before .before .before .before .loop .inv .walked) (c .before .before .before .before .before .before .before .before .before .before .before .before .before .before .before .before .pre .0 .sound)
+same-length-4 c =
+    let at-loop = c .before .before .before .before .before .before .before .before in
+    let at-pre = at-loop .before .before .before .before .before .before .before .before in
+    contents-same (at-loop .loop .inv .walked) (at-pre .pre .0 .sound)
 
 same-length-5 : tie.Need-same-length-5 Inv-loop μ-loop
 same-length-5 c = c .before .before .before .before .before .before .before .before .loop .inv .walked .samePlaces
 
 returns : tie.Need-returns Inv-loop μ-loop
-returns c = collected-whole (c .before .before .before .before .before .before .before .before .loop .inv) (c .before .before .before .before .before .before .before .before .before .before .before .before .before .before .before .before .pre .0 .sound) (c .before .before .before .before .before .before .before .loop-test .left) (c .with-used .ensures) (c .before .before .before .before .merge .ensures)
+returns c =
+    let at-merge = c .before .before .before .before in
+    let at-loop-test = at-merge .before .before .before in
+    let at-loop = at-loop-test .before in
+    let at-pre = at-loop .before .before .before .before .before .before .before .before in
+    collected-whole (at-loop .loop .inv) (at-pre .pre .0 .sound) (at-loop-test .loop-test .left) (c .with-used .ensures) (at-merge .merge .ensures)
 
 pub take-all-spec : {M : Type 1} → statement M
 take-all-spec =

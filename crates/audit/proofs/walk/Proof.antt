@@ -16,7 +16,13 @@ walk-blocks-requires : tie.Need-walk-blocks-requires
 walk-blocks-requires c κs = c .before .before .before .before .before .before .before .before .before .before .before .pre .1
 
 returns : tie.Need-returns
-returns c = let a = c .before .before .before .before .before .before .before .before .before .before .before .before .args in let k = card (a .info) (a .flags .now) (a .keys .now) (a .counts .now) (a .pointers .now) (a .windows .now) ([]) in whole k _ _ _ _ (c .before .before .before .before .before .before .before .before .before .before .before .before .pre .0 .blocksHigh) (c .before .before .before .before .before .walk-pointers .ensures) (c .before .before .before .before .if1 .taken) (c .before .before .before .walk-unused .ensures) (c .before .before .if2 .taken) (c .walk-blocks .ensures)
+returns c =
+    let at-if2 = c .before .before in
+    let at-walk-unused = at-if2 .before in
+    let at-if1 = at-walk-unused .before in
+    let at-walk-pointers = at-if1 .before in
+    let start = at-walk-pointers .before .before .before .before .before .before .before in
+    let a = start .args in let k = card (a .info) (a .flags .now) (a .keys .now) (a .counts .now) (a .pointers .now) (a .windows .now) ([]) in whole k _ _ _ _ (start .pre .0 .blocksHigh) (at-walk-pointers .walk-pointers .ensures) (at-if1 .if1 .taken) (at-walk-unused .walk-unused .ensures) (at-if2 .if2 .taken) (c .walk-blocks .ensures)
 
 returns-2 : tie.Need-returns-2
 returns-2 c = let a = c .before .before .before .before .before .before .before .before .before .before .args in let k = card (a .info) (a .flags .now) (a .keys .now) (a .counts .now) (a .pointers .now) (a .windows .now) ([]) in fault-unused k _ (c .before .walk-unused .ensures) (c .if2 .left)

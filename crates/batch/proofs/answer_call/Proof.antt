@@ -21,7 +21,10 @@ part-perform-judged-start : tie.Need-part-perform-judged-start
 part-perform-judged-start c = search needs
 
 part-perform-judged-end : tie.Need-part-perform-judged-end
-part-perform-judged-end c = part-within (c .before .before .before .before .before .before .before .before .before .before .before .before .before .before .before .args .info .bytes) (c .before .before .before .before .before .before .before .before .before .before .before .before .before .before .before .args .call) (c .before .before .before .before .before .before .before .before .before .before .before .before .before .before .before .args .at) (c .before .before .before .before .before .before .lent-size .ensures) (c .before .before .before .before .before .before .before .before .before .before .before .before .before .before .before .pre .1)
+part-perform-judged-end c =
+    let at-lent-size = c .before .before .before .before .before .before in
+    let start = at-lent-size .before .before .before .before .before .before .before .before .before in
+    part-within (start .args .info .bytes) (start .args .call) (start .args .at) (at-lent-size .lent-size .ensures) (start .pre .1)
 
 slice-aggregate-perform-judged : tie.Need-slice-aggregate-perform-judged
 slice-aggregate-perform-judged c = search needs
@@ -33,7 +36,11 @@ slice-aggregate-put-answer : tie.Need-slice-aggregate-put-answer
 slice-aggregate-put-answer c = search needs
 
 put-answer-requires : tie.Need-put-answer-requires
-put-answer-requires c κs = answer-room (c .before .before .before .before .before .before .before .before .before .before .before .before .before .before .before .before .before .before .before .before .before .before .before .before .before .before .before .before .before .before .before .before .before .before .before .args .port) _ (c .before .before .before .before .before .before .before .before .before .before .before .before .before .before .before .before .before .before .before .before .before .before .before .before .before .before .before .before .before .before .before .before .before .before .before .args .call) (c .before .before .before .before .before .before .before .before .before .before .before .before .before .before .before .before .before .before .before .before .before .before .before .before .before .before .before .before .before .before .before .before .before .before .before .args .payload .now) (c .before .before .before .before .before .before .before .before .before .before .before .before .before .before .before .before .before .before .before .before .before .before .before .before .before .before .before .before .before .before .before .before .before .before .before .args .to .now) (c .before .before .before .before .before .before .before .before .before .before .before .before .before .before .before .before .before .before .before .before .before .before .before .before .before .before .before .before .before .before .before .before .before .before .before .args .at) (c .before .before .before .before .before .before .before .before .before .before .before .before .before .before .before .before .before .before .before .before .before .before .before .before .before .before .lent-size .ensures) (c .before .before .before .before .before .before .before .before .before .before .before .before .before .before .before .before .before .before .before .before .before .before .before .before .before .before .before .before .before .before .before .before .before .before .before .pre .1) (c .before .before .before .before .before .before .before .before .before .before .before .before .before .before .before .before .before .perform-judged .ensures) (c .before .before .before .before .before .before .before .before .before .before .before .before .before .before .before .before .before .perform-judged .kept .1 .1 .1 .1 .1 .1 .1 .1 .1 .1 .1 .0) (c .before .before .before .before .before .before .before .before .before .before .before .before .before .before .before .before .before .perform-judged .kept .1 .1 .1 .1 .1 .1 .1 .1 .1 .1 .1 .1 .0)
+put-answer-requires c κs =
+    let at-perform-judged = c .before .before .before .before .before .before .before .before .before .before .before .before .before .before .before .before .before in
+    let at-lent-size = at-perform-judged .before .before .before .before .before .before .before .before .before in
+    let start = at-lent-size .before .before .before .before .before .before .before .before .before in
+    answer-room (start .args .port) _ (start .args .call) (start .args .payload .now) (start .args .to .now) (start .args .at) (at-lent-size .lent-size .ensures) (start .pre .1) (at-perform-judged .perform-judged .ensures) (at-perform-judged .perform-judged .kept .1 .1 .1 .1 .1 .1 .1 .1 .1 .1 .1 .0) (at-perform-judged .perform-judged .kept .1 .1 .1 .1 .1 .1 .1 .1 .1 .1 .1 .1 .0)
 
 same-length : tie.Need-same-length
 same-length c = search needs
@@ -57,7 +64,12 @@ same-length-7 : tie.Need-same-length-7
 same-length-7 c = search needs
 
 returns : tie.Need-returns
-returns c = answered (c .before .before .before .before .before .before .before .before .before .before .before .before .before .before .before .before .before .before .before .before .before .before .before .before .before .before .before .before .before .before .before .before .before .before .before .before .before .before .before .args .port) _ (c .before .before .before .before .before .before .before .before .before .before .before .before .before .before .before .before .before .before .before .before .before .before .before .before .before .before .before .before .before .before .before .before .before .before .before .before .before .before .before .args .call) (c .before .before .before .before .before .before .before .before .before .before .before .before .before .before .before .before .before .before .before .before .before .before .before .before .before .before .before .before .before .before .before .before .before .before .before .before .before .before .before .args .payload .now) (c .before .before .before .before .before .before .before .before .before .before .before .before .before .before .before .before .before .before .before .before .before .before .before .before .before .before .before .before .before .before .before .before .before .before .before .before .before .before .before .args .to .now) (c .before .before .before .before .before .before .before .before .before .before .before .before .before .before .before .before .before .before .before .before .before .before .before .before .before .before .before .before .before .before .before .before .before .before .before .before .before .before .before .args .at) (c .before .before .before .before .before .before .before .before .before .before .before .before .before .before .before .before .before .before .before .before .before .before .before .before .before .before .before .before .before .before .lent-size .ensures) (c .before .before .before .before .before .before .before .before .before .before .before .before .before .before .before .before .before .before .before .before .before .before .before .before .before .before .before .before .before .before .before .before .before .before .before .before .before .before .before .pre .1) (c .before .before .before .before .before .before .before .before .before .before .before .before .before .before .before .before .before .before .before .before .before .perform-judged .ensures) (c .before .before .before .before .before .before .before .before .before .before .before .before .before .before .before .before .before .before .before .before .before .perform-judged .kept .1 .1 .1 .1 .1 .1 .1 .1 .1 .1 .1 .0) (c .before .before .before .before .before .before .before .before .before .before .before .before .before .before .before .before .before .before .before .before .before .perform-judged .kept .1 .1 .1 .1 .1 .1 .1 .1 .1 .1 .1 .1 .0) (c .before .before .before .put-answer .ensures)
+returns c =
+    let at-put-answer = c .before .before .before in
+    let at-perform-judged = at-put-answer .before .before .before .before .before .before .before .before .before .before .before .before .before .before .before .before .before .before in
+    let at-lent-size = at-perform-judged .before .before .before .before .before .before .before .before .before in
+    let start = at-lent-size .before .before .before .before .before .before .before .before .before in
+    answered (start .args .port) _ (start .args .call) (start .args .payload .now) (start .args .to .now) (start .args .at) (at-lent-size .lent-size .ensures) (start .pre .1) (at-perform-judged .perform-judged .ensures) (at-perform-judged .perform-judged .kept .1 .1 .1 .1 .1 .1 .1 .1 .1 .1 .1 .0) (at-perform-judged .perform-judged .kept .1 .1 .1 .1 .1 .1 .1 .1 .1 .1 .1 .1 .0) (at-put-answer .put-answer .ensures)
 
 pub answer-call-spec : {M : Type 1} → statement M
 answer-call-spec =

@@ -22,10 +22,18 @@ unfolding lentSize
 returns c = search needs
 
 returns-2 : tie.Need-returns-2
-returns-2 c = lent-whole (c .before .before .before .before .before .args .info .bytes) (c .before .before .before .before .before .args .call) (c .before .before .before .before .shown-by .ensures) (c .before .before .enum-told2 .given .1) (c .if1 .taken)
+returns-2 c =
+    let at-enum-told2 = c .before .before in
+    let at-shown-by = at-enum-told2 .before .before in
+    let start = at-shown-by .before in
+    lent-whole (start .args .info .bytes) (start .args .call) (at-shown-by .shown-by .ensures) (at-enum-told2 .enum-told2 .given .1) (c .if1 .taken)
 
 returns-3 : tie.Need-returns-3
-returns-3 c = lent-none (c .before .before .before .before .before .args .info .bytes) (c .before .before .before .before .before .args .call) (c .before .before .before .before .shown-by .ensures) (c .before .before .enum-told2 .given .1) (c .if1 .left)
+returns-3 c =
+    let at-enum-told2 = c .before .before in
+    let at-shown-by = at-enum-told2 .before .before in
+    let start = at-shown-by .before in
+    lent-none (start .args .info .bytes) (start .args .call) (at-shown-by .shown-by .ensures) (at-enum-told2 .enum-told2 .given .1) (c .if1 .left)
 
 returns-4 : tie.Need-returns-4
 unfolding lentSize

@@ -29,7 +29,11 @@ same-length-2 : tie.Need-same-length-2
 same-length-2 c = search needs
 
 returns-2 : tie.Need-returns-2
-returns-2 c = pairs-all (c .before .before .before .before .before .before .before .args .values .now) (c .before .before .before .before .before .before .before .args .count) (c .before .before .before .before .if1 .left) (c .before .before .put-pairs2 .ensures)
+returns-2 c =
+    let at-put-pairs2 = c .before .before in
+    let at-if1 = at-put-pairs2 .before .before in
+    let start = at-if1 .before .before .before in
+    pairs-all (start .args .values .now) (start .args .count) (at-if1 .if1 .left) (at-put-pairs2 .put-pairs2 .ensures)
 
 pub put-first-spec : {M : Type 1} → statement M
 put-first-spec =

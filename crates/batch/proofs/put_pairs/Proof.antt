@@ -39,7 +39,13 @@ loop-less : tie.Need-loop-less Inv-loop μ-loop
 loop-less c = search needs
 
 loop-again : tie.Need-loop-again Inv-loop μ-loop
-loop-again c = pairing-more (c .before .before .before .before .before .before .before .before .before .before .args .values .now) (c .before .before .before .before .before .before .before .before .before .before .args .to .now) (c .before .before .before .before .before .before .before .before .before .before .args .at) (c .before .before .before .before .before .before .before .loop .inv) (c .before .before .before .before .before .before .loop-test .taken) (c .before .before .before .of-block .ensures) (c .before .before .put-big-endian .ensures)
+loop-again c =
+    let at-put-big-endian = c .before .before in
+    let at-of-block = at-put-big-endian .before in
+    let at-loop-test = at-of-block .before .before .before in
+    let at-loop = at-loop-test .before in
+    let start = at-loop .before .before .before in
+    pairing-more (start .args .values .now) (start .args .to .now) (start .args .at) (at-loop .loop .inv) (at-loop-test .loop-test .taken) (at-of-block .of-block .ensures) (at-put-big-endian .put-big-endian .ensures)
 
 same-length : tie.Need-same-length Inv-loop μ-loop
 same-length c = c .before .loop .inv .kept

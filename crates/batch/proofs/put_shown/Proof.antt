@@ -27,7 +27,9 @@ returns : tie.Need-returns
 returns c = rw (c .enum-told .given .1) (written-none _ _)
 
 returns-2 : tie.Need-returns-2
-returns-2 c = rw (c .enum-told2 .given .1) (written-same (c .before .before .before .before .args .to .now) (c .before .before .before .before .args .at) (c .before .before .before .before .args .size) (c .before .before .before .before .pre .0))
+returns-2 c =
+    let start = c .before .before .before .before in
+    rw (c .enum-told2 .given .1) (written-same (start .args .to .now) (start .args .at) (start .args .size) (start .pre .0))
 
 same-length : tie.Need-same-length
 same-length c = search needs

@@ -20,10 +20,16 @@ audit-requires : tie.Need-audit-requires Inv-loop μ-loop
 audit-requires c κs = tt
 
 loop-holds : tie.Need-loop-holds Inv-loop μ-loop
-loop-holds c = record { sameFlags = refl; sameKeys = refl; sameCounts = refl; samePointers = refl; sameWindows = refl; sameContents = refl; sameAnswers = refl; serving = serving-none _ (c .before .before .before .before .before .before .before .before .before .before .before .before .before .before .before .args .input .now) (c .before .before .before .before .before .before .before .before .before .before .before .before .before .before .before .args .answers .now) }
+loop-holds c =
+    let start-again = c .before .before .before .before .before .before .before .before .before .before .before .before .before .before .before in
+    record { sameFlags = refl; sameKeys = refl; sameCounts = refl; samePointers = refl; sameWindows = refl; sameContents = refl; sameAnswers = refl; serving = serving-none _ (start-again .args .input .now) (start-again .args .answers .now) }
 
 serve-turn-requires : tie.Need-serve-turn-requires Inv-loop μ-loop
-serve-turn-requires c κs = (c .before .before .before .before .before .before .before .before .audit .ensures ∙ sym (c .before .before .before .before .before .before .before .loop .inv .serving .judged), (c .before .before .before .before .before .before .before .loop .inv .serving .within, serving-at _ (c .before .before .before .before .before .before .before .before .before .before .before .before .before .before .before .before .before .before .before .before .before .before .before .args .input .now) (c .before .before .before .before .before .before .before .before .before .before .before .before .before .before .before .before .before .before .before .before .before .before .before .args .answers .now) (c .before .before .before .before .before .before .before .loop .inv .serving)))
+serve-turn-requires c κs =
+    let at-loop = c .before .before .before .before .before .before .before in
+    let at-audit = at-loop .before in
+    let start-again = at-audit .before .before .before .before .before .before .before .before .before .before .before .before .before .before .before in
+    (at-audit .audit .ensures ∙ sym (at-loop .loop .inv .serving .judged), (at-loop .loop .inv .serving .within, serving-at _ (start-again .args .input .now) (start-again .args .answers .now) (at-loop .loop .inv .serving)))
 
 went-requires : tie.Need-went-requires Inv-loop μ-loop
 went-requires c κs = tt
@@ -35,31 +41,60 @@ loop-less : tie.Need-loop-less Inv-loop μ-loop
 loop-less c = omega (arith, serving-further _ (c .before .before .before .before .before .before .before .before .before .before .before .before .before .before .before .before .before .before .before .before .before .before .before .before .before .before .before .before .before .before .before .before .before .before .before .before .before .before .before .before .before .args .input .now) (c .before .before .before .before .before .before .before .before .before .before .before .before .before .before .before .before .before .before .before .before .before .before .before .before .before .before .before .before .before .before .before .before .before .before .before .before .before .before .before .before .before .args .answers .now) (c .before .before .before .before .before .before .before .before .before .before .before .before .before .before .before .before .before .before .before .before .before .before .before .before .before .loop .inv .serving) (c .before .before .before .before .before .before .before .before .before .before .before .before .before .before .before .before .before .serve-turn .ensures) (sym (c .before .went .ensures) ∙ c .if1 .taken), c .before .before .before .before .before .before .before .before .before .before .before .before .before .before .before .before .before .serve-turn .ensures .within)
 
 loop-again : tie.Need-loop-again Inv-loop μ-loop
-loop-again c = record { sameFlags = c .before .before .before .before .before .before .before .before .before .before .before .before .before .before .before .before .before .serve-turn .kept .1 .1 .0 ∙ c .before .before .before .before .before .before .before .before .before .before .before .before .before .before .before .before .before .before .before .before .before .before .before .before .before .loop .inv .sameFlags; sameKeys = c .before .before .before .before .before .before .before .before .before .before .before .before .before .before .before .before .before .serve-turn .kept .1 .1 .1 .0 ∙ c .before .before .before .before .before .before .before .before .before .before .before .before .before .before .before .before .before .before .before .before .before .before .before .before .before .loop .inv .sameKeys; sameCounts = c .before .before .before .before .before .before .before .before .before .before .before .before .before .before .before .before .before .serve-turn .kept .1 .1 .1 .1 .0 ∙ c .before .before .before .before .before .before .before .before .before .before .before .before .before .before .before .before .before .before .before .before .before .before .before .before .before .loop .inv .sameCounts; samePointers = c .before .before .before .before .before .before .before .before .before .before .before .before .before .before .before .before .before .serve-turn .kept .1 .1 .1 .1 .1 .0 ∙ c .before .before .before .before .before .before .before .before .before .before .before .before .before .before .before .before .before .before .before .before .before .before .before .before .before .loop .inv .samePointers; sameWindows = c .before .before .before .before .before .before .before .before .before .before .before .before .before .before .before .before .before .serve-turn .kept .1 .1 .1 .1 .1 .1 .0 ∙ c .before .before .before .before .before .before .before .before .before .before .before .before .before .before .before .before .before .before .before .before .before .before .before .before .before .loop .inv .sameWindows; sameContents = c .before .before .before .before .before .before .before .before .before .before .before .before .before .before .before .before .before .serve-turn .kept .1 .1 .1 .1 .1 .1 .1 .0 ∙ c .before .before .before .before .before .before .before .before .before .before .before .before .before .before .before .before .before .before .before .before .before .before .before .before .before .loop .inv .sameContents; sameAnswers = c .before .before .before .before .before .before .before .before .before .before .before .before .before .before .before .before .before .serve-turn .kept .1 .1 .1 .1 .1 .1 .1 .1 .1 .1 .0 ∙ c .before .before .before .before .before .before .before .before .before .before .before .before .before .before .before .before .before .before .before .before .before .before .before .before .before .loop .inv .sameAnswers; serving = serving-more _ (c .before .before .before .before .before .before .before .before .before .before .before .before .before .before .before .before .before .before .before .before .before .before .before .before .before .before .before .before .before .before .before .before .before .before .before .before .before .before .before .before .before .args .input .now) (c .before .before .before .before .before .before .before .before .before .before .before .before .before .before .before .before .before .before .before .before .before .before .before .before .before .before .before .before .before .before .before .before .before .before .before .before .before .before .before .before .before .args .answers .now) (c .before .before .before .before .before .before .before .before .before .before .before .before .before .before .before .before .before .before .before .before .before .before .before .before .before .loop .inv .serving) (c .before .before .before .before .before .before .before .before .before .before .before .before .before .before .before .before .before .serve-turn .ensures) (sym (c .before .went .ensures) ∙ c .if1 .taken) }
+loop-again c =
+    let at-serve-turn = c .before .before .before .before .before .before .before .before .before .before .before .before .before .before .before .before .before in
+    let at-loop = at-serve-turn .before .before .before .before .before .before .before .before in
+    let start-again = at-loop .before .before .before .before .before .before .before .before .before .before .before .before .before .before .before .before in
+    record { sameFlags = at-serve-turn .serve-turn .kept .1 .1 .0 ∙ at-loop .loop .inv .sameFlags; sameKeys = at-serve-turn .serve-turn .kept .1 .1 .1 .0 ∙ at-loop .loop .inv .sameKeys; sameCounts = at-serve-turn .serve-turn .kept .1 .1 .1 .1 .0 ∙ at-loop .loop .inv .sameCounts; samePointers = at-serve-turn .serve-turn .kept .1 .1 .1 .1 .1 .0 ∙ at-loop .loop .inv .samePointers; sameWindows = at-serve-turn .serve-turn .kept .1 .1 .1 .1 .1 .1 .0 ∙ at-loop .loop .inv .sameWindows; sameContents = at-serve-turn .serve-turn .kept .1 .1 .1 .1 .1 .1 .1 .0 ∙ at-loop .loop .inv .sameContents; sameAnswers = at-serve-turn .serve-turn .kept .1 .1 .1 .1 .1 .1 .1 .1 .1 .1 .0 ∙ at-loop .loop .inv .sameAnswers; serving = serving-more _ (start-again .args .input .now) (start-again .args .answers .now) (at-loop .loop .inv .serving) (at-serve-turn .serve-turn .ensures) (sym (c .before .went .ensures) ∙ c .if1 .taken) }
 
 same-length : tie.Need-same-length Inv-loop μ-loop
-same-length c = c .before .before .before .before .before .before .before .before .before .before .before .before .before .before .before .before .before .serve-turn .kept .1 .1 .0 ∙ c .before .before .before .before .before .before .before .before .before .before .before .before .before .before .before .before .before .before .before .before .before .before .before .before .before .loop .inv .sameFlags
+same-length c =
+    let at-serve-turn = c .before .before .before .before .before .before .before .before .before .before .before .before .before .before .before .before .before in
+    let at-loop = at-serve-turn .before .before .before .before .before .before .before .before in
+    at-serve-turn .serve-turn .kept .1 .1 .0 ∙ at-loop .loop .inv .sameFlags
 
 same-length-2 : tie.Need-same-length-2 Inv-loop μ-loop
-same-length-2 c = c .before .before .before .before .before .before .before .before .before .before .before .before .before .before .before .before .before .serve-turn .kept .1 .1 .1 .0 ∙ c .before .before .before .before .before .before .before .before .before .before .before .before .before .before .before .before .before .before .before .before .before .before .before .before .before .loop .inv .sameKeys
+same-length-2 c =
+    let at-serve-turn = c .before .before .before .before .before .before .before .before .before .before .before .before .before .before .before .before .before in
+    let at-loop = at-serve-turn .before .before .before .before .before .before .before .before in
+    at-serve-turn .serve-turn .kept .1 .1 .1 .0 ∙ at-loop .loop .inv .sameKeys
 
 same-length-3 : tie.Need-same-length-3 Inv-loop μ-loop
-same-length-3 c = c .before .before .before .before .before .before .before .before .before .before .before .before .before .before .before .before .before .serve-turn .kept .1 .1 .1 .1 .0 ∙ c .before .before .before .before .before .before .before .before .before .before .before .before .before .before .before .before .before .before .before .before .before .before .before .before .before .loop .inv .sameCounts
+same-length-3 c =
+    let at-serve-turn = c .before .before .before .before .before .before .before .before .before .before .before .before .before .before .before .before .before in
+    let at-loop = at-serve-turn .before .before .before .before .before .before .before .before in
+    at-serve-turn .serve-turn .kept .1 .1 .1 .1 .0 ∙ at-loop .loop .inv .sameCounts
 
 same-length-4 : tie.Need-same-length-4 Inv-loop μ-loop
-same-length-4 c = c .before .before .before .before .before .before .before .before .before .before .before .before .before .before .before .before .before .serve-turn .kept .1 .1 .1 .1 .1 .0 ∙ c .before .before .before .before .before .before .before .before .before .before .before .before .before .before .before .before .before .before .before .before .before .before .before .before .before .loop .inv .samePointers
+same-length-4 c =
+    let at-serve-turn = c .before .before .before .before .before .before .before .before .before .before .before .before .before .before .before .before .before in
+    let at-loop = at-serve-turn .before .before .before .before .before .before .before .before in
+    at-serve-turn .serve-turn .kept .1 .1 .1 .1 .1 .0 ∙ at-loop .loop .inv .samePointers
 
 same-length-5 : tie.Need-same-length-5 Inv-loop μ-loop
-same-length-5 c = c .before .before .before .before .before .before .before .before .before .before .before .before .before .before .before .before .before .serve-turn .kept .1 .1 .1 .1 .1 .1 .0 ∙ c .before .before .before .before .before .before .before .before .before .before .before .before .before .before .before .before .before .before .before .before .before .before .before .before .before .loop .inv .sameWindows
+same-length-5 c =
+    let at-serve-turn = c .before .before .before .before .before .before .before .before .before .before .before .before .before .before .before .before .before in
+    let at-loop = at-serve-turn .before .before .before .before .before .before .before .before in
+    at-serve-turn .serve-turn .kept .1 .1 .1 .1 .1 .1 .0 ∙ at-loop .loop .inv .sameWindows
 
 same-length-6 : tie.Need-same-length-6 Inv-loop μ-loop
-same-length-6 c = c .before .before .before .before .before .before .before .before .before .before .before .before .before .before .before .before .before .serve-turn .kept .1 .1 .1 .1 .1 .1 .1 .0 ∙ c .before .before .before .before .before .before .before .before .before .before .before .before .before .before .before .before .before .before .before .before .before .before .before .before .before .loop .inv .sameContents
+same-length-6 c =
+    let at-serve-turn = c .before .before .before .before .before .before .before .before .before .before .before .before .before .before .before .before .before in
+    let at-loop = at-serve-turn .before .before .before .before .before .before .before .before in
+    at-serve-turn .serve-turn .kept .1 .1 .1 .1 .1 .1 .1 .0 ∙ at-loop .loop .inv .sameContents
 
 same-length-7 : tie.Need-same-length-7 Inv-loop μ-loop
-same-length-7 c = c .before .before .before .before .before .before .before .before .before .before .before .before .before .before .before .before .before .serve-turn .kept .1 .1 .1 .1 .1 .1 .1 .1 .1 .1 .0 ∙ c .before .before .before .before .before .before .before .before .before .before .before .before .before .before .before .before .before .before .before .before .before .before .before .before .before .loop .inv .sameAnswers
+same-length-7 c =
+    let at-serve-turn = c .before .before .before .before .before .before .before .before .before .before .before .before .before .before .before .before .before in
+    let at-loop = at-serve-turn .before .before .before .before .before .before .before .before in
+    at-serve-turn .serve-turn .kept .1 .1 .1 .1 .1 .1 .1 .1 .1 .1 .0 ∙ at-loop .loop .inv .sameAnswers
 
 returns : tie.Need-returns Inv-loop μ-loop
-returns c = serving-stopped _ (c .before .before .before .before .before .before .before .before .before .before .before .before .before .before .before .before .before .before .before .before .before .before .before .before .before .before .before .before .before .before .before .before .before .before .before .before .before .before .before .before .before .args .input .now) (c .before .before .before .before .before .before .before .before .before .before .before .before .before .before .before .before .before .before .before .before .before .before .before .before .before .before .before .before .before .before .before .before .before .before .before .before .before .before .before .before .before .args .answers .now) (c .before .before .before .before .before .before .before .before .before .before .before .before .before .before .before .before .before .before .before .before .before .before .before .before .before .loop .inv .serving) (c .before .before .before .before .before .before .before .before .before .before .before .before .before .before .before .before .before .serve-turn .ensures) (sym (c .before .went .ensures) ∙ c .if1 .left)
+returns c =
+    let at-serve-turn = c .before .before .before .before .before .before .before .before .before .before .before .before .before .before .before .before .before in
+    let at-loop = at-serve-turn .before .before .before .before .before .before .before .before in
+    let start-again = at-loop .before .before .before .before .before .before .before .before .before .before .before .before .before .before .before .before in
+    serving-stopped _ (start-again .args .input .now) (start-again .args .answers .now) (at-loop .loop .inv .serving) (at-serve-turn .serve-turn .ensures) (sym (c .before .went .ensures) ∙ c .if1 .left)
 
 pub serve-spec : {M : Type 1} → statement M
 serve-spec =

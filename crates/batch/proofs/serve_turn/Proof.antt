@@ -22,22 +22,41 @@ sub-if1 : tie.Need-sub-if1
 sub-if1 c = search needs
 
 returns : tie.Need-returns
-returns c = found-full _ (c .before .before .before .before .before .before .before .before .before .before .before .before .before .before .args .input .now) (c .before .before .before .before .before .before .before .before .before .before .before .before .before .before .args .from) (c .before .before .before .before .before .before .before .before .before .before .before .before .before .before .pre .1 .0) (c .before .before .before .before .before .before .before .before .before .before .before .before .before .before .args .to .now) (c .before .before .before .before .before .before .before .before .before .before .before .before .before .before .args .at) (c .before .before .before .before .before .find .ensures) (c .before .before .before .sent2 .given .1) (c .before .room-of .ensures) (c .if1 .taken)
+returns c =
+    let at-sent2 = c .before .before .before in
+    let at-find = at-sent2 .before .before in
+    let start = at-find .before .before .before .before .before .before .before .before .before in
+    found-full _ (start .args .input .now) (start .args .from) (start .pre .1 .0) (start .args .to .now) (start .args .at) (at-find .find .ensures) (at-sent2 .sent2 .given .1) (c .before .room-of .ensures) (c .if1 .taken)
 
 sub-answer-call : tie.Need-sub-answer-call
-sub-answer-call c = whole-within (c .before .before .before .before .before .before .before .before .before .before .before .before .before .before .before .before .before .before .before .before .args .input .now) (c .before .before .before .before .before .before .before .before .before .before .before .before .before .before .before .before .before .before .before .before .args .from) (c .before .before .before .before .before .before .before .before .before .before .before .find .ensures) (c .before .before .before .before .before .before .before .before .before .sent2 .given .1) .0
+sub-answer-call c =
+    let at-sent2 = c .before .before .before .before .before .before .before .before .before in
+    let at-find = at-sent2 .before .before in
+    let start = at-find .before .before .before .before .before .before .before .before .before in
+    whole-within (start .args .input .now) (start .args .from) (at-find .find .ensures) (at-sent2 .sent2 .given .1) .0
 
 part-answer-call-start : tie.Need-part-answer-call-start
-part-answer-call-start c = whole-within (c .before .before .before .before .before .before .before .before .before .before .before .before .before .before .before .before .before .before .before .before .args .input .now) (c .before .before .before .before .before .before .before .before .before .before .before .before .before .before .before .before .before .before .before .before .args .from) (c .before .before .before .before .before .before .before .before .before .before .before .find .ensures) (c .before .before .before .before .before .before .before .before .before .sent2 .given .1) .0
+part-answer-call-start c =
+    let at-sent2 = c .before .before .before .before .before .before .before .before .before in
+    let at-find = at-sent2 .before .before in
+    let start = at-find .before .before .before .before .before .before .before .before .before in
+    whole-within (start .args .input .now) (start .args .from) (at-find .find .ensures) (at-sent2 .sent2 .given .1) .0
 
 part-answer-call-end : tie.Need-part-answer-call-end
-part-answer-call-end c = whole-within (c .before .before .before .before .before .before .before .before .before .before .before .before .before .before .before .before .before .before .before .before .args .input .now) (c .before .before .before .before .before .before .before .before .before .before .before .before .before .before .before .before .before .before .before .before .args .from) (c .before .before .before .before .before .before .before .before .before .before .before .find .ensures) (c .before .before .before .before .before .before .before .before .before .sent2 .given .1) .1
+part-answer-call-end c =
+    let at-sent2 = c .before .before .before .before .before .before .before .before .before in
+    let at-find = at-sent2 .before .before in
+    let start = at-find .before .before .before .before .before .before .before .before .before in
+    whole-within (start .args .input .now) (start .args .from) (at-find .find .ensures) (at-sent2 .sent2 .given .1) .1
 
 answer-call-requires : tie.Need-answer-call-requires
 answer-call-requires c κs = (c .before .before .before .before .before .before .before .before .before .before .before .before .before .before .before .before .before .before .before .before .before .before .pre .0, omega (arith, c .before .before .before .before .before .before .before .before .if1 .left, c .before .before .before .before .before .before .before .before .before .room-of .ensures, c .before .before .before .before .before .before .before .before .before .before .before .before .before .before .before .before .before .before .before .before .before .before .pre .1 .1))
 
 returns-2 : tie.Need-returns-2
-returns-2 c = found-nothing _ (c .before .before .before .before .before .before .before .before .before .before .before .before .args .input .now) (c .before .before .before .before .before .before .before .before .before .before .before .before .args .from) (c .before .before .before .before .before .before .before .before .before .before .before .before .pre .1 .0) (c .before .before .before .before .before .before .before .before .before .before .before .before .args .to .now) (c .before .before .before .before .before .before .before .before .before .before .before .before .args .at) (c .before .before .before .find .ensures) (c .before .sent .given .1)
+returns-2 c =
+    let at-find = c .before .before .before in
+    let start = at-find .before .before .before .before .before .before .before .before .before in
+    found-nothing _ (start .args .input .now) (start .args .from) (start .pre .1 .0) (start .args .to .now) (start .args .at) (at-find .find .ensures) (c .before .sent .given .1)
 
 same-length : tie.Need-same-length
 same-length c = search needs
@@ -61,7 +80,14 @@ same-length-7 : tie.Need-same-length-7
 same-length-7 c = search needs
 
 returns-3 : tie.Need-returns-3
-returns-3 c = found-served _ (c .before .before .before .before .before .before .before .before .before .before .before .before .before .before .before .before .before .before .before .before .before .before .before .before .before .before .before .before .before .before .before .before .before .before .before .before .before .before .args .input .now) (c .before .before .before .before .before .before .before .before .before .before .before .before .before .before .before .before .before .before .before .before .before .before .before .before .before .before .before .before .before .before .before .before .before .before .before .before .before .before .args .from) (c .before .before .before .before .before .before .before .before .before .before .before .before .before .before .before .before .before .before .before .before .before .before .before .before .before .before .before .before .before .before .before .before .before .before .before .before .before .before .pre .1 .0) (c .before .before .before .before .before .before .before .before .before .before .before .before .before .before .before .before .before .before .before .before .before .before .before .before .before .before .before .before .before .before .before .before .before .before .before .before .before .before .args .to .now) (c .before .before .before .before .before .before .before .before .before .before .before .before .before .before .before .before .before .before .before .before .before .before .before .before .before .before .before .before .before .before .before .before .before .before .before .before .before .before .args .at) (c .before .before .before .before .before .before .before .before .before .before .before .before .before .before .before .before .before .before .before .before .before .before .before .before .before .before .before .before .before .find .ensures) (c .before .before .before .before .before .before .before .before .before .before .before .before .before .before .before .before .before .before .before .before .before .before .before .before .before .before .before .sent2 .given .1) (c .before .before .before .before .before .before .before .before .before .before .before .before .before .before .before .before .before .before .before .before .before .before .before .before .before .room-of .ensures) (c .before .before .before .before .before .before .before .before .before .before .before .before .before .before .before .before .before .before .before .before .before .before .before .before .if1 .left) (c .before .before .before .before .before .before .before .before .before .before .before .before .before .before .before .answer-call .ensures)
+returns-3 c =
+    let at-answer-call = c .before .before .before .before .before .before .before .before .before .before .before .before .before .before .before in
+    let at-if1 = at-answer-call .before .before .before .before .before .before .before .before .before in
+    let at-room-of = at-if1 .before in
+    let at-sent2 = at-room-of .before .before in
+    let at-find = at-sent2 .before .before in
+    let start = at-find .before .before .before .before .before .before .before .before .before in
+    found-served _ (start .args .input .now) (start .args .from) (start .pre .1 .0) (start .args .to .now) (start .args .at) (at-find .find .ensures) (at-sent2 .sent2 .given .1) (at-room-of .room-of .ensures) (at-if1 .if1 .left) (at-answer-call .answer-call .ensures)
 
 pub serve-turn-spec : {M : Type 1} → statement M
 serve-turn-spec =

@@ -26,7 +26,11 @@ enum-told-3 : tie.Need-enum-told-3
 enum-told-3 c = search needs
 
 alloc-sound-requires : tie.Need-alloc-sound-requires
-alloc-sound-requires c κs = let a = c .before .before .before .before .before .before .before .before .before .before .before .before .before .before .before .before .before .before .before .args in let k = card (a .info) (a .flags .now) (a .keys .now) (a .counts .now) (a .pointers .now) (a .windows .now) (a .contents .now) in found-sound k (c .before .before .before .before .before .before .before .audit .ensures) (c .before .before .before .before .before .enum-told3 .given .1)
+alloc-sound-requires c κs =
+    let at-enum-told3 = c .before .before .before .before .before in
+    let at-audit = at-enum-told3 .before .before in
+    let start = at-audit .before .before .before .before .before .before .before .before .before .before .before .before in
+    let a = start .args in let k = card (a .info) (a .flags .now) (a .keys .now) (a .counts .now) (a .pointers .now) (a .windows .now) (a .contents .now) in found-sound k (at-audit .audit .ensures) (at-enum-told3 .enum-told3 .given .1)
 
 same-length : tie.Need-same-length
 same-length c = refl
@@ -74,7 +78,12 @@ same-length-13 : tie.Need-same-length-13
 same-length-13 c = c .before .before .before .before .before .before .before .before .before .before .alloc-sound .kept .1 .1 .1 .1 .1 .1 .1 .1 .1 .0
 
 returns-3 : tie.Need-returns-3
-returns-3 c = let a = c .before .before .before .before .before .before .before .before .before .before .before .before .before .before .before .before .before .before .before .before .before .before .before .before .before .before .before .before .before .before .args in let k = card (a .info) (a .flags .now) (a .keys .now) (a .counts .now) (a .pointers .now) (a .windows .now) (a .contents .now) in when-sound (a .port) k _ (c .before .before .before .before .before .before .before .before .before .before .before .before .before .before .before .before .before .before .audit .ensures) (c .before .before .before .before .before .before .before .before .before .before .before .before .before .before .before .before .enum-told3 .given .1) (c .before .before .before .before .before .before .before .before .before .before .alloc-sound .ensures)
+returns-3 c =
+    let at-alloc-sound = c .before .before .before .before .before .before .before .before .before .before in
+    let at-enum-told3 = at-alloc-sound .before .before .before .before .before .before in
+    let at-audit = at-enum-told3 .before .before in
+    let start = at-audit .before .before .before .before .before .before .before .before .before .before .before .before in
+    let a = start .args in let k = card (a .info) (a .flags .now) (a .keys .now) (a .counts .now) (a .pointers .now) (a .windows .now) (a .contents .now) in when-sound (a .port) k _ (at-audit .audit .ensures) (at-enum-told3 .enum-told3 .given .1) (at-alloc-sound .alloc-sound .ensures)
 
 pub alloc-spec : {M : Type 1} → statement M
 alloc-spec =

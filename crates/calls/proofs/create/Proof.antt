@@ -53,7 +53,12 @@ same-length-6 : tie.Need-same-length-6
 same-length-6 c = c .before .before .before .before .create-sound .kept .1 .1 .1 .1 .0
 
 returns-3 : tie.Need-returns-3
-returns-3 c = let a = c .before .before .before .before .before .before .before .before .before .before .before .before .before .before .before .before .before .before .args in let k = card (a .info) (a .flags .now) (a .keys .now) (a .counts .now) (a .pointers .now) (a .windows .now) (a .contents .now) in when-sound (a .port) k _ (c .before .before .before .before .before .before .before .before .before .audit .ensures) (c .before .before .before .before .before .before .before .enum-told3 .given .1) (c .before .before .before .before .create-sound .ensures)
+returns-3 c =
+    let at-create-sound = c .before .before .before .before in
+    let at-enum-told3 = at-create-sound .before .before .before in
+    let at-audit = at-enum-told3 .before .before in
+    let start = at-audit .before .before .before .before .before .before .before .before .before in
+    let a = start .args in let k = card (a .info) (a .flags .now) (a .keys .now) (a .counts .now) (a .pointers .now) (a .windows .now) (a .contents .now) in when-sound (a .port) k _ (at-audit .audit .ensures) (at-enum-told3 .enum-told3 .given .1) (at-create-sound .create-sound .ensures)
 
 pub create-spec : {M : Type 1} → statement M
 create-spec =

@@ -26,7 +26,11 @@ enum-told-3 : tie.Need-enum-told-3
 enum-told-3 c = search needs
 
 delete-sound-requires : tie.Need-delete-sound-requires
-delete-sound-requires c κs = let a = c .before .before .before .before .before .before .before .before .before .before .before .before .before .before .before .before .before .before .before .args in let k = card (a .info) (a .flags .now) (a .keys .now) (a .counts .now) (a .pointers .now) (a .windows .now) (a .contents .now) in found-sound k (c .before .before .before .before .before .before .before .audit .ensures) (c .before .before .before .before .before .enum-told3 .given .1)
+delete-sound-requires c κs =
+    let at-enum-told3 = c .before .before .before .before .before in
+    let at-audit = at-enum-told3 .before .before in
+    let start = at-audit .before .before .before .before .before .before .before .before .before .before .before .before in
+    let a = start .args in let k = card (a .info) (a .flags .now) (a .keys .now) (a .counts .now) (a .pointers .now) (a .windows .now) (a .contents .now) in found-sound k (at-audit .audit .ensures) (at-enum-told3 .enum-told3 .given .1)
 
 same-length : tie.Need-same-length
 same-length c = refl
@@ -80,7 +84,12 @@ same-length-15 : tie.Need-same-length-15
 same-length-15 c = c .before .before .before .before .before .before .before .before .before .before .delete-sound .kept .1 .1 .1 .1 .1 .0
 
 returns-3 : tie.Need-returns-3
-returns-3 c = let a = c .before .before .before .before .before .before .before .before .before .before .before .before .before .before .before .before .before .before .before .before .before .before .before .before .before .before .before .before .before .before .args in let k = card (a .info) (a .flags .now) (a .keys .now) (a .counts .now) (a .pointers .now) (a .windows .now) (a .contents .now) in when-sound (a .port) k _ (c .before .before .before .before .before .before .before .before .before .before .before .before .before .before .before .before .before .before .audit .ensures) (c .before .before .before .before .before .before .before .before .before .before .before .before .before .before .before .before .enum-told3 .given .1) (c .before .before .before .before .before .before .before .before .before .before .delete-sound .ensures)
+returns-3 c =
+    let at-delete-sound = c .before .before .before .before .before .before .before .before .before .before in
+    let at-enum-told3 = at-delete-sound .before .before .before .before .before .before in
+    let at-audit = at-enum-told3 .before .before in
+    let start = at-audit .before .before .before .before .before .before .before .before .before .before .before .before in
+    let a = start .args in let k = card (a .info) (a .flags .now) (a .keys .now) (a .counts .now) (a .pointers .now) (a .windows .now) (a .contents .now) in when-sound (a .port) k _ (at-audit .audit .ensures) (at-enum-told3 .enum-told3 .given .1) (at-delete-sound .delete-sound .ensures)
 
 pub delete-spec : {M : Type 1} → statement M
 delete-spec =

@@ -60,7 +60,11 @@ same-length-9 : tie.Need-same-length-9
 same-length-9 c = search needs
 
 returns-3 : tie.Need-returns-3
-returns-3 c = when-sound _ _ _ (c .before .before .before .before .before .before .before .before .before .before .before .before .audit .ensures) (c .before .before .before .before .before .before .before .before .before .before .enum-told3 .given .1) (c .before .before .before .before .before .before .key-sound .ensures)
+returns-3 c =
+    let at-key-sound = c .before .before .before .before .before .before in
+    let at-enum-told3 = at-key-sound .before .before .before .before in
+    let at-audit = at-enum-told3 .before .before in
+    when-sound _ _ _ (at-audit .audit .ensures) (at-enum-told3 .enum-told3 .given .1) (at-key-sound .key-sound .ensures)
 
 pub key-spec : {M : Type 1} → statement M
 key-spec =

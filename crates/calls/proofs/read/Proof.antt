@@ -45,7 +45,11 @@ same-length-4 : tie.Need-same-length-4
 same-length-4 c = search needs
 
 returns-3 : tie.Need-returns-3
-returns-3 c = when-sound _ _ _ (c .before .before .before .before .before .before .before .before .before .audit .ensures) (c .before .before .before .before .before .before .before .enum-told3 .given .1) (c .before .before .before .before .read-sound .ensures)
+returns-3 c =
+    let at-read-sound = c .before .before .before .before in
+    let at-enum-told3 = at-read-sound .before .before .before in
+    let at-audit = at-enum-told3 .before .before in
+    when-sound _ _ _ (at-audit .audit .ensures) (at-enum-told3 .enum-told3 .given .1) (at-read-sound .read-sound .ensures)
 
 pub read-spec : {M : Type 1} → statement M
 read-spec =

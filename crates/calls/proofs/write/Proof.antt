@@ -51,7 +51,11 @@ same-length-6 : tie.Need-same-length-6
 same-length-6 c = search needs
 
 returns-3 : tie.Need-returns-3
-returns-3 c = when-sound _ _ _ (c .before .before .before .before .before .before .before .before .before .audit .ensures) (c .before .before .before .before .before .before .before .enum-told3 .given .1) (c .before .before .before .before .write-sound .ensures)
+returns-3 c =
+    let at-write-sound = c .before .before .before .before in
+    let at-enum-told3 = at-write-sound .before .before .before in
+    let at-audit = at-enum-told3 .before .before in
+    when-sound _ _ _ (at-audit .audit .ensures) (at-enum-told3 .enum-told3 .given .1) (at-write-sound .write-sound .ensures)
 
 pub write-spec : {M : Type 1} → statement M
 write-spec = tie.close (tie.spec audit-requires enum-told refused-requires enum-told-2 refused-requires-2 enum-told-3 write-sound-requires same-length same-length-2 returns same-length-3 same-length-4 returns-2 same-length-5 same-length-6 returns-3)

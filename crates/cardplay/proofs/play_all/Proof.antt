@@ -33,25 +33,30 @@ turn-requires c κs =
     (going (c .before .before .before .before .before .before .before .before .before .before .before .before .loop .progress .on) (c .before .before .before .before .before .before .before .before .before .before .before .before .loop .turns) (c .before .before .before .before .before .before .before .before .before .before .before .before .loop .progress .records) _ (c .before .before .before .before .before .before .before .before .before .if1 .taken) .1, (c .before .before .before .before .before .before .before .before .before .before .before .before .loop .inv .within, omega (arith, c .before .before .before .before .before .before .before .before .before .before .before .before .loop .inv .sizeBuffer)))
 
 sub-turns : tie.Need-sub-turns Inv-loop μ-loop
-sub-turns c = going (c .before .before .before .before .before .before .before .before .before .before .before .before .before .before .before .before .before .before .before .before .before .before .before .before .before .before .before .loop .progress .on) (c .before .before .before .before .before .before .before .before .before .before .before .before .before .before .before .before .before .before .before .before .before .before .before .before .before .before .before .loop .turns) (c .before .before .before .before .before .before .before .before .before .before .before .before .before .before .before .before .before .before .before .before .before .before .before .before .before .before .before .loop .progress .records) _ (c .before .before .before .before .before .before .before .before .before .before .before .before .before .before .before .before .before .before .before .before .before .before .before .before .if1 .taken) .0
+sub-turns c =
+    let at-if1 = c .before .before .before .before .before .before .before .before .before .before .before .before .before .before .before .before .before .before .before .before .before .before .before .before in
+    let at-loop = at-if1 .before .before .before in
+    going (at-loop .loop .progress .on) (at-loop .loop .turns) (at-loop .loop .progress .records) _ (at-if1 .if1 .taken) .0
 
 loop-less : tie.Need-loop-less Inv-loop μ-loop
 loop-less c = omega (arith, going (c .before .before .before .before .before .before .before .before .before .before .before .before .before .before .before .before .before .before .before .before .before .before .before .before .before .before .before .loop .progress .on) (c .before .before .before .before .before .before .before .before .before .before .before .before .before .before .before .before .before .before .before .before .before .before .before .before .before .before .before .loop .turns) (c .before .before .before .before .before .before .before .before .before .before .before .before .before .before .before .before .before .before .before .before .before .before .before .before .before .before .before .loop .progress .records) _ (c .before .before .before .before .before .before .before .before .before .before .before .before .before .before .before .before .before .before .before .before .before .before .before .before .if1 .taken) .0)
 
 loop-again : tie.Need-loop-again Inv-loop μ-loop
 loop-again c =
+    let at-turn = c .before .before .before .before .before .before .before .before .before .before .before .before .before .before in
+    let at-loop = at-turn .before .before .before .before .before .before .before .before .before .before .before .before .before in
     record {
-      sameFlags = c .before .before .before .before .before .before .before .before .before .before .before .before .before .before .turn .kept .1 .0 ∙ c .before .before .before .before .before .before .before .before .before .before .before .before .before .before .before .before .before .before .before .before .before .before .before .before .before .before .before .loop .inv .sameFlags;
-      sameKeys = c .before .before .before .before .before .before .before .before .before .before .before .before .before .before .turn .kept .1 .1 .0 ∙ c .before .before .before .before .before .before .before .before .before .before .before .before .before .before .before .before .before .before .before .before .before .before .before .before .before .before .before .loop .inv .sameKeys;
-      sameCounts = c .before .before .before .before .before .before .before .before .before .before .before .before .before .before .turn .kept .1 .1 .1 .0 ∙ c .before .before .before .before .before .before .before .before .before .before .before .before .before .before .before .before .before .before .before .before .before .before .before .before .before .before .before .loop .inv .sameCounts;
-      samePointers = c .before .before .before .before .before .before .before .before .before .before .before .before .before .before .turn .kept .1 .1 .1 .1 .0 ∙ c .before .before .before .before .before .before .before .before .before .before .before .before .before .before .before .before .before .before .before .before .before .before .before .before .before .before .before .loop .inv .samePointers;
-      sameWindows = c .before .before .before .before .before .before .before .before .before .before .before .before .before .before .turn .kept .1 .1 .1 .1 .1 .0 ∙ c .before .before .before .before .before .before .before .before .before .before .before .before .before .before .before .before .before .before .before .before .before .before .before .before .before .before .before .loop .inv .sameWindows;
-      sameContents = c .before .before .before .before .before .before .before .before .before .before .before .before .before .before .turn .kept .1 .1 .1 .1 .1 .1 .0 ∙ c .before .before .before .before .before .before .before .before .before .before .before .before .before .before .before .before .before .before .before .before .before .before .before .before .before .before .before .loop .inv .sameContents;
-      sizeBuffer = c .before .before .before .before .before .before .before .before .before .before .before .before .before .before .turn .kept .1 .1 .1 .1 .1 .1 .1 .1 .0 ∙ c .before .before .before .before .before .before .before .before .before .before .before .before .before .before .before .before .before .before .before .before .before .before .before .before .before .before .before .loop .inv .sizeBuffer;
-      sizeOutput = c .before .before .before .before .before .before .before .before .before .before .before .before .before .before .turn .kept .1 .1 .1 .1 .1 .1 .1 .1 .1 .1 .0 ∙ c .before .before .before .before .before .before .before .before .before .before .before .before .before .before .before .before .before .before .before .before .before .before .before .before .before .before .before .loop .inv .sizeOutput;
-      within = c .before .before .before .before .before .before .before .before .before .before .before .before .before .before .turn .ensures .within;
-      session = session-turn _ _ _ _ (c .before .before .before .before .before .before .before .before .before .before .before .before .before .before .turn .ensures) (c .before .before .before .before .before .before .before .before .before .before .before .before .before .before .before .before .before .before .before .before .before .before .before .before .before .before .before .loop .inv .session);
-      halts = turn-halts _ _ _ _ (c .before .before .before .before .before .before .before .before .before .before .before .before .before .before .turn .ensures);
+      sameFlags = at-turn .turn .kept .1 .0 ∙ at-loop .loop .inv .sameFlags;
+      sameKeys = at-turn .turn .kept .1 .1 .0 ∙ at-loop .loop .inv .sameKeys;
+      sameCounts = at-turn .turn .kept .1 .1 .1 .0 ∙ at-loop .loop .inv .sameCounts;
+      samePointers = at-turn .turn .kept .1 .1 .1 .1 .0 ∙ at-loop .loop .inv .samePointers;
+      sameWindows = at-turn .turn .kept .1 .1 .1 .1 .1 .0 ∙ at-loop .loop .inv .sameWindows;
+      sameContents = at-turn .turn .kept .1 .1 .1 .1 .1 .1 .0 ∙ at-loop .loop .inv .sameContents;
+      sizeBuffer = at-turn .turn .kept .1 .1 .1 .1 .1 .1 .1 .1 .0 ∙ at-loop .loop .inv .sizeBuffer;
+      sizeOutput = at-turn .turn .kept .1 .1 .1 .1 .1 .1 .1 .1 .1 .1 .0 ∙ at-loop .loop .inv .sizeOutput;
+      within = at-turn .turn .ensures .within;
+      session = session-turn _ _ _ _ (at-turn .turn .ensures) (at-loop .loop .inv .session);
+      halts = turn-halts _ _ _ _ (at-turn .turn .ensures);
     }
 
 same-length : tie.Need-same-length Inv-loop μ-loop

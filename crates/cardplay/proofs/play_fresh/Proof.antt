@@ -30,7 +30,9 @@ same-length-6 c = search needs
 
 returns : tie.Need-returns
 returns c =
-    session-from (c .before .before .before .before .before .before .before .before .before .before .before .before .before .before .before .before .before .before .before .before .before .before .before .before .before .before .before .before .before .before .before .before .format .ensures .leaves) (c .before .before .before .before .before .before .before .before .before .before .before .before .play-all .ensures)
+    let at-play-all = c .before .before .before .before .before .before .before .before .before .before .before .before in
+    let at-format = at-play-all .before .before .before .before .before .before .before .before .before .before .before .before .before .before .before .before .before .before .before .before in
+    session-from (at-format .format .ensures .leaves) (at-play-all .play-all .ensures)
 
 pub play-fresh-spec : {M : Type 1} → statement M
 play-fresh-spec =

@@ -17,7 +17,9 @@ play-requires c κs = search needs
 
 keep-requires : tie.Need-keep-requires
 keep-requires c κs =
-    (part-within (c .before .before .before .before .before .before .before .before .before .before .before .before .before .before .before .before .before .before .before .before .before .before .before .before .before .before .before .before .before .before .before .before .args .buffer .now) (c .before .before .before .before .before .before .before .before .before .before .before .before .before .before .before .before .before .before .before .before .before .before .before .before .before .before .before .before .before .before .before .before .args .filled) (c .before .before .before .before .before .before .before .before .before .before .before .before .before .before .before .before .before .before .before .before .before .before .before .before .before .before .before .before .before .before .before .before .pre .1) (c .before .before .before .before .before .before .before .before .before .before .before .before .before .before .before .play .ensures), c .before .before .before .before .before .before .before .before .before .before .before .before .before .before .before .before .before .before .before .before .before .before .before .before .before .before .before .before .before .before .before .before .pre .1)
+    let at-play = c .before .before .before .before .before .before .before .before .before .before .before .before .before .before .before in
+    let start = at-play .before .before .before .before .before .before .before .before .before .before .before .before .before .before .before .before .before in
+    (part-within (start .args .buffer .now) (start .args .filled) (start .pre .1) (at-play .play .ensures), start .pre .1)
 
 same-length : tie.Need-same-length
 same-length c = search needs
@@ -45,7 +47,10 @@ same-length-8 c = search needs
 
 returns : tie.Need-returns
 returns c =
-    played (c .before .before .before .before .before .before .before .before .before .before .before .before .before .before .before .before .before .before .before .before .before .before .before .before .before .before .before .before .before .before .before .before .before .before .before .before .args .buffer .now) (c .before .before .before .before .before .before .before .before .before .before .before .before .before .before .before .before .before .before .before .before .before .before .before .before .before .before .before .before .before .before .before .before .before .before .before .before .args .filled) (c .before .before .before .before .before .before .before .before .before .before .before .before .before .before .before .before .before .before .before .before .before .before .before .before .before .before .before .before .before .before .before .before .before .before .before .before .pre .1) (c .before .before .before .before .before .before .before .before .before .before .before .before .before .before .before .before .before .before .before .play .ensures) (c .before .before .before .keep .ensures)
+    let at-keep = c .before .before .before in
+    let at-play = at-keep .before .before .before .before .before .before .before .before .before .before .before .before .before .before .before .before in
+    let start = at-play .before .before .before .before .before .before .before .before .before .before .before .before .before .before .before .before .before in
+    played (start .args .buffer .now) (start .args .filled) (start .pre .1) (at-play .play .ensures) (at-keep .keep .ensures)
 
 pub play-some-spec : {M : Type 1} → statement M
 play-some-spec =

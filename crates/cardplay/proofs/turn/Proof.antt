@@ -26,7 +26,10 @@ needs-input-requires c κs = search needs
 
 read-on-requires : tie.Need-read-on-requires
 read-on-requires c κs =
-    (c .before .before .before .before .before .before .before .before .before .before .before .before .before .before .before .before .before .before .before .before .play-some .ensures .within, room-left (c .before .before .before .before .before .before .before .before .before .before .before .before .before .before .before .before .before .before .before .before .play-some .ensures) (play-awaits _ _ _ _) (c .before .before .write-all .result) (c .before .needs-input .ensures) (c .before .before .before .before .before .before .before .before .before .before .before .before .before .before .before .before .before .before .before .before .before .before .before .before .before .before .before .before .before .before .before .before .before .before .before .before .before .pre .1 .1) (c .before .before .before .before .before .before .before .before .before .before .before .before .before .before .before .before .before .before .before .before .play-some .kept .1 .1 .1 .1 .1 .1 .1 .1 .0))
+    let at-write-all = c .before .before in
+    let at-play-some = at-write-all .before .before .before .before .before .before .before .before .before .before .before .before .before .before .before .before .before .before in
+    let at-pre = at-play-some .before .before .before .before .before .before .before .before .before .before .before .before .before .before .before .before .before in
+    (at-play-some .play-some .ensures .within, room-left (at-play-some .play-some .ensures) (play-awaits _ _ _ _) (at-write-all .write-all .result) (c .before .needs-input .ensures) (at-pre .pre .1 .1) (at-play-some .play-some .kept .1 .1 .1 .1 .1 .1 .1 .1 .0))
 
 is-full-requires : tie.Need-is-full-requires
 is-full-requires c κs = search needs
@@ -57,7 +60,11 @@ same-length-8 c = search needs
 
 returns : tie.Need-returns
 returns c =
-    turned (c .before .before .before .before .before .before .before .before .before .before .before .before .before .before .before .before .before .before .before .before .before .before .before .before .before .play-some .ensures) (c .before .before .before .before .before .before .before .write-all .result) (c .before .before .before .before .before .before .needs-input .ensures) (c .before .is-full .ensures) (c .before .before .before .before .read-on .ensures)
+    let at-read-on = c .before .before .before .before in
+    let at-needs-input = at-read-on .before .before in
+    let at-write-all = at-needs-input .before in
+    let at-play-some = at-write-all .before .before .before .before .before .before .before .before .before .before .before .before .before .before .before .before .before .before in
+    turned (at-play-some .play-some .ensures) (at-write-all .write-all .result) (at-needs-input .needs-input .ensures) (c .before .is-full .ensures) (at-read-on .read-on .ensures)
 
 pub turn-spec : {M : Type 1} → statement M
 turn-spec =

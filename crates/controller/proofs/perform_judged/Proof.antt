@@ -17,13 +17,20 @@ enum-told-3 : tie.Need-enum-told-3
 enum-told-3 c = search needs
 
 perform-sound-requires : tie.Need-perform-sound-requires
-perform-sound-requires c κs = verdict-sound _ (sym (c .before .before .before .before .before .before .before .before .before .before .before .before .before .before .before .before .before .before .before .pre) ∙ c .before .before .before .before .before .before .before .before .enum-told3 .given .1)
+perform-sound-requires c κs =
+    let at-enum-told3 = c .before .before .before .before .before .before .before .before in
+    let at-pre = at-enum-told3 .before .before .before .before .before .before .before .before .before .before .before in
+    verdict-sound _ (sym (at-pre .pre) ∙ at-enum-told3 .enum-told3 .given .1)
 
 returns : tie.Need-returns
-returns c = is-misshapen (c .before .before .before .before .before .before .before .before .before .before .before .args .port) _ (request (c .before .before .before .before .before .before .before .before .before .before .before .args .call) (c .before .before .before .before .before .before .before .before .before .before .before .args .input .now) (c .before .before .before .before .before .before .before .before .before .before .before .args .out .now) (c .before .before .before .before .before .before .before .before .before .before .before .args .places .now)) (sym (c .before .before .before .before .before .before .before .before .before .before .before .pre) ∙ c .enum-told .given .1)
+returns c =
+    let start = c .before .before .before .before .before .before .before .before .before .before .before in
+    is-misshapen (start .args .port) _ (request (start .args .call) (start .args .input .now) (start .args .out .now) (start .args .places .now)) (sym (start .pre) ∙ c .enum-told .given .1)
 
 returns-2 : tie.Need-returns-2
-returns-2 c = is-unsound (c .before .before .before .before .before .before .before .before .before .before .before .args .port) _ (request (c .before .before .before .before .before .before .before .before .before .before .before .args .call) (c .before .before .before .before .before .before .before .before .before .before .before .args .input .now) (c .before .before .before .before .before .before .before .before .before .before .before .args .out .now) (c .before .before .before .before .before .before .before .before .before .before .before .args .places .now)) (sym (c .before .before .before .before .before .before .before .before .before .before .before .pre) ∙ c .enum-told2 .given .1)
+returns-2 c =
+    let start = c .before .before .before .before .before .before .before .before .before .before .before in
+    is-unsound (start .args .port) _ (request (start .args .call) (start .args .input .now) (start .args .out .now) (start .args .places .now)) (sym (start .pre) ∙ c .enum-told2 .given .1)
 
 same-length : tie.Need-same-length
 same-length c = search needs
@@ -50,7 +57,11 @@ same-length-8 : tie.Need-same-length-8
 same-length-8 c = search needs
 
 returns-3 : tie.Need-returns-3
-returns-3 c = is-audited (c .before .before .before .before .before .before .before .before .before .before .before .before .before .before .before .before .before .before .before .before .before .before .before .before .before .before .before .before .before .before .before .before .before .before .before .before .args .port) _ (request (c .before .before .before .before .before .before .before .before .before .before .before .before .before .before .before .before .before .before .before .before .before .before .before .before .before .before .before .before .before .before .before .before .before .before .before .before .args .call) (c .before .before .before .before .before .before .before .before .before .before .before .before .before .before .before .before .before .before .before .before .before .before .before .before .before .before .before .before .before .before .before .before .before .before .before .before .args .input .now) (c .before .before .before .before .before .before .before .before .before .before .before .before .before .before .before .before .before .before .before .before .before .before .before .before .before .before .before .before .before .before .before .before .before .before .before .before .args .out .now) (c .before .before .before .before .before .before .before .before .before .before .before .before .before .before .before .before .before .before .before .before .before .before .before .before .before .before .before .before .before .before .before .before .before .before .before .before .args .places .now)) (sym (c .before .before .before .before .before .before .before .before .before .before .before .before .before .before .before .before .before .before .before .before .before .before .before .before .before .before .before .before .before .before .before .before .before .before .before .before .pre) ∙ c .before .before .before .before .before .before .before .before .before .before .before .before .before .before .before .before .before .before .before .before .before .before .before .before .before .enum-told3 .given .1) (c .before .before .before .before .before .before .before .before .before .before .before .before .before .before .before .before .perform-sound .ensures)
+returns-3 c =
+    let at-perform-sound = c .before .before .before .before .before .before .before .before .before .before .before .before .before .before .before .before in
+    let at-enum-told3 = at-perform-sound .before .before .before .before .before .before .before .before .before in
+    let start = at-enum-told3 .before .before .before .before .before .before .before .before .before .before .before in
+    is-audited (start .args .port) _ (request (start .args .call) (start .args .input .now) (start .args .out .now) (start .args .places .now)) (sym (start .pre) ∙ at-enum-told3 .enum-told3 .given .1) (at-perform-sound .perform-sound .ensures)
 
 pub perform-judged-spec : {M : Type 1} → statement M
 perform-judged-spec =

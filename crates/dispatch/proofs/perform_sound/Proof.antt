@@ -91,8 +91,11 @@ same-length-7 c = search needs
 
 returns : tie.Need-returns
 returns c =
-    with-read (c .before .before .before .before .before .before .before .before .before .before .before .before .before .before .before .before .before .before .before .before .before .before .before .before .args .port) _ (c .before .before .before .before .before .before .before .before .before .before .before .before .before .before .before .before .before .before .before .before .before .before .before .before .args .input .now) (c .before .before .before .before .before .before .before .before .before .before .before .before .before .before .before .before .before .before .before .before .before .before .before .before .args .out .now) (c .before .before .before .before .before .before .before .before .before .before .before .before .before .before .before .before .before .before .before .before .before .before .before .before .args .places .now) (c .before .before .before .before .before .before .before .before .before .before .before .before .before .before .before .before .before .before .before .before .before .before .before .before .args .call) (c .before .before .before .before .before .before .before .before .before .before .before .before .before .call .given .1)
-    (c .before .before .before .before .read-sound .ensures)
+    let at-read-sound = c .before .before .before .before in
+    let at-call = at-read-sound .before .before .before .before .before .before .before .before .before in
+    let start = at-call .before .before .before .before .before .before .before .before .before .before .before in
+    with-read (start .args .port) _ (start .args .input .now) (start .args .out .now) (start .args .places .now) (start .args .call) (at-call .call .given .1)
+    (at-read-sound .read-sound .ensures)
 
 same-length-8 : tie.Need-same-length-8
 same-length-8 c = search needs
@@ -114,8 +117,11 @@ same-length-13 c = search needs
 
 returns-2 : tie.Need-returns-2
 returns-2 c =
-    with-write (c .before .before .before .before .before .before .before .before .before .before .before .before .before .before .before .before .before .before .before .before .before .before .before .args .port) _ (c .before .before .before .before .before .before .before .before .before .before .before .before .before .before .before .before .before .before .before .before .before .before .before .args .input .now) (c .before .before .before .before .before .before .before .before .before .before .before .before .before .before .before .before .before .before .before .before .before .before .before .args .out .now) (c .before .before .before .before .before .before .before .before .before .before .before .before .before .before .before .before .before .before .before .before .before .before .before .args .places .now) (c .before .before .before .before .before .before .before .before .before .before .before .before .before .before .before .before .before .before .before .before .before .before .before .args .call) (c .before .before .before .before .before .before .before .before .before .before .before .before .call2 .given .1)
-    (c .before .before .before .before .write-sound .ensures)
+    let at-write-sound = c .before .before .before .before in
+    let at-call2 = at-write-sound .before .before .before .before .before .before .before .before in
+    let start = at-call2 .before .before .before .before .before .before .before .before .before .before .before in
+    with-write (start .args .port) _ (start .args .input .now) (start .args .out .now) (start .args .places .now) (start .args .call) (at-call2 .call2 .given .1)
+    (at-write-sound .write-sound .ensures)
 
 same-length-14 : tie.Need-same-length-14
 same-length-14 c = search needs
@@ -140,8 +146,11 @@ same-length-20 c = search needs
 
 returns-3 : tie.Need-returns-3
 returns-3 c =
-    with-alloc (c .before .before .before .before .before .before .before .before .before .before .before .before .before .before .before .before .before .before .before .before .before .before .before .before .before .before .before .before .before .before .args .port) _ (c .before .before .before .before .before .before .before .before .before .before .before .before .before .before .before .before .before .before .before .before .before .before .before .before .before .before .before .before .before .before .args .input .now) (c .before .before .before .before .before .before .before .before .before .before .before .before .before .before .before .before .before .before .before .before .before .before .before .before .before .before .before .before .before .before .args .out .now) (c .before .before .before .before .before .before .before .before .before .before .before .before .before .before .before .before .before .before .before .before .before .before .before .before .before .before .before .before .before .before .args .places .now) (c .before .before .before .before .before .before .before .before .before .before .before .before .before .before .before .before .before .before .before .before .before .before .before .before .before .before .before .before .before .before .args .call) (c .before .before .before .before .before .before .before .before .before .before .before .before .before .before .before .before .before .before .before .call3 .given .1)
-    (c .before .before .before .before .before .before .before .before .before .before .alloc-sound .ensures)
+    let at-alloc-sound = c .before .before .before .before .before .before .before .before .before .before in
+    let at-call3 = at-alloc-sound .before .before .before .before .before .before .before .before .before in
+    let start = at-call3 .before .before .before .before .before .before .before .before .before .before .before in
+    with-alloc (start .args .port) _ (start .args .input .now) (start .args .out .now) (start .args .places .now) (start .args .call) (at-call3 .call3 .given .1)
+    (at-alloc-sound .alloc-sound .ensures)
 
 same-length-21 : tie.Need-same-length-21
 same-length-21 c = search needs
@@ -163,8 +172,11 @@ same-length-26 c = search needs
 
 returns-4 : tie.Need-returns-4
 returns-4 c =
-    with-create (c .before .before .before .before .before .before .before .before .before .before .before .before .before .before .before .before .before .before .before .before .before .before .before .args .port) _ (c .before .before .before .before .before .before .before .before .before .before .before .before .before .before .before .before .before .before .before .before .before .before .before .args .input .now) (c .before .before .before .before .before .before .before .before .before .before .before .before .before .before .before .before .before .before .before .before .before .before .before .args .out .now) (c .before .before .before .before .before .before .before .before .before .before .before .before .before .before .before .before .before .before .before .before .before .before .before .args .places .now) (c .before .before .before .before .before .before .before .before .before .before .before .before .before .before .before .before .before .before .before .before .before .before .before .args .call) (c .before .before .before .before .before .before .before .before .before .before .before .before .call4 .given .1)
-    (c .before .before .before .before .create-sound .ensures)
+    let at-create-sound = c .before .before .before .before in
+    let at-call4 = at-create-sound .before .before .before .before .before .before .before .before in
+    let start = at-call4 .before .before .before .before .before .before .before .before .before .before .before in
+    with-create (start .args .port) _ (start .args .input .now) (start .args .out .now) (start .args .places .now) (start .args .call) (at-call4 .call4 .given .1)
+    (at-create-sound .create-sound .ensures)
 
 same-length-27 : tie.Need-same-length-27
 same-length-27 c = search needs
@@ -186,8 +198,11 @@ same-length-32 c = search needs
 
 returns-5 : tie.Need-returns-5
 returns-5 c =
-    with-delete (c .before .before .before .before .before .before .before .before .before .before .before .before .before .before .before .before .before .before .before .before .before .before .before .before .before .before .before .before .before .args .port) _ (c .before .before .before .before .before .before .before .before .before .before .before .before .before .before .before .before .before .before .before .before .before .before .before .before .before .before .before .before .before .args .input .now) (c .before .before .before .before .before .before .before .before .before .before .before .before .before .before .before .before .before .before .before .before .before .before .before .before .before .before .before .before .before .args .out .now) (c .before .before .before .before .before .before .before .before .before .before .before .before .before .before .before .before .before .before .before .before .before .before .before .before .before .before .before .before .before .args .places .now) (c .before .before .before .before .before .before .before .before .before .before .before .before .before .before .before .before .before .before .before .before .before .before .before .before .before .before .before .before .before .args .call) (c .before .before .before .before .before .before .before .before .before .before .before .before .before .before .before .before .before .before .call5 .given .1)
-    (c .before .before .before .before .before .before .before .before .before .before .delete-sound .ensures)
+    let at-delete-sound = c .before .before .before .before .before .before .before .before .before .before in
+    let at-call5 = at-delete-sound .before .before .before .before .before .before .before .before in
+    let start = at-call5 .before .before .before .before .before .before .before .before .before .before .before in
+    with-delete (start .args .port) _ (start .args .input .now) (start .args .out .now) (start .args .places .now) (start .args .call) (at-call5 .call5 .given .1)
+    (at-delete-sound .delete-sound .ensures)
 
 same-length-33 : tie.Need-same-length-33
 same-length-33 c = search needs
@@ -209,8 +224,11 @@ same-length-38 c = search needs
 
 returns-6 : tie.Need-returns-6
 returns-6 c =
-    with-key (c .before .before .before .before .before .before .before .before .before .before .before .before .before .before .before .before .before .before .before .before .before .before .before .before .before .args .port) _ (c .before .before .before .before .before .before .before .before .before .before .before .before .before .before .before .before .before .before .before .before .before .before .before .before .before .args .input .now) (c .before .before .before .before .before .before .before .before .before .before .before .before .before .before .before .before .before .before .before .before .before .before .before .before .before .args .out .now) (c .before .before .before .before .before .before .before .before .before .before .before .before .before .before .before .before .before .before .before .before .before .before .before .before .before .args .places .now) (c .before .before .before .before .before .before .before .before .before .before .before .before .before .before .before .before .before .before .before .before .before .before .before .before .before .args .call) (c .before .before .before .before .before .before .before .before .before .before .before .before .before .before .call6 .given .1)
-    (c .before .before .before .before .before .before .key-sound .ensures)
+    let at-key-sound = c .before .before .before .before .before .before in
+    let at-call6 = at-key-sound .before .before .before .before .before .before .before .before in
+    let start = at-call6 .before .before .before .before .before .before .before .before .before .before .before in
+    with-key (start .args .port) _ (start .args .input .now) (start .args .out .now) (start .args .places .now) (start .args .call) (at-call6 .call6 .given .1)
+    (at-key-sound .key-sound .ensures)
 
 same-length-39 : tie.Need-same-length-39
 same-length-39 c = search needs
@@ -232,8 +250,11 @@ same-length-44 c = search needs
 
 returns-7 : tie.Need-returns-7
 returns-7 c =
-    with-renew (c .before .before .before .before .before .before .before .before .before .before .before .before .before .before .before .before .before .before .before .before .before .args .port) _ (c .before .before .before .before .before .before .before .before .before .before .before .before .before .before .before .before .before .before .before .before .before .args .input .now) (c .before .before .before .before .before .before .before .before .before .before .before .before .before .before .before .before .before .before .before .before .before .args .out .now) (c .before .before .before .before .before .before .before .before .before .before .before .before .before .before .before .before .before .before .before .before .before .args .places .now) (c .before .before .before .before .before .before .before .before .before .before .before .before .before .before .before .before .before .before .before .before .before .args .call) (c .before .before .before .before .before .before .before .before .before .before .call7 .given .1)
-    (c .before .before .renew-sound .ensures (c .before .before .before .before .before .before .before .before .before .before .before .before .before .before .before .before .before .before .before .before .before .args .port))
+    let at-renew-sound = c .before .before in
+    let at-call7 = at-renew-sound .before .before .before .before .before .before .before .before in
+    let start = at-call7 .before .before .before .before .before .before .before .before .before .before .before in
+    with-renew (start .args .port) _ (start .args .input .now) (start .args .out .now) (start .args .places .now) (start .args .call) (at-call7 .call7 .given .1)
+    (at-renew-sound .renew-sound .ensures (start .args .port))
 
 same-length-45 : tie.Need-same-length-45
 same-length-45 c = search needs
@@ -255,8 +276,11 @@ same-length-50 c = search needs
 
 returns-8 : tie.Need-returns-8
 returns-8 c =
-    with-force (c .before .before .before .before .before .before .before .before .before .before .before .before .before .before .before .before .before .before .before .before .before .args .port) _ (c .before .before .before .before .before .before .before .before .before .before .before .before .before .before .before .before .before .before .before .before .before .args .input .now) (c .before .before .before .before .before .before .before .before .before .before .before .before .before .before .before .before .before .before .before .before .before .args .out .now) (c .before .before .before .before .before .before .before .before .before .before .before .before .before .before .before .before .before .before .before .before .before .args .places .now) (c .before .before .before .before .before .before .before .before .before .before .before .before .before .before .before .before .before .before .before .before .before .args .call) (c .before .before .before .before .before .before .before .before .before .before .call8 .given .1)
-    (c .before .before .force-sound .ensures (c .before .before .before .before .before .before .before .before .before .before .before .before .before .before .before .before .before .before .before .before .before .args .port))
+    let at-force-sound = c .before .before in
+    let at-call8 = at-force-sound .before .before .before .before .before .before .before .before in
+    let start = at-call8 .before .before .before .before .before .before .before .before .before .before .before in
+    with-force (start .args .port) _ (start .args .input .now) (start .args .out .now) (start .args .places .now) (start .args .call) (at-call8 .call8 .given .1)
+    (at-force-sound .force-sound .ensures (start .args .port))
 
 same-length-51 : tie.Need-same-length-51
 same-length-51 c = search needs
@@ -278,8 +302,10 @@ same-length-56 c = search needs
 
 returns-9 : tie.Need-returns-9
 returns-9 c =
-    with-free (c .before .before .before .before .before .before .before .before .before .before .before .before .before .before .before .before .before .before .args .port) _ (c .before .before .before .before .before .before .before .before .before .before .before .before .before .before .before .before .before .before .args .input .now) (c .before .before .before .before .before .before .before .before .before .before .before .before .before .before .before .before .before .before .args .out .now) (c .before .before .before .before .before .before .before .before .before .before .before .before .before .before .before .before .before .before .args .places .now) (c .before .before .before .before .before .before .before .before .before .before .before .before .before .before .before .before .before .before .args .call) (c .before .before .before .before .before .before .before .enum-told .given .1)
-    (c .free-sound .ensures (c .before .before .before .before .before .before .before .before .before .before .before .before .before .before .before .before .before .before .args .port))
+    let at-enum-told = c .before .before .before .before .before .before .before in
+    let start = at-enum-told .before .before .before .before .before .before .before .before .before .before .before in
+    with-free (start .args .port) _ (start .args .input .now) (start .args .out .now) (start .args .places .now) (start .args .call) (at-enum-told .enum-told .given .1)
+    (c .free-sound .ensures (start .args .port))
 
 same-length-57 : tie.Need-same-length-57
 same-length-57 c = search needs
@@ -301,12 +327,15 @@ same-length-62 c = search needs
 
 returns-10 : tie.Need-returns-10
 returns-10 c =
-    with-tick (c .before .before .before .before .before .before .before .before .before .before .before .before .before .before .before .before .before .before .before .args .port) _ (c .before .before .before .before .before .before .before .before .before .before .before .before .before .before .before .before .before .before .before .args .input .now) (c .before .before .before .before .before .before .before .before .before .before .before .before .before .before .before .before .before .before .before .args .out .now) (c .before .before .before .before .before .before .before .before .before .before .before .before .before .before .before .before .before .before .before .args .places .now) (c .before .before .before .before .before .before .before .before .before .before .before .before .before .before .before .before .before .before .before .args .call) (c .before .before .before .before .before .before .before .before .call9 .given .1)
-    (c .tick-sound .ensures (c .before .before .before .before .before .before .before .before .before .before .before .before .before .before .before .before .before .before .before .args .port))
+    let at-call9 = c .before .before .before .before .before .before .before .before in
+    let start = at-call9 .before .before .before .before .before .before .before .before .before .before .before in
+    with-tick (start .args .port) _ (start .args .input .now) (start .args .out .now) (start .args .places .now) (start .args .call) (at-call9 .call9 .given .1)
+    (c .tick-sound .ensures (start .args .port))
 
 returns-11 : tie.Need-returns-11
 returns-11 c =
-    with-audit (c .before .before .before .before .before .before .before .before .before .before .before .args .port) _ (c .before .before .before .before .before .before .before .before .before .before .before .args .input .now) (c .before .before .before .before .before .before .before .before .before .before .before .args .out .now) (c .before .before .before .before .before .before .before .before .before .before .before .args .places .now) (c .before .before .before .before .before .before .before .before .before .before .before .args .call) (c .enum-told2 .given .1) refl refl
+    let start = c .before .before .before .before .before .before .before .before .before .before .before in
+    with-audit (start .args .port) _ (start .args .input .now) (start .args .out .now) (start .args .places .now) (start .args .call) (c .enum-told2 .given .1) refl refl
 
 pub perform-sound-spec : {M : Type 1} → statement M
 perform-sound-spec =

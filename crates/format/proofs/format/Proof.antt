@@ -31,10 +31,16 @@ mul-size : tie.Need-mul-size
 mul-size c = omega (arith, size-low _ (c .before .before .before .before .before .before .before .before .before .before .before .before .before .before .before .before .before .before .before .before .before .shaped .ensures) (c .before .before .before .before .before .before .before .before .before .before .before .before .before .before .before .before .before .before .before .before .if1 .taken))
 
 slice-relend-prefix-clear : tie.Need-slice-relend-prefix-clear
-slice-relend-prefix-clear c = size-within _ (c .before .before .before .before .before .before .before .before .before .before .before .before .before .before .before .before .before .before .before .before .before .shaped .ensures) (c .before .before .before .before .before .before .before .before .before .before .before .before .before .before .before .before .before .before .before .before .if1 .taken)
+slice-relend-prefix-clear c =
+    let at-if1 = c .before .before .before .before .before .before .before .before .before .before .before .before .before .before .before .before .before .before .before .before in
+    let at-shaped = at-if1 .before in
+    size-within _ (at-shaped .shaped .ensures) (at-if1 .if1 .taken)
 
 slice-aggregate-clear : tie.Need-slice-aggregate-clear
-slice-aggregate-clear c = sym (length-take-le _ _ (size-within _ (c .before .before .before .before .before .before .before .before .before .before .before .before .before .before .before .before .before .before .before .before .before .before .shaped .ensures) (c .before .before .before .before .before .before .before .before .before .before .before .before .before .before .before .before .before .before .before .before .before .if1 .taken)))
+slice-aggregate-clear c =
+    let at-if1 = c .before .before .before .before .before .before .before .before .before .before .before .before .before .before .before .before .before .before .before .before .before in
+    let at-shaped = at-if1 .before in
+    sym (length-take-le _ _ (size-within _ (at-shaped .shaped .ensures) (at-if1 .if1 .taken)))
 
 clear-requires : tie.Need-clear-requires
 clear-requires c κs = search needs
@@ -61,7 +67,17 @@ same-length-6 : tie.Need-same-length-6
 same-length-6 c = search needs
 
 returns : tie.Need-returns
-returns c = let a = c .before .before .before .before .before .before .before .before .before .before .before .before .before .before .before .before .before .before .before .before .before .before .before .before .before .before .before .before .before .before .before .before .before .before .before .before .before .before .before .args in format-done _ _ _ _ (c .before .before .before .before .before .before .before .before .before .before .before .before .before .before .before .before .before .before .before .before .before .before .before .before .before .before .shaped .ensures) (c .before .before .before .before .before .before .before .before .before .before .before .before .before .before .before .before .before .before .before .before .before .before .before .before .before .if1 .taken) (c .done .ensures) (c .before .before .before .before .before .before .before .before .before .before .before .before .before .before .before .before .before .before .before .before .before .before .before .mark-roots .ensures) (c .before .before .before .before .before .before .before .before .before .before .before .before .before .before .before .before .before .before .before .clear-words .ensures) (c .before .before .before .before .before .before .before .before .before .before .before .before .before .before .before .clear-counts .ensures) (c .before .before .before .before .before .before .before .before .before .before .before .clear-places .ensures) (c .before .before .before .before .before .before .before .clear-words2 .ensures) (front-cleared (a .contents .now) (a .roots * a .bytes) (c .before .before .before .clear .ensures) (size-within _ (c .before .before .before .before .before .before .before .before .before .before .before .before .before .before .before .before .before .before .before .before .before .before .before .before .before .before .shaped .ensures) (c .before .before .before .before .before .before .before .before .before .before .before .before .before .before .before .before .before .before .before .before .before .before .before .before .before .if1 .taken)))
+returns c =
+    let at-clear = c .before .before .before in
+    let at-clear-words2 = at-clear .before .before .before .before in
+    let at-clear-places = at-clear-words2 .before .before .before .before in
+    let at-clear-counts = at-clear-places .before .before .before .before in
+    let at-clear-words = at-clear-counts .before .before .before .before in
+    let at-mark-roots = at-clear-words .before .before .before .before in
+    let at-if1 = at-mark-roots .before .before in
+    let at-shaped = at-if1 .before in
+    let start = at-shaped .before .before .before .before .before .before .before .before .before .before .before .before .before in
+    let a = start .args in format-done _ _ _ _ (at-shaped .shaped .ensures) (at-if1 .if1 .taken) (c .done .ensures) (at-mark-roots .mark-roots .ensures) (at-clear-words .clear-words .ensures) (at-clear-counts .clear-counts .ensures) (at-clear-places .clear-places .ensures) (at-clear-words2 .clear-words2 .ensures) (front-cleared (a .contents .now) (a .roots * a .bytes) (at-clear .clear .ensures) (size-within _ (at-shaped .shaped .ensures) (at-if1 .if1 .taken)))
 
 refused-requires : tie.Need-refused-requires
 refused-requires c κs = search needs

@@ -21,7 +21,11 @@ same-length : tie.Need-same-length
 same-length c = search needs
 
 returns : tie.Need-returns
-returns c = front-marked _ (c .before .before .before .before .before .before .clear .ensures) (c .before .before .mark .ensures) (c .before .before .before .before .before .before .before .before .before .pre)
+returns c =
+    let at-mark = c .before .before in
+    let at-clear = at-mark .before .before .before .before in
+    let at-pre = at-clear .before .before .before in
+    front-marked _ (at-clear .clear .ensures) (at-mark .mark .ensures) (at-pre .pre)
 
 pub mark-roots-spec : {M : Type 1} → statement M
 mark-roots-spec = tie.close (tie.spec clear-requires slice-relend-prefix-mark slice-aggregate-mark mark-requires same-length returns)

@@ -20,7 +20,12 @@ report-requires : tie.Need-report-requires
 report-requires c κs = tt
 
 returns-2 : tie.Need-returns-2
-returns-2 c = effect-kept (c .before .before .before .before .before .before .before .before .before .before .before .before .args .info .now) _ _ _ _ _ _ 0 _ (audit-changes-nothing _ _) (c .before .before .before .before .if1 .left) (c .before .before .before .load .ensures) (c .before .before .audit .ensures Host) (c .report .ensures .0) (c .report .ensures .1) .does
+returns-2 c =
+    let at-audit = c .before .before in
+    let at-load = at-audit .before in
+    let at-if1 = at-load .before in
+    let start = at-if1 .before .before .before .before .before .before .before .before in
+    effect-kept (start .args .info .now) _ _ _ _ _ _ 0 _ (audit-changes-nothing _ _) (at-if1 .if1 .left) (at-load .load .ensures) (at-audit .audit .ensures Host) (c .report .ensures .0) (c .report .ensures .1) .does
 
 pub negvask-audit-spec : {M : Type 1} → statement M
 negvask-audit-spec =

@@ -5,7 +5,9 @@ use Rattle.interface.proofs.negvask_batch.Statement.{statement}
 use Rattle.interface.proofs.negvask_batch.Tie as tie
 
 returns : tie.Need-returns
-returns c = batch-refused (left (c .before .before .before .before .before .before .before .before .before .before .args .info .now) (c .before .before .before .before .before .before .before .before .before .before .args .flags .now) (c .before .before .before .before .before .before .before .before .before .before .args .keys .now) (c .before .before .before .before .before .before .before .before .before .before .args .counts .now) (c .before .before .before .before .before .before .before .before .before .before .args .pointers .now) (c .before .before .before .before .before .before .before .before .before .before .args .windows .now) (c .before .before .before .before .before .before .before .before .before .before .args .contents .now) (c .before .before .before .before .before .before .before .before .before .before .args .answers .now) (c .before .before .before .before .before .before .before .before .before .before .args .records .now) (c .before .before .before .before .before .before .before .before .before .before .args .read .now) (c .before .before .before .before .before .before .before .before .before .before .args .written .now)) (c .before .before .before .before .before .before .before .before .before .before .args .input .now) (c .if1 .taken)
+returns c =
+    let start = c .before .before .before .before .before .before .before .before .before .before in
+    batch-refused (left (start .args .info .now) (start .args .flags .now) (start .args .keys .now) (start .args .counts .now) (start .args .pointers .now) (start .args .windows .now) (start .args .contents .now) (start .args .answers .now) (start .args .records .now) (start .args .read .now) (start .args .written .now)) (start .args .input .now) (c .if1 .taken)
 
 load-requires : tie.Need-load-requires
 load-requires c κs = search needs
@@ -44,7 +46,13 @@ same-length-8 : tie.Need-same-length-8
 same-length-8 c = c .before .before .before .before .before .before .before .before .before .before .before .before .before .before .before .before .before .before .before .before .serve .kept .1 .1 .1 .1 .1 .1 .1 .1 .0
 
 returns-2 : tie.Need-returns-2
-returns-2 c = batch-served (c .before .before .before .before .before .before .before .before .before .before .before .before .before .before .before .before .before .before .before .before .before .before .before .before .before .before .before .before .before .before .before .before .before .before .before .before .before .before .before .before .args .info .now) _ _ _ _ _ _ (c .before .before .before .before .before .before .before .before .before .before .before .before .before .before .before .before .before .before .before .before .before .before .before .before .before .before .before .before .before .before .before .before .before .before .before .before .before .before .before .before .args .answers .now) (c .before .before .before .before .before .before .before .before .before .before .before .before .before .before .before .before .before .before .before .before .before .before .before .before .before .before .before .before .before .before .before .before .before .before .before .before .before .before .before .before .args .records .now) (c .before .before .before .before .before .before .before .before .before .before .before .before .before .before .before .before .before .before .before .before .before .before .before .before .before .before .before .before .before .before .before .before .before .before .before .before .before .before .before .before .args .read .now) (c .before .before .before .before .before .before .before .before .before .before .before .before .before .before .before .before .before .before .before .before .before .before .before .before .before .before .before .before .before .before .before .before .before .before .before .before .before .before .before .before .args .written .now) (c .before .before .before .before .before .before .before .before .before .before .before .before .before .before .before .before .before .before .before .before .before .before .before .before .before .before .before .before .before .before .before .before .before .before .before .before .before .before .before .before .args .input .now) _ _ _ _ _ _ _ (c .before .before .before .before .before .before .before .before .before .before .before .before .before .before .before .before .before .before .before .before .before .before .before .before .before .before .before .before .before .before .if1 .left) (c .before .before .before .before .before .before .before .before .before .before .before .before .before .before .before .before .before .before .before .before .before .before .before .before .before .before .before .before .load .ensures) (c .before .before .before .before .before .before .before .before .before .before .before .before .before .before .before .before .before .before .before .before .serve .ensures) (c .before .before .before .store .ensures) (c .stop-number .ensures)
+returns-2 c =
+    let at-store = c .before .before .before in
+    let at-serve = at-store .before .before .before .before .before .before .before .before .before .before .before .before .before .before .before .before .before in
+    let at-load = at-serve .before .before .before .before .before .before .before .before in
+    let at-if1 = at-load .before .before in
+    let start = at-if1 .before .before .before .before .before .before .before .before .before .before in
+    batch-served (start .args .info .now) _ _ _ _ _ _ (start .args .answers .now) (start .args .records .now) (start .args .read .now) (start .args .written .now) (start .args .input .now) _ _ _ _ _ _ _ (at-if1 .if1 .left) (at-load .load .ensures) (at-serve .serve .ensures) (at-store .store .ensures) (c .stop-number .ensures)
 
 pub negvask-batch-spec : {M : Type 1} → statement M
 negvask-batch-spec =

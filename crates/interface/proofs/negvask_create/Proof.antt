@@ -29,10 +29,21 @@ enum-told-2 : tie.Need-enum-told-2
 enum-told-2 c = search needs
 
 returns-2 : tie.Need-returns-2
-returns-2 c = effect-bad (c .before .before .before .before .before .before .before .before .before .before .before .before .before .before .args .info .now) _ [] [] [] 0 (no-second _ _ (c .before .before .before .before .before .before .caller-of .ensures) _ _ _ (c .before .before .before .before .caller .given .1) (sym (c .before .before .credential-of .ensures) ∙ (c .enum-told2 .given .1))) .does
+returns-2 c =
+    let at-credential-of = c .before .before in
+    let at-caller = at-credential-of .before .before in
+    let at-caller-of = at-caller .before .before in
+    let start = at-caller-of .before .before .before .before .before .before .before .before in
+    effect-bad (start .args .info .now) _ [] [] [] 0 (no-second _ _ (at-caller-of .caller-of .ensures) _ _ _ (at-caller .caller .given .1) (sym (at-credential-of .credential-of .ensures) ∙ (c .enum-told2 .given .1))) .does
 
 returns-3 : tie.Need-returns-3
-returns-3 c = effect-record (c .before .before .before .before .before .before .before .before .before .before .before .before .before .before .before .before .args .info .now) _ [] [] [] 0 (created _ _ (c .before .before .before .before .before .before .before .before .caller-of .ensures) _ _ _ (c .before .before .before .before .before .before .caller .given .1) (sym (c .before .before .before .before .credential-of .ensures) ∙ (c .before .before .presented .given .1))) (c .if1 .taken) .does
+returns-3 c =
+    let at-presented = c .before .before in
+    let at-credential-of = at-presented .before .before in
+    let at-caller = at-credential-of .before .before in
+    let at-caller-of = at-caller .before .before in
+    let start = at-caller-of .before .before .before .before .before .before .before .before in
+    effect-record (start .args .info .now) _ [] [] [] 0 (created _ _ (at-caller-of .caller-of .ensures) _ _ _ (at-caller .caller .given .1) (sym (at-credential-of .credential-of .ensures) ∙ (at-presented .presented .given .1))) (c .if1 .taken) .does
 
 load-requires : tie.Need-load-requires
 load-requires c κs = search needs
@@ -53,7 +64,17 @@ same-length-3 : tie.Need-same-length-3
 same-length-3 c = c .before .before .before .before .before .before .before .before .before .create .kept .1 .1 .1 .1 .0
 
 returns-4 : tie.Need-returns-4
-returns-4 c = effect-called (c .before .before .before .before .before .before .before .before .before .before .before .before .before .before .before .before .before .before .before .before .before .before .before .before .before .before .before .before .before .before .args .info .now) _ _ _ _ _ _ [] [] [] 0 _ _ _ _ _ _ _ (created _ _ (c .before .before .before .before .before .before .before .before .before .before .before .before .before .before .before .before .before .before .before .before .before .before .caller-of .ensures) _ _ _ (c .before .before .before .before .before .before .before .before .before .before .before .before .before .before .before .before .before .before .before .before .caller .given .1) (sym (c .before .before .before .before .before .before .before .before .before .before .before .before .before .before .before .before .before .before .credential-of .ensures) ∙ (c .before .before .before .before .before .before .before .before .before .before .before .before .before .before .before .before .presented .given .1))) (c .before .before .before .before .before .before .before .before .before .before .before .before .before .before .if1 .left) (c .before .before .before .before .before .before .before .before .before .before .before .before .load .ensures) (c .before .before .before .before .before .before .before .before .before .create .ensures) (c .before .before .settle .ensures .0) (c .before .before .settle .ensures .1 .0) (c .before .before .settle .ensures .1 .1) .does
+returns-4 c =
+    let at-settle = c .before .before in
+    let at-create = at-settle .before .before .before .before .before .before .before in
+    let at-load = at-create .before .before .before in
+    let at-if1 = at-load .before .before in
+    let at-presented = at-if1 .before .before in
+    let at-credential-of = at-presented .before .before in
+    let at-caller = at-credential-of .before .before in
+    let at-caller-of = at-caller .before .before in
+    let start = at-caller-of .before .before .before .before .before .before .before .before in
+    effect-called (start .args .info .now) _ _ _ _ _ _ [] [] [] 0 _ _ _ _ _ _ _ (created _ _ (at-caller-of .caller-of .ensures) _ _ _ (at-caller .caller .given .1) (sym (at-credential-of .credential-of .ensures) ∙ (at-presented .presented .given .1))) (at-if1 .if1 .left) (at-load .load .ensures) (at-create .create .ensures) (at-settle .settle .ensures .0) (at-settle .settle .ensures .1 .0) (at-settle .settle .ensures .1 .1) .does
 
 pub negvask-create-spec : {M : Type 1} → statement M
 negvask-create-spec =

@@ -26,7 +26,13 @@ same-length-2 : tie.Need-same-length-2
 same-length-2 c = c .before .before .before .before .before .before .before .force .kept .1 .1 .1 .1 .1 .0
 
 returns-2 : tie.Need-returns-2
-returns-2 c = effect-called (c .before .before .before .before .before .before .before .before .before .before .before .before .before .before .before .before .before .before .before .args .info .now) _ _ _ _ _ _ [] [] [] 0 _ _ _ _ _ _ _ refl (c .before .before .before .before .before .before .before .before .before .before .before .if1 .left) (c .before .before .before .before .before .before .before .before .before .load .ensures) (c .before .before .before .before .before .before .before .force .ensures Host) (c .before .before .settle .ensures .0) (c .before .before .settle .ensures .1 .0) (c .before .before .settle .ensures .1 .1) .does
+returns-2 c =
+    let at-settle = c .before .before in
+    let at-force = at-settle .before .before .before .before .before in
+    let at-load = at-force .before .before in
+    let at-if1 = at-load .before .before in
+    let start = at-if1 .before .before .before .before .before .before .before .before in
+    effect-called (start .args .info .now) _ _ _ _ _ _ [] [] [] 0 _ _ _ _ _ _ _ refl (at-if1 .if1 .left) (at-load .load .ensures) (at-force .force .ensures Host) (at-settle .settle .ensures .0) (at-settle .settle .ensures .1 .0) (at-settle .settle .ensures .1 .1) .does
 
 pub negvask-force-spec : {M : Type 1} → statement M
 negvask-force-spec =

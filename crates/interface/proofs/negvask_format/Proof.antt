@@ -5,7 +5,9 @@ use Rattle.interface.proofs.negvask_format.Statement.{statement}
 use Rattle.interface.proofs.negvask_format.Tie as tie
 
 returns : tie.Need-returns
-returns c = format-record (c .before .before .before .before .before .before .before .before .args .blocks) (c .before .before .before .before .before .before .before .before .args .roots) (c .before .before .before .before .before .before .before .before .args .bytes) (c .before .before .before .before .before .before .before .before .args .info .now) _ (c .if1 .taken)
+returns c =
+    let start = c .before .before .before .before .before .before .before .before in
+    format-record (start .args .blocks) (start .args .roots) (start .args .bytes) (start .args .info .now) _ (c .if1 .taken)
 
 load-requires : tie.Need-load-requires
 load-requires c κs = search needs
@@ -38,7 +40,13 @@ same-length-7 : tie.Need-same-length-7
 same-length-7 c = c .before .before .before .before .before .before .before .before .before .before .before .before .before .before .before .before .before .format .kept .1 .1 .1 .1 .1 .1 .1 .1 .1 .0
 
 returns-2 : tie.Need-returns-2
-returns-2 c = formatted (c .before .before .before .before .before .before .before .before .before .before .before .before .before .before .before .before .before .before .before .before .before .before .before .before .before .before .before .before .before .before .before .before .before .before .args .blocks) (c .before .before .before .before .before .before .before .before .before .before .before .before .before .before .before .before .before .before .before .before .before .before .before .before .before .before .before .before .before .before .before .before .before .before .args .roots) (c .before .before .before .before .before .before .before .before .before .before .before .before .before .before .before .before .before .before .before .before .before .before .before .before .before .before .before .before .before .before .before .before .before .before .args .bytes) (c .before .before .before .before .before .before .before .before .before .before .before .before .before .before .before .before .before .before .before .before .before .before .before .before .before .before .before .before .before .before .before .before .before .before .args .info .now) _ _ _ _ _ _ _ _ _ _ _ _ _ (c .before .before .before .before .before .before .before .before .before .before .before .before .before .before .before .before .before .before .before .before .before .before .before .before .before .before .if1 .left) (c .before .before .before .before .before .before .before .before .before .before .before .before .before .before .before .before .before .before .before .before .before .before .before .before .load .ensures) (c .before .before .before .before .before .before .before .before .before .before .before .before .before .before .before .before .before .format .ensures) (c .before .before .settle .ensures .0) (c .before .before .settle .ensures .1 .0)
+returns-2 c =
+    let at-settle = c .before .before in
+    let at-format = at-settle .before .before .before .before .before .before .before .before .before .before .before .before .before .before .before in
+    let at-load = at-format .before .before .before .before .before .before .before in
+    let at-if1 = at-load .before .before in
+    let start = at-if1 .before .before .before .before .before .before .before .before in
+    formatted (start .args .blocks) (start .args .roots) (start .args .bytes) (start .args .info .now) _ _ _ _ _ _ _ _ _ _ _ _ _ (at-if1 .if1 .left) (at-load .load .ensures) (at-format .format .ensures) (at-settle .settle .ensures .0) (at-settle .settle .ensures .1 .0)
 
 pub negvask-format-spec : {M : Type 1} → statement M
 negvask-format-spec =

@@ -8,7 +8,9 @@ use Rattle.interface.proofs.negvask_free.Statement.{statement}
 use Rattle.interface.proofs.negvask_free.Tie as tie
 
 returns : tie.Need-returns
-returns c = effect-record (c .before .before .before .before .before .before .before .before .args .info .now) _ [] [] [] (c .before .before .before .before .before .before .before .before .args .value .now) refl (c .if1 .taken)
+returns c =
+    let start = c .before .before .before .before .before .before .before .before in
+    effect-record (start .args .info .now) _ [] [] [] (start .args .value .now) refl (c .if1 .taken)
 
 load-requires : tie.Need-load-requires
 load-requires c κs = search needs
@@ -20,7 +22,12 @@ report-requires : tie.Need-report-requires
 report-requires c κs = tt
 
 returns-2 : tie.Need-returns-2
-returns-2 c = effect-kept (c .before .before .before .before .before .before .before .before .before .before .before .before .args .info .now) _ _ _ _ _ _ (c .before .before .before .before .before .before .before .before .before .before .before .before .args .value .now) _ (free-changes-nothing _ _) (c .before .before .before .before .if1 .left) (c .before .before .before .load .ensures) (c .before .before .free .ensures Host) (c .report .ensures .0) (c .report .ensures .1)
+returns-2 c =
+    let at-free = c .before .before in
+    let at-load = at-free .before in
+    let at-if1 = at-load .before in
+    let start = at-if1 .before .before .before .before .before .before .before .before in
+    effect-kept (start .args .info .now) _ _ _ _ _ _ (start .args .value .now) _ (free-changes-nothing _ _) (at-if1 .if1 .left) (at-load .load .ensures) (at-free .free .ensures Host) (c .report .ensures .0) (c .report .ensures .1)
 
 pub negvask-free-spec : {M : Type 1} → statement M
 negvask-free-spec =

@@ -36,10 +36,25 @@ enum-told-2 : tie.Need-enum-told-2
 enum-told-2 c = search needs
 
 returns-2 : tie.Need-returns-2
-returns-2 c = effect-bad (c .before .before .before .before .before .before .before .before .before .before .before .before .before .before .before .before .args .info .now) _ [] [] [] 0 (no-keys _ _ (c .before .before .before .before .before .before .before .before .caller-of .ensures) _ _ _ (c .before .before .before .before .before .before .caller .given .1) ((c .before .before .keying-of .ensures) ∙ (λ k. keyingOf (c .before .before .before .before .before .before .before .before .before .before .before .before .before .before .before .before .args .block) (c .before .before .before .before .before .before .caller .given .0 .1 .0) (c .before .before .before .before .new-key-of .ensures k) (c .before .before .before .new-key-of2 .ensures k))) (c .enum-told2 .given .1)) .does
+returns-2 c =
+    let at-keying-of = c .before .before in
+    let at-new-key-of2 = at-keying-of .before in
+    let at-new-key-of = at-new-key-of2 .before in
+    let at-caller = at-new-key-of .before .before in
+    let at-caller-of = at-caller .before .before in
+    let start = at-caller-of .before .before .before .before .before .before .before .before in
+    effect-bad (start .args .info .now) _ [] [] [] 0 (no-keys _ _ (at-caller-of .caller-of .ensures) _ _ _ (at-caller .caller .given .1) ((at-keying-of .keying-of .ensures) ∙ (λ k. keyingOf (start .args .block) (at-caller .caller .given .0 .1 .0) (at-new-key-of .new-key-of .ensures k) (at-new-key-of2 .new-key-of2 .ensures k))) (c .enum-told2 .given .1)) .does
 
 returns-3 : tie.Need-returns-3
-returns-3 c = effect-record (c .before .before .before .before .before .before .before .before .before .before .before .before .before .before .before .before .before .before .args .info .now) _ [] [] [] 0 (keyed _ _ (c .before .before .before .before .before .before .before .before .before .before .caller-of .ensures) _ _ _ (c .before .before .before .before .before .before .before .before .caller .given .1) ((c .before .before .before .before .keying-of .ensures) ∙ (λ k. keyingOf (c .before .before .before .before .before .before .before .before .before .before .before .before .before .before .before .before .before .before .args .block) (c .before .before .before .before .before .before .before .before .caller .given .0 .1 .0) (c .before .before .before .before .before .before .new-key-of .ensures k) (c .before .before .before .before .before .new-key-of2 .ensures k))) (c .before .before .keying .given .1)) (c .if1 .taken) .does
+returns-3 c =
+    let at-keying = c .before .before in
+    let at-keying-of = at-keying .before .before in
+    let at-new-key-of2 = at-keying-of .before in
+    let at-new-key-of = at-new-key-of2 .before in
+    let at-caller = at-new-key-of .before .before in
+    let at-caller-of = at-caller .before .before in
+    let start = at-caller-of .before .before .before .before .before .before .before .before in
+    effect-record (start .args .info .now) _ [] [] [] 0 (keyed _ _ (at-caller-of .caller-of .ensures) _ _ _ (at-caller .caller .given .1) ((at-keying-of .keying-of .ensures) ∙ (λ k. keyingOf (start .args .block) (at-caller .caller .given .0 .1 .0) (at-new-key-of .new-key-of .ensures k) (at-new-key-of2 .new-key-of2 .ensures k))) (at-keying .keying .given .1)) (c .if1 .taken) .does
 
 load-requires : tie.Need-load-requires
 load-requires c κs = search needs
@@ -63,7 +78,19 @@ same-length-4 : tie.Need-same-length-4
 same-length-4 c = c .before .before .before .before .before .before .before .before .before .before .before .key .kept .1 .1 .1 .1 .1 .0
 
 returns-4 : tie.Need-returns-4
-returns-4 c = effect-called (c .before .before .before .before .before .before .before .before .before .before .before .before .before .before .before .before .before .before .before .before .before .before .before .before .before .before .before .before .before .before .before .before .before .before .before .args .info .now) _ _ _ _ _ _ [] [] [] 0 _ _ _ _ _ _ _ (keyed _ _ (c .before .before .before .before .before .before .before .before .before .before .before .before .before .before .before .before .before .before .before .before .before .before .before .before .before .before .before .caller-of .ensures) _ _ _ (c .before .before .before .before .before .before .before .before .before .before .before .before .before .before .before .before .before .before .before .before .before .before .before .before .before .caller .given .1) ((c .before .before .before .before .before .before .before .before .before .before .before .before .before .before .before .before .before .before .before .before .before .keying-of .ensures) ∙ (λ k. keyingOf (c .before .before .before .before .before .before .before .before .before .before .before .before .before .before .before .before .before .before .before .before .before .before .before .before .before .before .before .before .before .before .before .before .before .before .before .args .block) (c .before .before .before .before .before .before .before .before .before .before .before .before .before .before .before .before .before .before .before .before .before .before .before .before .before .caller .given .0 .1 .0) (c .before .before .before .before .before .before .before .before .before .before .before .before .before .before .before .before .before .before .before .before .before .before .before .new-key-of .ensures k) (c .before .before .before .before .before .before .before .before .before .before .before .before .before .before .before .before .before .before .before .before .before .before .new-key-of2 .ensures k))) (c .before .before .before .before .before .before .before .before .before .before .before .before .before .before .before .before .before .before .before .keying .given .1)) (c .before .before .before .before .before .before .before .before .before .before .before .before .before .before .before .before .before .if1 .left) (c .before .before .before .before .before .before .before .before .before .before .before .before .before .before .before .load .ensures) (c .before .before .before .before .before .before .before .before .before .before .before .key .ensures) (c .before .before .settle .ensures .0) (c .before .before .settle .ensures .1 .0) (c .before .before .settle .ensures .1 .1) .does
+returns-4 c =
+    let at-settle = c .before .before in
+    let at-key = at-settle .before .before .before .before .before .before .before .before .before in
+    let at-load = at-key .before .before .before .before in
+    let at-if1 = at-load .before .before in
+    let at-keying = at-if1 .before .before in
+    let at-keying-of = at-keying .before .before in
+    let at-new-key-of2 = at-keying-of .before in
+    let at-new-key-of = at-new-key-of2 .before in
+    let at-caller = at-new-key-of .before .before in
+    let at-caller-of = at-caller .before .before in
+    let start = at-caller-of .before .before .before .before .before .before .before .before in
+    effect-called (start .args .info .now) _ _ _ _ _ _ [] [] [] 0 _ _ _ _ _ _ _ (keyed _ _ (at-caller-of .caller-of .ensures) _ _ _ (at-caller .caller .given .1) ((at-keying-of .keying-of .ensures) ∙ (λ k. keyingOf (start .args .block) (at-caller .caller .given .0 .1 .0) (at-new-key-of .new-key-of .ensures k) (at-new-key-of2 .new-key-of2 .ensures k))) (at-keying .keying .given .1)) (at-if1 .if1 .left) (at-load .load .ensures) (at-key .key .ensures) (at-settle .settle .ensures .0) (at-settle .settle .ensures .1 .0) (at-settle .settle .ensures .1 .1) .does
 
 pub negvask-key-spec : {M : Type 1} → statement M
 negvask-key-spec =

@@ -16,10 +16,17 @@ enum-told : tie.Need-enum-told
 enum-told c = search needs
 
 returns : tie.Need-returns
-returns c = effect-bad (c .before .before .before .before .before .before .before .before .before .before .before .args .info .now) _ [] (c .before .before .before .before .before .before .before .before .before .before .before .args .out .now) [] 0 (not-called _ _ (c .before .before .caller-of .ensures) _ (c .enum-told .given .1)) .does
+returns c =
+    let at-caller-of = c .before .before in
+    let start = at-caller-of .before .before .before .before .before .before .before .before .before in
+    effect-bad (start .args .info .now) _ [] (start .args .out .now) [] 0 (not-called _ _ (at-caller-of .caller-of .ensures) _ (c .enum-told .given .1)) .does
 
 returns-2 : tie.Need-returns-2
-returns-2 c = effect-record (c .before .before .before .before .before .before .before .before .before .before .before .before .before .args .info .now) _ [] (c .before .before .before .before .before .before .before .before .before .before .before .before .before .args .out .now) [] 0 (called _ _ (c .before .before .before .before .caller-of .ensures) _ (c .before .before .caller .given .1)) (c .if1 .taken) .does
+returns-2 c =
+    let at-caller = c .before .before in
+    let at-caller-of = at-caller .before .before in
+    let start = at-caller-of .before .before .before .before .before .before .before .before .before in
+    effect-record (start .args .info .now) _ [] (start .args .out .now) [] 0 (called _ _ (at-caller-of .caller-of .ensures) _ (at-caller .caller .given .1)) (c .if1 .taken) .does
 
 load-requires : tie.Need-load-requires
 load-requires c κs = search needs
@@ -40,7 +47,15 @@ same-length-3 : tie.Need-same-length-3
 same-length-3 c = c .before .before .before .before .before .before .before .before .before .read .kept .1 .1 .1 .1 .1 .1 .1 .1 .1 .0
 
 returns-3 : tie.Need-returns-3
-returns-3 c = effect-called (c .before .before .before .before .before .before .before .before .before .before .before .before .before .before .before .before .before .before .before .before .before .before .before .before .before .before .before .args .info .now) _ _ _ _ _ _ [] (c .before .before .before .before .before .before .before .before .before .before .before .before .before .before .before .before .before .before .before .before .before .before .before .before .before .before .before .args .out .now) [] 0 _ _ _ _ _ _ _ (called _ _ (c .before .before .before .before .before .before .before .before .before .before .before .before .before .before .before .before .before .before .caller-of .ensures) _ (c .before .before .before .before .before .before .before .before .before .before .before .before .before .before .before .before .caller .given .1)) (c .before .before .before .before .before .before .before .before .before .before .before .before .before .before .if1 .left) (c .before .before .before .before .before .before .before .before .before .before .before .before .load .ensures) (c .before .before .before .before .before .before .before .before .before .read .ensures) (c .before .before .settle .ensures .0) (c .before .before .settle .ensures .1 .0) (c .before .before .settle .ensures .1 .1) .does
+returns-3 c =
+    let at-settle = c .before .before in
+    let at-read = at-settle .before .before .before .before .before .before .before in
+    let at-load = at-read .before .before .before in
+    let at-if1 = at-load .before .before in
+    let at-caller = at-if1 .before .before in
+    let at-caller-of = at-caller .before .before in
+    let start = at-caller-of .before .before .before .before .before .before .before .before .before in
+    effect-called (start .args .info .now) _ _ _ _ _ _ [] (start .args .out .now) [] 0 _ _ _ _ _ _ _ (called _ _ (at-caller-of .caller-of .ensures) _ (at-caller .caller .given .1)) (at-if1 .if1 .left) (at-load .load .ensures) (at-read .read .ensures) (at-settle .settle .ensures .0) (at-settle .settle .ensures .1 .0) (at-settle .settle .ensures .1 .1) .does
 
 pub negvask-read-spec : {M : Type 1} → statement M
 negvask-read-spec =

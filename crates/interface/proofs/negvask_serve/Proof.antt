@@ -24,7 +24,12 @@ part-perform-start : tie.Need-part-perform-start
 part-perform-start c = search needs
 
 part-perform-end : tie.Need-part-perform-end
-part-perform-end c = bound (c .before .before .before .before .before .before .before .before .before .before .before .before .before .before .before .before .before .before .before .before .args .kind) (c .before .before .before .before .before .before .before .before .before .before .before .before .before .before .before .before .before .before .before .before .args .body .now) (c .before .before .before .before .before .before .before .before .before .decode .ensures) (c .before .before .before .before .before .before .before .before .data-size .ensures) (c .before .before .before .before .before .before .before .data-from .ensures)
+part-perform-end c =
+    let at-data-from = c .before .before .before .before .before .before .before in
+    let at-data-size = at-data-from .before in
+    let at-decode = at-data-size .before in
+    let start = at-decode .before .before .before .before .before .before .before .before .before .before .before in
+    bound (start .args .kind) (start .args .body .now) (at-decode .decode .ensures) (at-data-size .data-size .ensures) (at-data-from .data-from .ensures)
 
 perform-requires : tie.Need-perform-requires
 perform-requires c κs = tt
@@ -57,7 +62,13 @@ same-length-9 : tie.Need-same-length-9
 same-length-9 c = c .before .before .before .before .before .before .before .before .before .before .before .before .before .before .before .before .before .before .perform .kept .1 .1 .1 .1 .1 .1 .1 .1 .1 .1 .0
 
 returns : tie.Need-returns
-returns c = of-record (c .before .before .before .before .before .before .before .before .before .before .before .before .before .before .before .before .before .before .before .before .before .before .before .before .before .before .before .before .before .before .before .before .before .before .before .before .before .before .before .before .before .before .before .args .kind) (c .before .before .before .before .before .before .before .before .before .before .before .before .before .before .before .before .before .before .before .before .before .before .before .before .before .before .before .before .before .before .before .before .before .before .before .before .before .before .before .before .before .before .before .args .body .now) (c .before .before .before .before .before .before .before .before .before .before .before .before .before .before .before .before .before .before .before .before .before .before .before .before .before .before .before .before .before .before .before .before .before .before .before .before .before .before .before .before .before .before .before .args .info .now) _ (c .before .before .before .before .before .before .before .before .before .before .before .before .before .before .before .before .before .before .before .before .before .before .before .before .before .before .before .before .before .before .before .before .before .before .before .before .before .before .before .before .before .before .before .args .out .now) (c .before .before .before .before .before .before .before .before .before .before .before .before .before .before .before .before .before .before .before .before .before .before .before .before .before .before .before .before .before .before .before .before .before .before .before .before .before .before .before .before .before .before .before .args .places .now) (c .before .before .before .before .before .before .before .before .before .before .before .before .before .before .before .before .before .before .before .before .before .before .before .before .before .before .before .before .before .before .before .before .before .before .before .before .before .before .before .before .before .before .before .args .value .now) (c .before .before .before .before .before .before .before .before .before .before .before .before .before .before .before .before .before .before .before .before .before .before .before .before .before .before .before .before .before .before .before .before .decode .ensures) (c .before .before .before .before .before .before .before .before .before .before .before .before .before .before .before .before .before .before .before .before .before .before .before .before .before .before .before .before .before .before .before .data-size .ensures) (c .before .before .before .before .before .before .before .before .before .before .before .before .before .before .before .before .before .before .before .before .before .before .before .before .before .before .before .before .before .before .data-from .ensures) (c .before .before .before .before .before .before .before .before .before .before .before .before .before .before .before .before .before .before .perform .ensures)
+returns c =
+    let at-perform = c .before .before .before .before .before .before .before .before .before .before .before .before .before .before .before .before .before .before in
+    let at-data-from = at-perform .before .before .before .before .before .before .before .before .before .before .before .before in
+    let at-data-size = at-data-from .before in
+    let at-decode = at-data-size .before in
+    let start = at-decode .before .before .before .before .before .before .before .before .before .before .before in
+    of-record (start .args .kind) (start .args .body .now) (start .args .info .now) _ (start .args .out .now) (start .args .places .now) (start .args .value .now) (at-decode .decode .ensures) (at-data-size .data-size .ensures) (at-data-from .data-from .ensures) (at-perform .perform .ensures)
 
 pub negvask-serve-spec : {M : Type 1} → statement M
 negvask-serve-spec =

@@ -36,7 +36,11 @@ same-length c = search needs
 
 returns-2 : tie.Need-returns-2
 unfolding performSound plan forcePlan outAfter placesAfter
-returns-2 c = λ port. finishes _ _ _ (c .done .ensures) (missing-told _ _ (c .before .before .before .before .before .before .missing .ensures) (c .before .before .before .before .before .if1 .left), tt) (closed _ _ (c .before .before .before .close-windows .ensures)) refl refl
+returns-2 c =
+    let at-close-windows = c .before .before .before in
+    let at-if1 = at-close-windows .before .before in
+    let at-missing = at-if1 .before in
+    λ port. finishes _ _ _ (c .done .ensures) (missing-told _ _ (at-missing .missing .ensures) (at-if1 .if1 .left), tt) (closed _ _ (at-close-windows .close-windows .ensures)) refl refl
 
 pub force-sound-spec : {M : Type 1} → statement M
 force-sound-spec =

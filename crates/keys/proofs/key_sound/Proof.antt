@@ -45,7 +45,11 @@ unfolding performSound plan keyPlan
 returns-2 c = refuses _ _ _ (c .refused2 .ensures) (later (missing-told _ _ (c .before .before .before .before .missing .ensures) (c .before .before .before .if1 .left)) (here (root-told _ _ _ (c .before .before .root-at-host .ensures) (c .before .if2 .taken))))
 
 admits-requires : tie.Need-admits-requires
-admits-requires c κs = access-there _ (c .before .before .before .before .before .before .before .before .before .before .before .before .before .before .before .pre) (c .before .before .before .before .before .before .missing .ensures) (c .before .before .before .before .before .if1 .left)
+admits-requires c κs =
+    let at-if1 = c .before .before .before .before .before in
+    let at-missing = at-if1 .before in
+    let at-pre = at-missing .before .before .before .before .before .before .before .before .before in
+    access-there _ (at-pre .pre) (at-missing .missing .ensures) (at-if1 .if1 .left)
 
 refused-requires-3 : tie.Need-refused-requires-3
 refused-requires-3 c κs = search needs
@@ -61,7 +65,13 @@ same-length-5 c = search needs
 
 returns-3 : tie.Need-returns-3
 unfolding performSound plan keyPlan
-returns-3 c = refuses _ _ _ (c .refused3 .ensures) (later (missing-told _ _ (c .before .before .before .before .before .before .before .before .before .missing .ensures) (c .before .before .before .before .before .before .before .before .if1 .left)) (later (root-told _ _ _ (c .before .before .before .before .before .before .before .root-at-host .ensures) (c .before .before .before .before .before .before .if2 .left)) (here (closed-told _ _ _ _ _ (c .before .before .admits .ensures) (c .before .if3 .taken)))))
+returns-3 c =
+    let at-admits = c .before .before in
+    let at-if2 = at-admits .before .before .before .before in
+    let at-root-at-host = at-if2 .before in
+    let at-if1 = at-root-at-host .before in
+    let at-missing = at-if1 .before in
+    refuses _ _ _ (c .refused3 .ensures) (later (missing-told _ _ (at-missing .missing .ensures) (at-if1 .if1 .left)) (later (root-told _ _ _ (at-root-at-host .root-at-host .ensures) (at-if2 .if2 .left)) (here (closed-told _ _ _ _ _ (at-admits .admits .ensures) (c .before .if3 .taken)))))
 
 key-bit-requires : tie.Need-key-bit-requires
 key-bit-requires c κs = search needs
@@ -76,13 +86,25 @@ add-flags-2 : tie.Need-add-flags-2
 add-flags-2 c = omega (arith, c .before .key-bit .ensures, c .key-bit2 .ensures, bit-low Reading (c .before .before .before .before .before .before .before .before .before .before .before .before .before .before .before .before .before .before .before .args .o .read), bit-low Writing (c .before .before .before .before .before .before .before .before .before .before .before .before .before .before .before .before .before .before .before .args .o .write))
 
 slice-write-flags : tie.Need-slice-write-flags
-slice-write-flags c = flag-there _ (c .before .before .before .before .before .before .before .before .before .before .before .before .before .before .before .before .before .before .before .pre) (c .before .before .before .before .before .before .before .before .before .before .missing .ensures) (c .before .before .before .before .before .before .before .before .before .if1 .left)
+slice-write-flags c =
+    let at-if1 = c .before .before .before .before .before .before .before .before .before in
+    let at-missing = at-if1 .before in
+    let at-pre = at-missing .before .before .before .before .before .before .before .before .before in
+    flag-there _ (at-pre .pre) (at-missing .missing .ensures) (at-if1 .if1 .left)
 
 replace-keys-requires : tie.Need-replace-keys-requires
-replace-keys-requires c κs = keys-there _ (c .before .before .before .before .before .before .before .before .before .before .before .before .before .before .before .before .before .before .before .before .pre) (c .before .before .before .before .before .before .before .before .before .before .before .missing .ensures) (c .before .before .before .before .before .before .before .before .before .before .if1 .left)
+replace-keys-requires c κs =
+    let at-if1 = c .before .before .before .before .before .before .before .before .before .before in
+    let at-missing = at-if1 .before in
+    let at-pre = at-missing .before .before .before .before .before .before .before .before .before in
+    keys-there _ (at-pre .pre) (at-missing .missing .ensures) (at-if1 .if1 .left)
 
 close-windows-requires : tie.Need-close-windows-requires
-close-windows-requires c κs = windows-there _ (c .before .before .before .before .before .before .before .before .before .before .before .before .before .before .before .before .before .before .before .before .before .before .before .before .pre) (c .before .before .before .before .before .before .before .before .before .before .before .before .before .before .before .missing .ensures) (c .before .before .before .before .before .before .before .before .before .before .before .before .before .before .if1 .left)
+close-windows-requires c κs =
+    let at-if1 = c .before .before .before .before .before .before .before .before .before .before .before .before .before .before in
+    let at-missing = at-if1 .before in
+    let at-pre = at-missing .before .before .before .before .before .before .before .before .before in
+    windows-there _ (at-pre .pre) (at-missing .missing .ensures) (at-if1 .if1 .left)
 
 done-requires : tie.Need-done-requires
 done-requires c κs = search needs
@@ -98,7 +120,18 @@ same-length-8 c = search needs
 
 returns-4 : tie.Need-returns-4
 unfolding performSound plan keyPlan outAfter placesAfter
-returns-4 c = finishes _ _ _ (c .done .ensures) (missing-told _ _ (c .before .before .before .before .before .before .before .before .before .before .before .before .before .before .before .before .before .before .before .missing .ensures) (c .before .before .before .before .before .before .before .before .before .before .before .before .before .before .before .before .before .before .if1 .left), (root-told _ _ _ (c .before .before .before .before .before .before .before .before .before .before .before .before .before .before .before .before .before .root-at-host .ensures) (c .before .before .before .before .before .before .before .before .before .before .before .before .before .before .before .before .if2 .left), (closed-told _ _ _ _ _ (c .before .before .before .before .before .before .before .before .before .before .before .before .admits .ensures) (c .before .before .before .before .before .before .before .before .before .before .before .if3 .left), tt))) (keyed _ _ _ _ (c .before .before .before .before .before .before .before .before .before .before .key-bit .ensures) (c .before .before .before .before .before .before .before .before .before .key-bit2 .ensures) (c .before .before .before .before .before .before .before .replace-keys .ensures) (c .before .before .before .close-windows .ensures)) refl refl
+returns-4 c =
+    let at-close-windows = c .before .before .before in
+    let at-replace-keys = at-close-windows .before .before .before .before in
+    let at-key-bit2 = at-replace-keys .before .before in
+    let at-key-bit = at-key-bit2 .before in
+    let at-if3 = at-key-bit .before in
+    let at-admits = at-if3 .before in
+    let at-if2 = at-admits .before .before .before .before in
+    let at-root-at-host = at-if2 .before in
+    let at-if1 = at-root-at-host .before in
+    let at-missing = at-if1 .before in
+    finishes _ _ _ (c .done .ensures) (missing-told _ _ (at-missing .missing .ensures) (at-if1 .if1 .left), (root-told _ _ _ (at-root-at-host .root-at-host .ensures) (at-if2 .if2 .left), (closed-told _ _ _ _ _ (at-admits .admits .ensures) (at-if3 .if3 .left), tt))) (keyed _ _ _ _ (at-key-bit .key-bit .ensures) (at-key-bit2 .key-bit2 .ensures) (at-replace-keys .replace-keys .ensures) (at-close-windows .close-windows .ensures)) refl refl
 
 pub key-sound-spec : {M : Type 1} → statement M
 key-sound-spec =

@@ -48,7 +48,13 @@ same-length c = search needs
 
 returns-3 : tie.Need-returns-3
 unfolding performSound plan renewPlan
-returns-3 c = λ port. refuses _ _ _ (c .refused3 .ensures) (later (c .before .before .before .before .before .before .before .if1 .left) (later (missing-told _ _ (c .before .before .before .before .before .before .missing .ensures) (c .before .before .before .before .before .if2 .left)) (here (unopened-holds _ _ _ _ _ (c .before .before .before .before .mode-of .ensures) (c .before .before .opens .ensures) (c .before .if3 .taken)))))
+returns-3 c =
+    let at-opens = c .before .before in
+    let at-mode-of = at-opens .before .before in
+    let at-if2 = at-mode-of .before in
+    let at-missing = at-if2 .before in
+    let at-if1 = at-missing .before in
+    λ port. refuses _ _ _ (c .refused3 .ensures) (later (at-if1 .if1 .left) (later (missing-told _ _ (at-missing .missing .ensures) (at-if2 .if2 .left)) (here (unopened-holds _ _ _ _ _ (at-mode-of .mode-of .ensures) (at-opens .opens .ensures) (c .before .if3 .taken)))))
 
 cast-set-window : tie.Need-cast-set-window
 cast-set-window c = search needs
@@ -57,7 +63,11 @@ add-set-window : tie.Need-add-set-window
 add-set-window c = omega (arith, c .before .before .before .before .before .before .before .before .before .before .before .before .before .before .before .before .before .before .before .before .pre .shaped .timeHigh)
 
 set-window-requires : tie.Need-set-window-requires
-set-window-requires c κs = windows-low _ (c .before .before .before .before .before .before .before .before .before .before .before .before .before .before .before .before .before .before .before .before .pre) (c .before .before .before .before .before .before .before .before .missing .ensures) (c .before .before .before .before .before .before .before .if2 .left) .1
+set-window-requires c κs =
+    let at-if2 = c .before .before .before .before .before .before .before in
+    let at-missing = at-if2 .before in
+    let at-pre = at-missing .before .before .before .before .before .before .before .before .before .before .before .before in
+    windows-low _ (at-pre .pre) (at-missing .missing .ensures) (at-if2 .if2 .left) .1
 
 done-requires : tie.Need-done-requires
 done-requires c κs = search needs
@@ -67,7 +77,15 @@ same-length-2 c = search needs
 
 returns-4 : tie.Need-returns-4
 unfolding performSound plan renewPlan outAfter placesAfter
-returns-4 c = λ port. finishes _ _ _ (c .done .ensures) (c .before .before .before .before .before .before .before .before .before .before .before .before .before .if1 .left, (missing-told _ _ (c .before .before .before .before .before .before .before .before .before .before .before .before .missing .ensures) (c .before .before .before .before .before .before .before .before .before .before .before .if2 .left), (unopened-fails _ _ _ _ _ (c .before .before .before .before .before .before .before .before .before .before .mode-of .ensures) (c .before .before .before .before .before .before .before .before .opens .ensures) (c .before .before .before .before .before .before .before .if3 .left), tt))) (renewed _ _ _ _ (c .before .before .before .before .before .before .before .before .before .before .mode-of .ensures) (c .before .before .before .set-window .ensures)) refl refl
+returns-4 c =
+    let at-set-window = c .before .before .before in
+    let at-if3 = at-set-window .before .before .before .before in
+    let at-opens = at-if3 .before in
+    let at-mode-of = at-opens .before .before in
+    let at-if2 = at-mode-of .before in
+    let at-missing = at-if2 .before in
+    let at-if1 = at-missing .before in
+    λ port. finishes _ _ _ (c .done .ensures) (at-if1 .if1 .left, (missing-told _ _ (at-missing .missing .ensures) (at-if2 .if2 .left), (unopened-fails _ _ _ _ _ (at-mode-of .mode-of .ensures) (at-opens .opens .ensures) (at-if3 .if3 .left), tt))) (renewed _ _ _ _ (at-mode-of .mode-of .ensures) (at-set-window .set-window .ensures)) refl refl
 
 pub renew-sound-spec : {M : Type 1} → statement M
 renew-sound-spec =

@@ -59,7 +59,11 @@ same-length : tie.Need-same-length
 same-length c = search needs
 
 returns : tie.Need-returns
-returns c = let a = c .before .before .before .before .before .args in keys-replaced (a .keys .now) (a .block) (a .read) (a .write) (c .before .before .before .before .before .pre) (c .before .before .before .high-word .ensures) (c .before .before .low-word .ensures) (c .before .high-word2 .ensures) (c .low-word2 .ensures)
+returns c =
+    let at-low-word = c .before .before in
+    let at-high-word = at-low-word .before in
+    let start = at-high-word .before .before in
+    let a = start .args in keys-replaced (a .keys .now) (a .block) (a .read) (a .write) (start .pre) (at-high-word .high-word .ensures) (at-low-word .low-word .ensures) (c .before .high-word2 .ensures) (c .low-word2 .ensures)
 
 pub replace-keys-spec : {M : Type 1} → statement M
 replace-keys-spec =

@@ -55,24 +55,39 @@ same-length c = search needs
 
 returns : tie.Need-returns
 returns c =
-    answered-refused (c .before .before .before .before .before .before .before .before .before .before .before .args .call) (c .before .before .before .before .before .before .before .before .before .before .before .args .answer) (c .before .before .before .before .before .before .before .before .before .before .before .args .out .now) (c .before .before .before .before .before .before .before .before .before .before .before .args .places .now) _ (c .before .before .before .before .before .before .answer .given .1) (c .before .before .before .refusal-number .ensures)
-    (c .before .before .put-spaced .ensures)
+    let at-put-spaced = c .before .before in
+    let at-refusal-number = at-put-spaced .before in
+    let at-answer = at-refusal-number .before .before .before in
+    let start = at-answer .before .before .before .before .before in
+    answered-refused (start .args .call) (start .args .answer) (start .args .out .now) (start .args .places .now) _ (at-answer .answer .given .1) (at-refusal-number .refusal-number .ensures)
+    (at-put-spaced .put-spaced .ensures)
 
 same-length-2 : tie.Need-same-length-2
 same-length-2 c = search needs
 
 returns-2 : tie.Need-returns-2
 returns-2 c =
-    answered-done (c .before .before .before .before .before .before .before .before .before .before .before .before .before .before .args .call) (c .before .before .before .before .before .before .before .before .before .before .before .before .before .before .args .answer) (c .before .before .before .before .before .before .before .before .before .before .before .before .before .before .args .out .now) (c .before .before .before .before .before .before .before .before .before .before .before .before .before .before .args .places .now) (c .before .before .before .before .before .before .before .before .before .before .before .before .before .before .pre .0) (c .before .before .before .before .before .before .before .before .before .enum-told .given .1) (c .before .before .before .shown-by .ensures)
-    (c .before .before .before .before .before .before .before .before .before .before .before .before .before .before .pre .1) (c .before .before .before .before .before .before .before .put-spaced2 .ensures) (c .before .before .put-shown .ensures)
+    let at-put-shown = c .before .before in
+    let at-shown-by = at-put-shown .before in
+    let at-put-spaced2 = at-shown-by .before .before .before .before in
+    let at-enum-told = at-put-spaced2 .before .before in
+    let start = at-enum-told .before .before .before .before .before in
+    answered-done (start .args .call) (start .args .answer) (start .args .out .now) (start .args .places .now) (start .pre .0) (at-enum-told .enum-told .given .1) (at-shown-by .shown-by .ensures)
+    (start .pre .1) (at-put-spaced2 .put-spaced2 .ensures) (at-put-shown .put-shown .ensures)
 
 same-length-3 : tie.Need-same-length-3
 same-length-3 c = search needs
 
 returns-3 : tie.Need-returns-3
 returns-3 c =
-    answered-value (c .before .before .before .before .before .before .before .before .before .before .before .before .before .before .before .before .before .before .before .args .call) (c .before .before .before .before .before .before .before .before .before .before .before .before .before .before .before .before .before .before .before .args .answer) (c .before .before .before .before .before .before .before .before .before .before .before .before .before .before .before .before .before .before .before .args .out .now) (c .before .before .before .before .before .before .before .before .before .before .before .before .before .before .before .before .before .before .before .args .places .now) (c .before .before .before .before .before .before .before .before .before .before .before .before .before .before .before .before .before .before .before .pre .0) (c .before .before .before .before .before .before .before .before .before .before .before .before .before .before .answer2 .given .1) (c .before .before .before .shown-by2 .ensures)
-    (c .before .before .before .before .before .before .before .before .before .before .before .before .before .before .before .before .before .before .before .pre .1) (c .before .before .before .before .before .before .before .before .before .before .before .put-spaced3 .ensures) (c .before .before .before .before .before .before .before .put-spaced4 .ensures) (c .before .before .put-shown2 .ensures)
+    let at-put-shown2 = c .before .before in
+    let at-shown-by2 = at-put-shown2 .before in
+    let at-put-spaced4 = at-shown-by2 .before .before .before .before in
+    let at-put-spaced3 = at-put-spaced4 .before .before .before .before in
+    let at-answer2 = at-put-spaced3 .before .before .before in
+    let start = at-answer2 .before .before .before .before .before in
+    answered-value (start .args .call) (start .args .answer) (start .args .out .now) (start .args .places .now) (start .pre .0) (at-answer2 .answer2 .given .1) (at-shown-by2 .shown-by2 .ensures)
+    (start .pre .1) (at-put-spaced3 .put-spaced3 .ensures) (at-put-spaced4 .put-spaced4 .ensures) (at-put-shown2 .put-shown2 .ensures)
 
 pub put-answer-spec : {M : Type 1} → statement M
 put-answer-spec =

@@ -33,8 +33,13 @@ loop-less c = search needs
 
 loop-again : tie.Need-loop-again Inv-loop μ-loop
 loop-again c =
-    spacing-more (c .before .before .before .before .before .before .before .before .before .before .args .values .now) (c .before .before .before .before .before .before .before .before .before .before .args .to .now) (c .before .before .before .before .before .before .before .before .before .before .args .at) (c .before .before .before .before .before .before .before .loop .inv) (c .before .before .before .before .before .before .loop-test .taken)
-    (c .before .before .before .of-byte .ensures) (c .before .before .put-spaced .ensures)
+    let at-put-spaced = c .before .before in
+    let at-of-byte = at-put-spaced .before in
+    let at-loop-test = at-of-byte .before .before .before in
+    let at-loop = at-loop-test .before in
+    let start = at-loop .before .before .before in
+    spacing-more (start .args .values .now) (start .args .to .now) (start .args .at) (at-loop .loop .inv) (at-loop-test .loop-test .taken)
+    (at-of-byte .of-byte .ensures) (at-put-spaced .put-spaced .ensures)
 
 same-length : tie.Need-same-length Inv-loop μ-loop
 same-length c = c .before .loop .inv .kept

@@ -34,8 +34,13 @@ same-length c = search needs
 
 returns : tie.Need-returns
 returns c =
-    last-line-written (c .before .before .before .before .before .before .before .before .before .before .before .before .before .before .before .before .before .before .args .records) (c .before .before .before .before .before .before .before .before .before .before .before .before .before .before .before .before .before .before .args .number) (c .before .before .before .before .before .before .before .before .before .before .before .before .before .before .before .before .before .before .pre)
-    (c .before .before .before .before .before .before .before .before .before .before .before .before .before .before .put-text .ensures) (c .before .before .before .before .before .before .before .before .before .before .put-spaced .ensures) (c .before .before .before .before .before .before .put-spaced2 .ensures) (c .before .before .put-byte .ensures)
+    let at-put-byte = c .before .before in
+    let at-put-spaced2 = at-put-byte .before .before .before .before in
+    let at-put-spaced = at-put-spaced2 .before .before .before .before in
+    let at-put-text = at-put-spaced .before .before .before .before in
+    let start = at-put-text .before .before .before .before in
+    last-line-written (start .args .records) (start .args .number) (start .pre)
+    (at-put-text .put-text .ensures) (at-put-spaced .put-spaced .ensures) (at-put-spaced2 .put-spaced2 .ensures) (at-put-byte .put-byte .ensures)
 
 pub put-last-line-spec : {M : Type 1} → statement M
 put-last-line-spec =

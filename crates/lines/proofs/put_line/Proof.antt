@@ -34,8 +34,13 @@ same-length c = search needs
 
 returns : tie.Need-returns
 returns c =
-    line-written (c .before .before .before .before .before .before .before .before .before .before .before .before .before .before .before .before .before .before .before .args .ordinal) (c .before .before .before .before .before .before .before .before .before .before .before .before .before .before .before .before .before .before .before .args .kind) (c .before .before .before .before .before .before .before .before .before .before .before .before .before .before .before .before .before .before .before .args .call) (c .before .before .before .before .before .before .before .before .before .before .before .before .before .before .before .before .before .before .before .args .answer) (c .before .before .before .before .before .before .before .before .before .before .before .before .before .before .before .before .before .before .before .args .out .now) (c .before .before .before .before .before .before .before .before .before .before .before .before .before .before .before .before .before .before .before .args .places .now) (c .before .before .before .before .before .before .before .before .before .before .before .before .before .before .before .before .before .before .before .pre .0) (c .before .before .before .before .before .before .before .before .before .before .before .before .before .before .before .before .before .before .before .pre .1)
-    (c .before .before .before .before .before .before .before .before .before .before .before .before .before .before .put-number .ensures) (c .before .before .before .before .before .before .before .before .before .before .put-spaced .ensures) (c .before .before .before .before .before .before .put-answer .ensures) (c .before .before .put-byte .ensures)
+    let at-put-byte = c .before .before in
+    let at-put-answer = at-put-byte .before .before .before .before in
+    let at-put-spaced = at-put-answer .before .before .before .before in
+    let at-put-number = at-put-spaced .before .before .before .before in
+    let start = at-put-number .before .before .before .before .before in
+    line-written (start .args .ordinal) (start .args .kind) (start .args .call) (start .args .answer) (start .args .out .now) (start .args .places .now) (start .pre .0) (start .pre .1)
+    (at-put-number .put-number .ensures) (at-put-spaced .put-spaced .ensures) (at-put-answer .put-answer .ensures) (at-put-byte .put-byte .ensures)
 
 pub put-line-spec : {M : Type 1} → statement M
 put-line-spec =

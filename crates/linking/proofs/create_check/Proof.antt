@@ -31,31 +31,105 @@ root-at-host-requires : tie.Need-root-at-host-requires
 root-at-host-requires c κs = tt
 
 returns-3 : tie.Need-returns-3
-returns-3 c = let a = c .before .before .before .before .before .before .before .before .before .before .before .before .before .before .before .args in let k = card (a .info) (a .flags .now) (a .keys .now) (a .counts .now) (a .pointers .now) (a .windows .now) (a .contents .now) in check-refused (a .port) k _ (root-end (a .port) k (a .o) (c .before .before .before .before .before .before .missing .ensures) (c .before .before .before .before .before .if1 .left) (c .before .before .before .before .missing2 .ensures) (c .before .before .before .if2 .left) (c .before .root-at-host .ensures) (c .if3 .taken))
+returns-3 c =
+    let at-if2 = c .before .before .before in
+    let at-missing2 = at-if2 .before in
+    let at-if1 = at-missing2 .before in
+    let at-missing = at-if1 .before in
+    let start = at-missing .before .before .before .before .before .before .before .before .before in
+    let a = start .args in let k = card (a .info) (a .flags .now) (a .keys .now) (a .counts .now) (a .pointers .now) (a .windows .now) (a .contents .now) in check-refused (a .port) k _ (root-end (a .port) k (a .o) (at-missing .missing .ensures) (at-if1 .if1 .left) (at-missing2 .missing2 .ensures) (at-if2 .if2 .left) (c .before .root-at-host .ensures) (c .if3 .taken))
 
 admits-requires : tie.Need-admits-requires
-admits-requires c κs = let a = c .before .before .before .before .before .before .before .before .before .before .before .before .before .before .before .args in let k = card (a .info) (a .flags .now) (a .keys .now) (a .counts .now) (a .pointers .now) (a .windows .now) (a .contents .now) in access-there {c = k} _ (c .before .before .before .before .before .before .before .before .before .before .before .before .before .before .before .pre) (c .before .before .before .before .before .before .missing .ensures) (c .before .before .before .before .before .if1 .left)
+admits-requires c κs =
+    let at-if1 = c .before .before .before .before .before in
+    let at-missing = at-if1 .before in
+    let start = at-missing .before .before .before .before .before .before .before .before .before in
+    let a = start .args in let k = card (a .info) (a .flags .now) (a .keys .now) (a .counts .now) (a .pointers .now) (a .windows .now) (a .contents .now) in access-there {c = k} _ (start .pre) (at-missing .missing .ensures) (at-if1 .if1 .left)
 
 returns-4 : tie.Need-returns-4
-returns-4 c = let a = c .before .before .before .before .before .before .before .before .before .before .before .before .before .before .before .before .before .args in let k = card (a .info) (a .flags .now) (a .keys .now) (a .counts .now) (a .pointers .now) (a .windows .now) (a .contents .now) in check-refused (a .port) k _ (source-shut (a .port) k (a .o) (c .before .before .before .before .before .before .before .before .missing .ensures) (c .before .before .before .before .before .before .before .if1 .left) (c .before .before .before .before .before .before .missing2 .ensures) (c .before .before .before .before .before .if2 .left) (c .before .before .before .root-at-host .ensures) (c .before .before .if3 .left) (c .before .admits .ensures) (c .if4 .taken))
+returns-4 c =
+    let at-if3 = c .before .before in
+    let at-root-at-host = at-if3 .before in
+    let at-if2 = at-root-at-host .before .before in
+    let at-missing2 = at-if2 .before in
+    let at-if1 = at-missing2 .before in
+    let at-missing = at-if1 .before in
+    let start = at-missing .before .before .before .before .before .before .before .before .before in
+    let a = start .args in let k = card (a .info) (a .flags .now) (a .keys .now) (a .counts .now) (a .pointers .now) (a .windows .now) (a .contents .now) in check-refused (a .port) k _ (source-shut (a .port) k (a .o) (at-missing .missing .ensures) (at-if1 .if1 .left) (at-missing2 .missing2 .ensures) (at-if2 .if2 .left) (at-root-at-host .root-at-host .ensures) (at-if3 .if3 .left) (c .before .admits .ensures) (c .if4 .taken))
 
 admits-requires-2 : tie.Need-admits-requires-2
-admits-requires-2 c κs = let a = c .before .before .before .before .before .before .before .before .before .before .before .before .before .before .before .before .before .args in let k = card (a .info) (a .flags .now) (a .keys .now) (a .counts .now) (a .pointers .now) (a .windows .now) (a .contents .now) in access-there {c = k} _ (c .before .before .before .before .before .before .before .before .before .before .before .before .before .before .before .before .before .pre) (c .before .before .before .before .before .before .missing2 .ensures) (c .before .before .before .before .before .if2 .left)
+admits-requires-2 c κs =
+    let at-if2 = c .before .before .before .before .before in
+    let at-missing2 = at-if2 .before in
+    let start = at-missing2 .before .before .before .before .before .before .before .before .before .before .before in
+    let a = start .args in let k = card (a .info) (a .flags .now) (a .keys .now) (a .counts .now) (a .pointers .now) (a .windows .now) (a .contents .now) in access-there {c = k} _ (start .pre) (at-missing2 .missing2 .ensures) (at-if2 .if2 .left)
 
 returns-5 : tie.Need-returns-5
-returns-5 c = let a = c .before .before .before .before .before .before .before .before .before .before .before .before .before .before .before .before .before .before .before .args in let k = card (a .info) (a .flags .now) (a .keys .now) (a .counts .now) (a .pointers .now) (a .windows .now) (a .contents .now) in check-refused (a .port) k _ (destination-shut (a .port) k (a .o) (c .before .before .before .before .before .before .before .before .before .before .missing .ensures) (c .before .before .before .before .before .before .before .before .before .if1 .left) (c .before .before .before .before .before .before .before .before .missing2 .ensures) (c .before .before .before .before .before .before .before .if2 .left) (c .before .before .before .before .before .root-at-host .ensures) (c .before .before .before .before .if3 .left) (c .before .before .before .admits .ensures) (c .before .before .if4 .left) (c .before .admits2 .ensures) (c .if5 .taken))
+returns-5 c =
+    let at-if4 = c .before .before in
+    let at-admits = at-if4 .before in
+    let at-if3 = at-admits .before in
+    let at-root-at-host = at-if3 .before in
+    let at-if2 = at-root-at-host .before .before in
+    let at-missing2 = at-if2 .before in
+    let at-if1 = at-missing2 .before in
+    let at-missing = at-if1 .before in
+    let start = at-missing .before .before .before .before .before .before .before .before .before in
+    let a = start .args in let k = card (a .info) (a .flags .now) (a .keys .now) (a .counts .now) (a .pointers .now) (a .windows .now) (a .contents .now) in check-refused (a .port) k _ (destination-shut (a .port) k (a .o) (at-missing .missing .ensures) (at-if1 .if1 .left) (at-missing2 .missing2 .ensures) (at-if2 .if2 .left) (at-root-at-host .root-at-host .ensures) (at-if3 .if3 .left) (at-admits .admits .ensures) (at-if4 .if4 .left) (c .before .admits2 .ensures) (c .if5 .taken))
 
 points-to-requires : tie.Need-points-to-requires
-points-to-requires c κs = let a = c .before .before .before .before .before .before .before .before .before .before .before .before .before .before .before .before .before .before .before .before .args in let k = card (a .info) (a .flags .now) (a .keys .now) (a .counts .now) (a .pointers .now) (a .windows .now) (a .contents .now) in sound-sorted {c = k} (c .before .before .before .before .before .before .before .before .before .before .before .before .before .before .before .before .before .before .before .before .pre)
+points-to-requires c κs =
+    let start = c .before .before .before .before .before .before .before .before .before .before .before .before .before .before .before .before .before .before .before .before in
+    let a = start .args in let k = card (a .info) (a .flags .now) (a .keys .now) (a .counts .now) (a .pointers .now) (a .windows .now) (a .contents .now) in sound-sorted {c = k} (start .pre)
 
 returns-6 : tie.Need-returns-6
-returns-6 c = let a = c .before .before .before .before .before .before .before .before .before .before .before .before .before .before .before .before .before .before .before .before .before .before .args in let k = card (a .info) (a .flags .now) (a .keys .now) (a .counts .now) (a .pointers .now) (a .windows .now) (a .contents .now) in check-refused (a .port) k _ (pointer-there (a .port) k (a .o) (c .before .before .before .before .before .before .before .before .before .before .before .before .before .missing .ensures) (c .before .before .before .before .before .before .before .before .before .before .before .before .if1 .left) (c .before .before .before .before .before .before .before .before .before .before .before .missing2 .ensures) (c .before .before .before .before .before .before .before .before .before .before .if2 .left) (c .before .before .before .before .before .before .before .before .root-at-host .ensures) (c .before .before .before .before .before .before .before .if3 .left) (c .before .before .before .before .before .before .admits .ensures) (c .before .before .before .before .before .if4 .left) (c .before .before .before .before .admits2 .ensures) (c .before .before .before .if5 .left) (c .before .points-to .ensures) (c .if6 .taken))
+returns-6 c =
+    let at-if5 = c .before .before .before in
+    let at-admits2 = at-if5 .before in
+    let at-if4 = at-admits2 .before in
+    let at-admits = at-if4 .before in
+    let at-if3 = at-admits .before in
+    let at-root-at-host = at-if3 .before in
+    let at-if2 = at-root-at-host .before .before in
+    let at-missing2 = at-if2 .before in
+    let at-if1 = at-missing2 .before in
+    let at-missing = at-if1 .before in
+    let start = at-missing .before .before .before .before .before .before .before .before .before in
+    let a = start .args in let k = card (a .info) (a .flags .now) (a .keys .now) (a .counts .now) (a .pointers .now) (a .windows .now) (a .contents .now) in check-refused (a .port) k _ (pointer-there (a .port) k (a .o) (at-missing .missing .ensures) (at-if1 .if1 .left) (at-missing2 .missing2 .ensures) (at-if2 .if2 .left) (at-root-at-host .root-at-host .ensures) (at-if3 .if3 .left) (at-admits .admits .ensures) (at-if4 .if4 .left) (at-admits2 .admits2 .ensures) (at-if5 .if5 .left) (c .before .points-to .ensures) (c .if6 .taken))
 
 returns-7 : tie.Need-returns-7
-returns-7 c = let a = c .before .before .before .before .before .before .before .before .before .before .before .before .before .before .before .before .before .before .before .before .before .before .before .before .args in let k = card (a .info) (a .flags .now) (a .keys .now) (a .counts .now) (a .pointers .now) (a .windows .now) (a .contents .now) in check-refused (a .port) k _ (no-place (a .port) k (a .o) (c .before .before .before .before .before .before .before .before .before .before .before .before .before .before .before .missing .ensures) (c .before .before .before .before .before .before .before .before .before .before .before .before .before .before .if1 .left) (c .before .before .before .before .before .before .before .before .before .before .before .before .before .missing2 .ensures) (c .before .before .before .before .before .before .before .before .before .before .before .before .if2 .left) (c .before .before .before .before .before .before .before .before .before .before .root-at-host .ensures) (c .before .before .before .before .before .before .before .before .before .if3 .left) (c .before .before .before .before .before .before .before .before .admits .ensures) (c .before .before .before .before .before .before .before .if4 .left) (c .before .before .before .before .before .before .admits2 .ensures) (c .before .before .before .before .before .if5 .left) (c .before .before .before .points-to .ensures) (c .before .before .if6 .left) (c .if7 .taken))
+returns-7 c =
+    let at-if6 = c .before .before in
+    let at-points-to = at-if6 .before in
+    let at-if5 = at-points-to .before .before in
+    let at-admits2 = at-if5 .before in
+    let at-if4 = at-admits2 .before in
+    let at-admits = at-if4 .before in
+    let at-if3 = at-admits .before in
+    let at-root-at-host = at-if3 .before in
+    let at-if2 = at-root-at-host .before .before in
+    let at-missing2 = at-if2 .before in
+    let at-if1 = at-missing2 .before in
+    let at-missing = at-if1 .before in
+    let start = at-missing .before .before .before .before .before .before .before .before .before in
+    let a = start .args in let k = card (a .info) (a .flags .now) (a .keys .now) (a .counts .now) (a .pointers .now) (a .windows .now) (a .contents .now) in check-refused (a .port) k _ (no-place (a .port) k (a .o) (at-missing .missing .ensures) (at-if1 .if1 .left) (at-missing2 .missing2 .ensures) (at-if2 .if2 .left) (at-root-at-host .root-at-host .ensures) (at-if3 .if3 .left) (at-admits .admits .ensures) (at-if4 .if4 .left) (at-admits2 .admits2 .ensures) (at-if5 .if5 .left) (at-points-to .points-to .ensures) (at-if6 .if6 .left) (c .if7 .taken))
 
 returns-8 : tie.Need-returns-8
-returns-8 c = let a = c .before .before .before .before .before .before .before .before .before .before .before .before .before .before .before .before .before .before .before .before .before .before .before .before .args in let k = card (a .info) (a .flags .now) (a .keys .now) (a .counts .now) (a .pointers .now) (a .windows .now) (a .contents .now) in check-passed (a .port) k _ (passes (a .port) k (a .o) (c .before .before .before .before .before .before .before .before .before .before .before .before .before .before .before .missing .ensures) (c .before .before .before .before .before .before .before .before .before .before .before .before .before .before .if1 .left) (c .before .before .before .before .before .before .before .before .before .before .before .before .before .missing2 .ensures) (c .before .before .before .before .before .before .before .before .before .before .before .before .if2 .left) (c .before .before .before .before .before .before .before .before .before .before .root-at-host .ensures) (c .before .before .before .before .before .before .before .before .before .if3 .left) (c .before .before .before .before .before .before .before .before .admits .ensures) (c .before .before .before .before .before .before .before .if4 .left) (c .before .before .before .before .before .before .admits2 .ensures) (c .before .before .before .before .before .if5 .left) (c .before .before .before .points-to .ensures) (c .before .before .if6 .left) (c .if7 .left))
+returns-8 c =
+    let at-if6 = c .before .before in
+    let at-points-to = at-if6 .before in
+    let at-if5 = at-points-to .before .before in
+    let at-admits2 = at-if5 .before in
+    let at-if4 = at-admits2 .before in
+    let at-admits = at-if4 .before in
+    let at-if3 = at-admits .before in
+    let at-root-at-host = at-if3 .before in
+    let at-if2 = at-root-at-host .before .before in
+    let at-missing2 = at-if2 .before in
+    let at-if1 = at-missing2 .before in
+    let at-missing = at-if1 .before in
+    let start = at-missing .before .before .before .before .before .before .before .before .before in
+    let a = start .args in let k = card (a .info) (a .flags .now) (a .keys .now) (a .counts .now) (a .pointers .now) (a .windows .now) (a .contents .now) in check-passed (a .port) k _ (passes (a .port) k (a .o) (at-missing .missing .ensures) (at-if1 .if1 .left) (at-missing2 .missing2 .ensures) (at-if2 .if2 .left) (at-root-at-host .root-at-host .ensures) (at-if3 .if3 .left) (at-admits .admits .ensures) (at-if4 .if4 .left) (at-admits2 .admits2 .ensures) (at-if5 .if5 .left) (at-points-to .points-to .ensures) (at-if6 .if6 .left) (c .if7 .left))
 
 pub create-check-spec : {M : Type 1} → statement M
 create-check-spec =

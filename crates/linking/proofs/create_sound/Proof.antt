@@ -23,7 +23,11 @@ enum-told : tie.Need-enum-told
 enum-told c = search needs
 
 add-pointer-requires : tie.Need-add-pointer-requires
-add-pointer-requires c κs = let a = c .before .before .before .before .before .before .before .before .before .before .before .before .before .args in let k = card (a .info) (a .flags .now) (a .keys .now) (a .counts .now) (a .pointers .now) (a .windows .now) (a .contents .now) in addable (a .port) k (a .o) (c .before .before .before .before .before .before .before .before .before .before .before .before .before .pre) (passed-check (a .port) k _ (c .before .before .before .before .create-check .ensures) (c .before .before .enum-told .given .1))
+add-pointer-requires c κs =
+    let at-enum-told = c .before .before in
+    let at-create-check = at-enum-told .before .before in
+    let start = at-create-check .before .before .before .before .before .before .before .before .before in
+    let a = start .args in let k = card (a .info) (a .flags .now) (a .keys .now) (a .counts .now) (a .pointers .now) (a .windows .now) (a .contents .now) in addable (a .port) k (a .o) (start .pre) (passed-check (a .port) k _ (at-create-check .create-check .ensures) (at-enum-told .enum-told .given .1))
 
 done-requires : tie.Need-done-requires
 done-requires c κs = tt
@@ -45,7 +49,12 @@ same-length-4 : tie.Need-same-length-4
 same-length-4 c = c .before .before .before .before .before .add-pointer .kept .1 .1 .0
 
 returns-2 : tie.Need-returns-2
-returns-2 c = let a = c .before .before .before .before .before .before .before .before .before .before .before .before .before .before .before .before .before .before .before .args in let k = card (a .info) (a .flags .now) (a .keys .now) (a .counts .now) (a .pointers .now) (a .windows .now) (a .contents .now) in created (a .port) k (a .o) (passed-check (a .port) k _ (c .before .before .before .before .before .before .before .before .before .before .create-check .ensures) (c .before .before .before .before .before .before .before .before .enum-told .given .1)) (c .done .ensures) (c .before .before .before .before .before .add-pointer .ensures _ _ _ _)
+returns-2 c =
+    let at-add-pointer = c .before .before .before .before .before in
+    let at-enum-told = at-add-pointer .before .before .before in
+    let at-create-check = at-enum-told .before .before in
+    let start = at-create-check .before .before .before .before .before .before .before .before .before in
+    let a = start .args in let k = card (a .info) (a .flags .now) (a .keys .now) (a .counts .now) (a .pointers .now) (a .windows .now) (a .contents .now) in created (a .port) k (a .o) (passed-check (a .port) k _ (at-create-check .create-check .ensures) (at-enum-told .enum-told .given .1)) (c .done .ensures) (at-add-pointer .add-pointer .ensures _ _ _ _)
 
 pub create-sound-spec : {M : Type 1} → statement M
 create-sound-spec =

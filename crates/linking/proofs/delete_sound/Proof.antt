@@ -30,13 +30,25 @@ mul-last : tie.Need-mul-last
 mul-last c = omega arith
 
 slice-read-last : tie.Need-slice-read-last
-slice-read-last c = let a = c .before .before .before .before .before .before .before .before .before .before .before .before .before .before .before .before .args in let k = card (a .info) (a .flags .now) (a .keys .now) (a .counts .now) (a .pointers .now) (a .windows .now) (a .contents .now) in droppable (a .port) k (a .o) (c .before .before .before .before .before .before .before .before .before .before .before .before .before .before .before .before .pre) (passed-check (a .port) k _ (c .before .before .before .before .delete-check .ensures) (c .before .before .enum-told .given .1)) .1 .0
+slice-read-last c =
+    let at-enum-told = c .before .before in
+    let at-delete-check = at-enum-told .before .before in
+    let start = at-delete-check .before .before .before .before .before .before .before .before .before .before .before .before in
+    let a = start .args in let k = card (a .info) (a .flags .now) (a .keys .now) (a .counts .now) (a .pointers .now) (a .windows .now) (a .contents .now) in droppable (a .port) k (a .o) (start .pre) (passed-check (a .port) k _ (at-delete-check .delete-check .ensures) (at-enum-told .enum-told .given .1)) .1 .0
 
 drop-pointer-requires : tie.Need-drop-pointer-requires
-drop-pointer-requires c κs = let a = c .before .before .before .before .before .before .before .before .before .before .before .before .before .before .before .before .before .before .args in let k = card (a .info) (a .flags .now) (a .keys .now) (a .counts .now) (a .pointers .now) (a .windows .now) (a .contents .now) in droppable (a .port) k (a .o) (c .before .before .before .before .before .before .before .before .before .before .before .before .before .before .before .before .before .before .pre) (passed-check (a .port) k _ (c .before .before .before .before .before .before .delete-check .ensures) (c .before .before .before .before .enum-told .given .1))
+drop-pointer-requires c κs =
+    let at-enum-told = c .before .before .before .before in
+    let at-delete-check = at-enum-told .before .before in
+    let start = at-delete-check .before .before .before .before .before .before .before .before .before .before .before .before in
+    let a = start .args in let k = card (a .info) (a .flags .now) (a .keys .now) (a .counts .now) (a .pointers .now) (a .windows .now) (a .contents .now) in droppable (a .port) k (a .o) (start .pre) (passed-check (a .port) k _ (at-delete-check .delete-check .ensures) (at-enum-told .enum-told .given .1))
 
 free-block-requires : tie.Need-free-block-requires
-free-block-requires c κs = let a = c .before .before .before .before .before .before .before .before .before .before .before .before .before .before .before .before .before .before .before .before .before .before .before .before .before .before .before .args in let k = card (a .info) (a .flags .now) (a .keys .now) (a .counts .now) (a .pointers .now) (a .windows .now) (a .contents .now) in freeable (a .port) k (a .o) (c .before .before .before .before .before .before .before .before .before .before .before .before .before .before .before .before .before .before .before .before .before .before .before .before .before .before .before .pre) (passed-check (a .port) k _ (c .before .before .before .before .before .before .before .before .before .before .before .before .before .before .before .delete-check .ensures) (c .before .before .before .before .before .before .before .before .before .before .before .before .before .enum-told .given .1))
+free-block-requires c κs =
+    let at-enum-told = c .before .before .before .before .before .before .before .before .before .before .before .before .before in
+    let at-delete-check = at-enum-told .before .before in
+    let start = at-delete-check .before .before .before .before .before .before .before .before .before .before .before .before in
+    let a = start .args in let k = card (a .info) (a .flags .now) (a .keys .now) (a .counts .now) (a .pointers .now) (a .windows .now) (a .contents .now) in freeable (a .port) k (a .o) (start .pre) (passed-check (a .port) k _ (at-delete-check .delete-check .ensures) (at-enum-told .enum-told .given .1))
 
 same-length : tie.Need-same-length
 same-length c = c .before .before .before .before .before .before .free-block .kept .0
@@ -54,7 +66,14 @@ same-length-5 : tie.Need-same-length-5
 same-length-5 c = c .before .before .before .before .before .before .free-block .kept .1 .1 .0
 
 returns : tie.Need-returns
-returns c = let a = c .before .before .before .before .before .before .before .before .before .before .before .before .before .before .before .before .before .before .before .before .before .before .before .before .before .before .before .before .before .before .before .before .before .before .args in let k = card (a .info) (a .flags .now) (a .keys .now) (a .counts .now) (a .pointers .now) (a .windows .now) (a .contents .now) in deleted-last (a .port) k (a .o) (passed-check (a .port) k _ (c .before .before .before .before .before .before .before .before .before .before .before .before .before .before .before .before .before .before .before .before .before .before .delete-check .ensures) (c .before .before .before .before .before .before .before .before .before .before .before .before .before .before .before .before .before .before .before .before .enum-told .given .1)) (c .before .before .before .before .before .before .before .before .before .before .if1 .taken) (c .before .before .before .before .before .before .before .before .before .before .before .before .before .before .before .drop-pointer .ensures (a .flags .now) (a .keys .now) (a .windows .now) (a .contents .now)) (c .before .before .before .before .before .before .free-block .ensures _ _ _ _)
+returns c =
+    let at-free-block = c .before .before .before .before .before .before in
+    let at-if1 = at-free-block .before .before .before .before in
+    let at-drop-pointer = at-if1 .before .before .before .before .before in
+    let at-enum-told = at-drop-pointer .before .before .before .before .before in
+    let at-delete-check = at-enum-told .before .before in
+    let start = at-delete-check .before .before .before .before .before .before .before .before .before .before .before .before in
+    let a = start .args in let k = card (a .info) (a .flags .now) (a .keys .now) (a .counts .now) (a .pointers .now) (a .windows .now) (a .contents .now) in deleted-last (a .port) k (a .o) (passed-check (a .port) k _ (at-delete-check .delete-check .ensures) (at-enum-told .enum-told .given .1)) (at-if1 .if1 .taken) (at-drop-pointer .drop-pointer .ensures (a .flags .now) (a .keys .now) (a .windows .now) (a .contents .now)) (at-free-block .free-block .ensures _ _ _ _)
 
 same-length-6 : tie.Need-same-length-6
 same-length-6 c = refl
@@ -91,7 +110,12 @@ same-length-15 : tie.Need-same-length-15
 same-length-15 c = refl
 
 returns-3 : tie.Need-returns-3
-returns-3 c = let a = c .before .before .before .before .before .before .before .before .before .before .before .before .before .before .before .before .before .before .before .before .before .before .before .before .args in let k = card (a .info) (a .flags .now) (a .keys .now) (a .counts .now) (a .pointers .now) (a .windows .now) (a .contents .now) in deleted-more (a .port) k (a .o) (passed-check (a .port) k _ (c .before .before .before .before .before .before .before .before .before .before .before .before .delete-check .ensures) (c .before .before .before .before .before .before .before .before .before .before .enum-told .given .1)) (c .if1 .left) (c .before .before .before .before .before .drop-pointer .ensures _ _ _ _)
+returns-3 c =
+    let at-drop-pointer = c .before .before .before .before .before in
+    let at-enum-told = at-drop-pointer .before .before .before .before .before in
+    let at-delete-check = at-enum-told .before .before in
+    let start = at-delete-check .before .before .before .before .before .before .before .before .before .before .before .before in
+    let a = start .args in let k = card (a .info) (a .flags .now) (a .keys .now) (a .counts .now) (a .pointers .now) (a .windows .now) (a .contents .now) in deleted-more (a .port) k (a .o) (passed-check (a .port) k _ (at-delete-check .delete-check .ensures) (at-enum-told .enum-told .given .1)) (c .if1 .left) (at-drop-pointer .drop-pointer .ensures _ _ _ _)
 
 pub delete-sound-spec : {M : Type 1} → statement M
 delete-sound-spec =

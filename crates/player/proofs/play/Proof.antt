@@ -16,11 +16,13 @@ abbrev μ-loop : tie.MeasureT-loop
 
 loop-holds : tie.Need-loop-holds Inv-loop μ-loop
 loop-holds c =
-    record { sameFlags = refl; sameKeys = refl; sameCounts = refl; samePointers = refl; sameWindows = refl; sameContents = refl; sameOutput = refl; playing = playing-none (c .before .before .before .before .before .before .before .before .args .records) _ (c .before .before .before .before .before .before .before .before .args .input .now) (c .before .before .before .before .before .before .before .before .args .output .now) }
+    let start = c .before .before .before .before .before .before .before .before in
+    record { sameFlags = refl; sameKeys = refl; sameCounts = refl; samePointers = refl; sameWindows = refl; sameContents = refl; sameOutput = refl; playing = playing-none (start .args .records) _ (start .args .input .now) (start .args .output .now) }
 
 sub-if1 : tie.Need-sub-if1 Inv-loop μ-loop
 sub-if1 c =
-    playing-at (c .before .before .before .before .before .before .before .before .before .args .records) _ (c .before .before .before .before .before .before .before .before .before .args .input .now) (c .before .before .before .before .before .before .before .before .before .args .output .now) (c .loop .inv .playing)
+    let start = c .before .before .before .before .before .before .before .before .before in
+    playing-at (start .args .records) _ (start .args .input .now) (start .args .output .now) (c .loop .inv .playing)
 
 same-length : tie.Need-same-length Inv-loop μ-loop
 same-length c =
@@ -52,7 +54,8 @@ same-length-7 c =
 
 returns : tie.Need-returns Inv-loop μ-loop
 returns c =
-    playing-full (c .before .before .before .before .before .before .before .before .before .before .args .records) _ (c .before .before .before .before .before .before .before .before .before .before .args .input .now) (c .before .before .before .before .before .before .before .before .before .before .args .output .now) (c .before .loop .inv .playing) (c .if1 .taken)
+    let start = c .before .before .before .before .before .before .before .before .before .before in
+    playing-full (start .args .records) _ (start .args .input .now) (start .args .output .now) (c .before .loop .inv .playing) (c .if1 .taken)
 
 add-play-turn : tie.Need-add-play-turn Inv-loop μ-loop
 add-play-turn c =
@@ -76,48 +79,70 @@ loop-less c =
 
 loop-again : tie.Need-loop-again Inv-loop μ-loop
 loop-again c =
+    let at-play-turn = c .before .before .before .before .before .before .before .before .before .before .before .before .before .before .before .before .before in
+    let at-if1 = at-play-turn .before .before .before .before .before .before .before .before in
+    let at-loop = at-if1 .before in
+    let start = at-loop .before .before .before .before .before .before .before .before .before in
     record {
-      sameFlags = c .before .before .before .before .before .before .before .before .before .before .before .before .before .before .before .before .before .play-turn .kept .1 .0 ∙ c .before .before .before .before .before .before .before .before .before .before .before .before .before .before .before .before .before .before .before .before .before .before .before .before .before .before .loop .inv .sameFlags;
-      sameKeys = c .before .before .before .before .before .before .before .before .before .before .before .before .before .before .before .before .before .play-turn .kept .1 .1 .0 ∙ c .before .before .before .before .before .before .before .before .before .before .before .before .before .before .before .before .before .before .before .before .before .before .before .before .before .before .loop .inv .sameKeys;
-      sameCounts = c .before .before .before .before .before .before .before .before .before .before .before .before .before .before .before .before .before .play-turn .kept .1 .1 .1 .0 ∙ c .before .before .before .before .before .before .before .before .before .before .before .before .before .before .before .before .before .before .before .before .before .before .before .before .before .before .loop .inv .sameCounts;
-      samePointers = c .before .before .before .before .before .before .before .before .before .before .before .before .before .before .before .before .before .play-turn .kept .1 .1 .1 .1 .0 ∙ c .before .before .before .before .before .before .before .before .before .before .before .before .before .before .before .before .before .before .before .before .before .before .before .before .before .before .loop .inv .samePointers;
-      sameWindows = c .before .before .before .before .before .before .before .before .before .before .before .before .before .before .before .before .before .play-turn .kept .1 .1 .1 .1 .1 .0 ∙ c .before .before .before .before .before .before .before .before .before .before .before .before .before .before .before .before .before .before .before .before .before .before .before .before .before .before .loop .inv .sameWindows;
-      sameContents = c .before .before .before .before .before .before .before .before .before .before .before .before .before .before .before .before .before .play-turn .kept .1 .1 .1 .1 .1 .1 .0 ∙ c .before .before .before .before .before .before .before .before .before .before .before .before .before .before .before .before .before .before .before .before .before .before .before .before .before .before .loop .inv .sameContents;
-      sameOutput = c .before .before .before .before .before .before .before .before .before .before .before .before .before .before .before .before .before .play-turn .kept .1 .1 .1 .1 .1 .1 .1 .1 .1 .1 .0 ∙ c .before .before .before .before .before .before .before .before .before .before .before .before .before .before .before .before .before .before .before .before .before .before .before .before .before .before .loop .inv .sameOutput;
-      playing = playing-more (c .before .before .before .before .before .before .before .before .before .before .before .before .before .before .before .before .before .before .before .before .before .before .before .before .before .before .before .before .before .before .before .before .before .before .before .args .records) _ (c .before .before .before .before .before .before .before .before .before .before .before .before .before .before .before .before .before .before .before .before .before .before .before .before .before .before .before .before .before .before .before .before .before .before .before .args .input .now) (c .before .before .before .before .before .before .before .before .before .before .before .before .before .before .before .before .before .before .before .before .before .before .before .before .before .before .before .before .before .before .before .before .before .before .before .args .output .now) (c .before .before .before .before .before .before .before .before .before .before .before .before .before .before .before .before .before .before .before .before .before .before .before .before .before .before .loop .inv .playing) (c .before .before .before .before .before .before .before .before .before .before .before .before .before .before .before .before .before .before .before .before .before .before .before .before .before .if1 .left) (c .before .before .before .before .before .before .before .before .before .before .before .before .before .before .before .before .before .play-turn .ensures) (sym (c .before .went .ensures) ∙ c .if2 .taken);
+      sameFlags = at-play-turn .play-turn .kept .1 .0 ∙ at-loop .loop .inv .sameFlags;
+      sameKeys = at-play-turn .play-turn .kept .1 .1 .0 ∙ at-loop .loop .inv .sameKeys;
+      sameCounts = at-play-turn .play-turn .kept .1 .1 .1 .0 ∙ at-loop .loop .inv .sameCounts;
+      samePointers = at-play-turn .play-turn .kept .1 .1 .1 .1 .0 ∙ at-loop .loop .inv .samePointers;
+      sameWindows = at-play-turn .play-turn .kept .1 .1 .1 .1 .1 .0 ∙ at-loop .loop .inv .sameWindows;
+      sameContents = at-play-turn .play-turn .kept .1 .1 .1 .1 .1 .1 .0 ∙ at-loop .loop .inv .sameContents;
+      sameOutput = at-play-turn .play-turn .kept .1 .1 .1 .1 .1 .1 .1 .1 .1 .1 .0 ∙ at-loop .loop .inv .sameOutput;
+      playing = playing-more (start .args .records) _ (start .args .input .now) (start .args .output .now) (at-loop .loop .inv .playing) (at-if1 .if1 .left) (at-play-turn .play-turn .ensures) (sym (c .before .went .ensures) ∙ c .if2 .taken);
     }
 
 same-length-8 : tie.Need-same-length-8 Inv-loop μ-loop
 same-length-8 c =
-    c .before .before .before .before .before .before .before .before .before .before .before .before .before .before .before .before .before .play-turn .kept .1 .0 ∙ c .before .before .before .before .before .before .before .before .before .before .before .before .before .before .before .before .before .before .before .before .before .before .before .before .before .before .loop .inv .sameFlags
+    let at-play-turn = c .before .before .before .before .before .before .before .before .before .before .before .before .before .before .before .before .before in
+    let at-loop = at-play-turn .before .before .before .before .before .before .before .before .before in
+    at-play-turn .play-turn .kept .1 .0 ∙ at-loop .loop .inv .sameFlags
 
 same-length-9 : tie.Need-same-length-9 Inv-loop μ-loop
 same-length-9 c =
-    c .before .before .before .before .before .before .before .before .before .before .before .before .before .before .before .before .before .play-turn .kept .1 .1 .0 ∙ c .before .before .before .before .before .before .before .before .before .before .before .before .before .before .before .before .before .before .before .before .before .before .before .before .before .before .loop .inv .sameKeys
+    let at-play-turn = c .before .before .before .before .before .before .before .before .before .before .before .before .before .before .before .before .before in
+    let at-loop = at-play-turn .before .before .before .before .before .before .before .before .before in
+    at-play-turn .play-turn .kept .1 .1 .0 ∙ at-loop .loop .inv .sameKeys
 
 same-length-10 : tie.Need-same-length-10 Inv-loop μ-loop
 same-length-10 c =
-    c .before .before .before .before .before .before .before .before .before .before .before .before .before .before .before .before .before .play-turn .kept .1 .1 .1 .0 ∙ c .before .before .before .before .before .before .before .before .before .before .before .before .before .before .before .before .before .before .before .before .before .before .before .before .before .before .loop .inv .sameCounts
+    let at-play-turn = c .before .before .before .before .before .before .before .before .before .before .before .before .before .before .before .before .before in
+    let at-loop = at-play-turn .before .before .before .before .before .before .before .before .before in
+    at-play-turn .play-turn .kept .1 .1 .1 .0 ∙ at-loop .loop .inv .sameCounts
 
 same-length-11 : tie.Need-same-length-11 Inv-loop μ-loop
 same-length-11 c =
-    c .before .before .before .before .before .before .before .before .before .before .before .before .before .before .before .before .before .play-turn .kept .1 .1 .1 .1 .0 ∙ c .before .before .before .before .before .before .before .before .before .before .before .before .before .before .before .before .before .before .before .before .before .before .before .before .before .before .loop .inv .samePointers
+    let at-play-turn = c .before .before .before .before .before .before .before .before .before .before .before .before .before .before .before .before .before in
+    let at-loop = at-play-turn .before .before .before .before .before .before .before .before .before in
+    at-play-turn .play-turn .kept .1 .1 .1 .1 .0 ∙ at-loop .loop .inv .samePointers
 
 same-length-12 : tie.Need-same-length-12 Inv-loop μ-loop
 same-length-12 c =
-    c .before .before .before .before .before .before .before .before .before .before .before .before .before .before .before .before .before .play-turn .kept .1 .1 .1 .1 .1 .0 ∙ c .before .before .before .before .before .before .before .before .before .before .before .before .before .before .before .before .before .before .before .before .before .before .before .before .before .before .loop .inv .sameWindows
+    let at-play-turn = c .before .before .before .before .before .before .before .before .before .before .before .before .before .before .before .before .before in
+    let at-loop = at-play-turn .before .before .before .before .before .before .before .before .before in
+    at-play-turn .play-turn .kept .1 .1 .1 .1 .1 .0 ∙ at-loop .loop .inv .sameWindows
 
 same-length-13 : tie.Need-same-length-13 Inv-loop μ-loop
 same-length-13 c =
-    c .before .before .before .before .before .before .before .before .before .before .before .before .before .before .before .before .before .play-turn .kept .1 .1 .1 .1 .1 .1 .0 ∙ c .before .before .before .before .before .before .before .before .before .before .before .before .before .before .before .before .before .before .before .before .before .before .before .before .before .before .loop .inv .sameContents
+    let at-play-turn = c .before .before .before .before .before .before .before .before .before .before .before .before .before .before .before .before .before in
+    let at-loop = at-play-turn .before .before .before .before .before .before .before .before .before in
+    at-play-turn .play-turn .kept .1 .1 .1 .1 .1 .1 .0 ∙ at-loop .loop .inv .sameContents
 
 same-length-14 : tie.Need-same-length-14 Inv-loop μ-loop
 same-length-14 c =
-    c .before .before .before .before .before .before .before .before .before .before .before .before .before .before .before .before .before .play-turn .kept .1 .1 .1 .1 .1 .1 .1 .1 .1 .1 .0 ∙ c .before .before .before .before .before .before .before .before .before .before .before .before .before .before .before .before .before .before .before .before .before .before .before .before .before .before .loop .inv .sameOutput
+    let at-play-turn = c .before .before .before .before .before .before .before .before .before .before .before .before .before .before .before .before .before in
+    let at-loop = at-play-turn .before .before .before .before .before .before .before .before .before in
+    at-play-turn .play-turn .kept .1 .1 .1 .1 .1 .1 .1 .1 .1 .1 .0 ∙ at-loop .loop .inv .sameOutput
 
 returns-2 : tie.Need-returns-2 Inv-loop μ-loop
 returns-2 c =
-    playing-stopped (c .before .before .before .before .before .before .before .before .before .before .before .before .before .before .before .before .before .before .before .before .before .before .before .before .before .before .before .before .before .before .before .before .before .before .before .args .records) _ (c .before .before .before .before .before .before .before .before .before .before .before .before .before .before .before .before .before .before .before .before .before .before .before .before .before .before .before .before .before .before .before .before .before .before .before .args .input .now) (c .before .before .before .before .before .before .before .before .before .before .before .before .before .before .before .before .before .before .before .before .before .before .before .before .before .before .before .before .before .before .before .before .before .before .before .args .output .now) (c .before .before .before .before .before .before .before .before .before .before .before .before .before .before .before .before .before .before .before .before .before .before .before .before .before .before .loop .inv .playing) (c .before .before .before .before .before .before .before .before .before .before .before .before .before .before .before .before .before .before .before .before .before .before .before .before .before .if1 .left) (c .before .before .before .before .before .before .before .before .before .before .before .before .before .before .before .before .before .play-turn .ensures) (sym (c .before .went .ensures) ∙ c .if2 .left)
+    let at-play-turn = c .before .before .before .before .before .before .before .before .before .before .before .before .before .before .before .before .before in
+    let at-if1 = at-play-turn .before .before .before .before .before .before .before .before in
+    let at-loop = at-if1 .before in
+    let start = at-loop .before .before .before .before .before .before .before .before .before in
+    playing-stopped (start .args .records) _ (start .args .input .now) (start .args .output .now) (at-loop .loop .inv .playing) (at-if1 .if1 .left) (at-play-turn .play-turn .ensures) (sym (c .before .went .ensures) ∙ c .if2 .left)
 
 pub play-spec : {M : Type 1} → statement M
 play-spec =

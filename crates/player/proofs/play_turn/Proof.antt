@@ -15,20 +15,34 @@ enum-known-found-2 : tie.Need-enum-known-found-2
 enum-known-found-2 c = search needs
 
 sub-play-call : tie.Need-sub-play-call
-sub-play-call c = whole-within (c .before .before .before .before .before .before .before .before .before .before .before .before .before .before .before .before .before .before .args .input .now) (c .before .before .before .before .before .before .before .before .before .before .before .before .before .before .before .before .before .before .args .from) (c .before .before .before .before .before .before .before .before .before .find .ensures) (c .before .before .before .before .before .before .before .found2 .given .1) .0
+sub-play-call c =
+    let at-found2 = c .before .before .before .before .before .before .before in
+    let at-find = at-found2 .before .before in
+    let start = at-find .before .before .before .before .before .before .before .before .before in
+    whole-within (start .args .input .now) (start .args .from) (at-find .find .ensures) (at-found2 .found2 .given .1) .0
 
 part-play-call-start : tie.Need-part-play-call-start
-part-play-call-start c = whole-within (c .before .before .before .before .before .before .before .before .before .before .before .before .before .before .before .before .before .before .args .input .now) (c .before .before .before .before .before .before .before .before .before .before .before .before .before .before .before .before .before .before .args .from) (c .before .before .before .before .before .before .before .before .before .find .ensures) (c .before .before .before .before .before .before .before .found2 .given .1) .0
+part-play-call-start c =
+    let at-found2 = c .before .before .before .before .before .before .before in
+    let at-find = at-found2 .before .before in
+    let start = at-find .before .before .before .before .before .before .before .before .before in
+    whole-within (start .args .input .now) (start .args .from) (at-find .find .ensures) (at-found2 .found2 .given .1) .0
 
 part-play-call-end : tie.Need-part-play-call-end
-part-play-call-end c = whole-within (c .before .before .before .before .before .before .before .before .before .before .before .before .before .before .before .before .before .before .args .input .now) (c .before .before .before .before .before .before .before .before .before .before .before .before .before .before .before .before .before .before .args .from) (c .before .before .before .before .before .before .before .before .before .find .ensures) (c .before .before .before .before .before .before .before .found2 .given .1) .1
+part-play-call-end c =
+    let at-found2 = c .before .before .before .before .before .before .before in
+    let at-find = at-found2 .before .before in
+    let start = at-find .before .before .before .before .before .before .before .before .before in
+    whole-within (start .args .input .now) (start .args .from) (at-find .find .ensures) (at-found2 .found2 .given .1) .1
 
 play-call-requires : tie.Need-play-call-requires
 play-call-requires c κs = search needs
 
 returns : tie.Need-returns
 returns c =
-    found-nothing (c .before .before .before .before .before .before .before .before .before .before .before .before .args .ordinal) _ (c .before .before .before .before .before .before .before .before .before .before .before .before .args .input .now) (c .before .before .before .before .before .before .before .before .before .before .before .before .args .from) (c .before .before .before .before .before .before .before .before .before .before .before .before .pre .0) (c .before .before .before .before .before .before .before .before .before .before .before .before .args .to .now) (c .before .before .before .before .before .before .before .before .before .before .before .before .args .at) (c .before .before .before .find .ensures) (c .before .found .given .1)
+    let at-find = c .before .before .before in
+    let start = at-find .before .before .before .before .before .before .before .before .before in
+    found-nothing (start .args .ordinal) _ (start .args .input .now) (start .args .from) (start .pre .0) (start .args .to .now) (start .args .at) (at-find .find .ensures) (c .before .found .given .1)
 
 same-length : tie.Need-same-length
 same-length c = search needs
@@ -53,8 +67,12 @@ same-length-7 c = search needs
 
 returns-2 : tie.Need-returns-2
 returns-2 c =
-    turned-whole (c .before .before .before .before .before .before .before .before .before .before .before .before .before .before .before .before .before .before .before .before .before .before .before .before .before .before .before .before .before .before .before .before .before .before .before .before .args .ordinal) _ (c .before .before .before .before .before .before .before .before .before .before .before .before .before .before .before .before .before .before .before .before .before .before .before .before .before .before .before .before .before .before .before .before .before .before .before .before .args .input .now) (c .before .before .before .before .before .before .before .before .before .before .before .before .before .before .before .before .before .before .before .before .before .before .before .before .before .before .before .before .before .before .before .before .before .before .before .before .args .from) (c .before .before .before .before .before .before .before .before .before .before .before .before .before .before .before .before .before .before .before .before .before .before .before .before .before .before .before .before .before .before .before .before .before .before .before .before .pre .0) (c .before .before .before .before .before .before .before .before .before .before .before .before .before .before .before .before .before .before .before .before .before .before .before .before .before .before .before .before .before .before .before .before .before .before .before .before .args .to .now) (c .before .before .before .before .before .before .before .before .before .before .before .before .before .before .before .before .before .before .before .before .before .before .before .before .before .before .before .before .before .before .before .before .before .before .before .before .args .at) (c .before .before .before .before .before .before .before .before .before .before .before .before .before .before .before .before .before .before .before .before .before .before .before .before .before .before .before .find .ensures) (c .before .before .before .before .before .before .before .before .before .before .before .before .before .before .before .before .before .before .before .before .before .before .before .before .before .found2 .given .1)
-    (c .before .before .before .before .before .before .before .before .before .before .before .before .before .before .before .play-call .ensures)
+    let at-play-call = c .before .before .before .before .before .before .before .before .before .before .before .before .before .before .before in
+    let at-found2 = at-play-call .before .before .before .before .before .before .before .before .before .before in
+    let at-find = at-found2 .before .before in
+    let start = at-find .before .before .before .before .before .before .before .before .before in
+    turned-whole (start .args .ordinal) _ (start .args .input .now) (start .args .from) (start .pre .0) (start .args .to .now) (start .args .at) (at-find .find .ensures) (at-found2 .found2 .given .1)
+    (at-play-call .play-call .ensures)
 
 pub play-turn-spec : {M : Type 1} → statement M
 play-turn-spec =

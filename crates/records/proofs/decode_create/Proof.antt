@@ -34,20 +34,28 @@ enum-told-2 c = search needs
 
 returns-2 : tie.Need-returns-2
 returns-2 c =
+    let at-presented = c .before .before .before in
+    let at-credential2 = at-presented .before .before in
+    let at-credential = at-credential2 .before in
     create-second _ _
-    (c .before .before .before .before .before .before .credential .ensures)
-    (c .before .before .before .before .before .credential2 .ensures)
-    (c .before .before .before .presented .given .1)
+    (at-credential .credential .ensures)
+    (at-credential2 .credential2 .ensures)
+    (at-presented .presented .given .1)
     (c .enum-told2 .given .1)
 
 returns-3 : tie.Need-returns-3
 returns-3 c =
+    let at-presented = c .before .before .before .before in
+    let at-credential2 = at-presented .before .before in
+    let at-credential = at-credential2 .before in
+    let at-two2 = at-credential .before in
+    let at-two = at-two2 .before in
     create _ _
-    (c .before .before .before .before .before .before .before .before .before .two .ensures)
-    (c .before .before .before .before .before .before .before .before .two2 .ensures)
-    (c .before .before .before .before .before .before .before .credential .ensures)
-    (c .before .before .before .before .before .before .credential2 .ensures)
-    (c .before .before .before .before .presented .given .1)
+    (at-two .two .ensures)
+    (at-two2 .two2 .ensures)
+    (at-credential .credential .ensures)
+    (at-credential2 .credential2 .ensures)
+    (at-presented .presented .given .1)
     (c .before .other .given .1)
 
 pub decode-create-spec : {M : Type 1} → statement M

@@ -34,10 +34,13 @@ enum-told-2 c = search needs
 
 returns-2 : tie.Need-returns-2
 returns-2 c =
+    let at-presented = c .before .before .before in
+    let at-new-key = at-presented .before .before .before in
+    let at-credential = at-new-key .before in
     key-read _ _
-    (c .before .before .before .before .before .before .before .credential .ensures)
-    (c .before .before .before .before .before .before .new-key .ensures)
-    (c .before .before .before .presented .given .1)
+    (at-credential .credential .ensures)
+    (at-new-key .new-key .ensures)
+    (at-presented .presented .given .1)
     (c .enum-told2 .given .1)
 
 enum-known-writing : tie.Need-enum-known-writing
@@ -48,23 +51,34 @@ enum-told-3 c = search needs
 
 returns-3 : tie.Need-returns-3
 returns-3 c =
+    let at-reading = c .before .before .before in
+    let at-presented = at-reading .before .before .before in
+    let at-new-key2 = at-presented .before .before in
+    let at-new-key = at-new-key2 .before in
+    let at-credential = at-new-key .before in
     key-write _ _
-    (c .before .before .before .before .before .before .before .before .before .before .credential .ensures)
-    (c .before .before .before .before .before .before .before .before .before .new-key .ensures)
-    (c .before .before .before .before .before .before .before .before .new-key2 .ensures)
-    (c .before .before .before .before .before .before .presented .given .1)
-    (c .before .before .before .reading .given .1)
+    (at-credential .credential .ensures)
+    (at-new-key .new-key .ensures)
+    (at-new-key2 .new-key2 .ensures)
+    (at-presented .presented .given .1)
+    (at-reading .reading .given .1)
     (c .enum-told3 .given .1)
 
 returns-4 : tie.Need-returns-4
 returns-4 c =
+    let at-reading = c .before .before .before .before in
+    let at-presented = at-reading .before .before .before in
+    let at-new-key2 = at-presented .before .before in
+    let at-new-key = at-new-key2 .before in
+    let at-credential = at-new-key .before in
+    let at-two = at-credential .before in
     key _ _
-    (c .before .before .before .before .before .before .before .before .before .before .before .before .two .ensures)
-    (c .before .before .before .before .before .before .before .before .before .before .before .credential .ensures)
-    (c .before .before .before .before .before .before .before .before .before .before .new-key .ensures)
-    (c .before .before .before .before .before .before .before .before .before .new-key2 .ensures)
-    (c .before .before .before .before .before .before .before .presented .given .1)
-    (c .before .before .before .before .reading .given .1)
+    (at-two .two .ensures)
+    (at-credential .credential .ensures)
+    (at-new-key .new-key .ensures)
+    (at-new-key2 .new-key2 .ensures)
+    (at-presented .presented .given .1)
+    (at-reading .reading .given .1)
     (c .before .writing .given .1)
 
 pub decode-key-spec : {M : Type 1} → statement M

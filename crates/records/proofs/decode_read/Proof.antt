@@ -23,10 +23,13 @@ enum-told c = search needs
 
 returns : tie.Need-returns
 returns c =
+    let at-credential = c .before .before .before in
+    let at-four = at-credential .before in
+    let at-two = at-four .before in
     read _ _
-    (c .before .before .before .before .before .two .ensures)
-    (c .before .before .before .before .four .ensures)
-    (c .before .before .before .credential .ensures)
+    (at-two .two .ensures)
+    (at-four .four .ensures)
+    (at-credential .credential .ensures)
     (c .before .presented .given .1)
 
 returns-2 : tie.Need-returns-2

@@ -45,7 +45,12 @@ same-length c = search needs
 
 returns-3 : tie.Need-returns-3
 unfolding performSound plan writePlan
-returns-3 c = refuses _ _ _ (c .refused3 .ensures) (later (c .before .before .before .before .before .before .if1 .left) (later (missing-told _ _ (c .before .before .before .before .before .missing .ensures) (c .before .before .before .before .if2 .left)) (here (closed-told _ _ _ _ _ (c .before .before .admits .ensures) (c .before .if3 .taken)))))
+returns-3 c =
+    let at-admits = c .before .before in
+    let at-if2 = at-admits .before .before in
+    let at-missing = at-if2 .before in
+    let at-if1 = at-missing .before in
+    refuses _ _ _ (c .refused3 .ensures) (later (at-if1 .if1 .left) (later (missing-told _ _ (at-missing .missing .ensures) (at-if2 .if2 .left)) (here (closed-told _ _ _ _ _ (at-admits .admits .ensures) (c .before .if3 .taken)))))
 
 mul-at : tie.Need-mul-at
 mul-at c = omega (arith, lies _ (c .before .before .before .before .before .before .before .before .before .before .before .before .before .before .before .pre) (c .before .before .before .before .missing .ensures) (c .before .before .before .if2 .left))
@@ -63,10 +68,19 @@ part-copy-end : tie.Need-part-copy-end
 part-copy-end c = omega (arith, lies _ (c .before .before .before .before .before .before .before .before .before .before .before .before .before .before .before .pre) (c .before .before .before .before .missing .ensures) (c .before .before .before .if2 .left))
 
 copy-requires : tie.Need-copy-requires
-copy-requires c κs = taken-size _ (c .before .before .before .before .before .before .before .before .before .before .before .before .before .before .before .before .args .input .now) _ (lies _ (c .before .before .before .before .before .before .before .before .before .before .before .before .before .before .before .before .pre) (c .before .before .before .before .before .missing .ensures) (c .before .before .before .before .if2 .left)) (c .before .before .before .before .before .before .if1 .left)
+copy-requires c κs =
+    let at-if2 = c .before .before .before .before in
+    let at-missing = at-if2 .before in
+    let at-if1 = at-missing .before in
+    let start = at-if1 .before .before .before .before .before .before .before .before .before .before in
+    taken-size _ (start .args .input .now) _ (lies _ (start .pre) (at-missing .missing .ensures) (at-if2 .if2 .left)) (at-if1 .if1 .left)
 
 open-window-requires : tie.Need-open-window-requires
-open-window-requires c κs = windows-low _ (c .before .before .before .before .before .before .before .before .before .before .before .before .before .before .before .before .before .before .before .before .pre) (c .before .before .before .before .before .before .before .before .before .missing .ensures) (c .before .before .before .before .before .before .before .before .if2 .left)
+open-window-requires c κs =
+    let at-if2 = c .before .before .before .before .before .before .before .before in
+    let at-missing = at-if2 .before in
+    let at-pre = at-missing .before .before .before .before .before .before .before .before .before .before .before in
+    windows-low _ (at-pre .pre) (at-missing .missing .ensures) (at-if2 .if2 .left)
 
 done-requires : tie.Need-done-requires
 done-requires c κs = search needs
@@ -79,7 +93,16 @@ same-length-3 c = search needs
 
 returns-4 : tie.Need-returns-4
 unfolding performSound plan writePlan outAfter placesAfter
-returns-4 c = let a = c .before .before .before .before .before .before .before .before .before .before .before .before .before .before .before .before .before .before .before .before .before .before .before .before .args in finishes _ _ _ (c .done .ensures) (c .before .before .before .before .before .before .before .before .before .before .before .before .before .before .if1 .left, (missing-told _ _ (c .before .before .before .before .before .before .before .before .before .before .before .before .before .missing .ensures) (c .before .before .before .before .before .before .before .before .before .before .before .before .if2 .left), (closed-told _ _ _ _ _ (c .before .before .before .before .before .before .before .before .before .before .admits .ensures) (c .before .before .before .before .before .before .before .before .before .if3 .left), tt))) (written _ _ _ _ (a .input .now) (c .before .before .before .open-window .ensures) (put-block (a .info .bytes) (a .contents .now) (a .o .block) (a .input .now) _ (c .before .before .before .before .before .before .before .copy .ensures) (c .before .before .before .before .before .before .before .before .before .before .before .before .before .before .if1 .left))) refl refl
+returns-4 c =
+    let at-open-window = c .before .before .before in
+    let at-copy = at-open-window .before .before .before .before in
+    let at-if3 = at-copy .before .before in
+    let at-admits = at-if3 .before in
+    let at-if2 = at-admits .before .before in
+    let at-missing = at-if2 .before in
+    let at-if1 = at-missing .before in
+    let start = at-if1 .before .before .before .before .before .before .before .before .before .before in
+    let a = start .args in finishes _ _ _ (c .done .ensures) (at-if1 .if1 .left, (missing-told _ _ (at-missing .missing .ensures) (at-if2 .if2 .left), (closed-told _ _ _ _ _ (at-admits .admits .ensures) (at-if3 .if3 .left), tt))) (written _ _ _ _ (a .input .now) (at-open-window .open-window .ensures) (put-block (a .info .bytes) (a .contents .now) (a .o .block) (a .input .now) _ (at-copy .copy .ensures) (at-if1 .if1 .left))) refl refl
 
 pub write-sound-spec : {M : Type 1} → statement M
 write-sound-spec = tie.close (tie.spec cast-block refused-requires returns missing-requires refused-requires-2 returns-2 admits-requires refused-requires-3 same-length returns-3 mul-at add-end sub-copy part-copy-start part-copy-end copy-requires open-window-requires done-requires same-length-2 same-length-3 returns-4)
