@@ -5,7 +5,6 @@ use mathlib.Core.Path.{_≡_, refl, sym, ap, _∙_, subst}
 use mathlib.Core.List.{List, [], _∷_}
 use mathlib.Core.Option.{Option, none, some}
 use native.Mathlib.Omega.{arith}
-use lib.Dec.{eqb}
 use lib.ListN.{length, take, drop}
 use borrow.Author.Tests.{eq-eqb, ne-eqb}
 use Rattle.card.specs.Card.{Card, card}
@@ -27,7 +26,7 @@ use Rattle.records.specs.DecodeLaws.{decoded-kind}
 use Rattle.records.specs.declared.Decoding.{Decoding}
 use Rattle.records.specs.declared.Decoding.the-variants.{Decoded, Bad}
 use Rattle.operands.specs.Operands.{recordOf, numbersOf}
-use Rattle.adapter.specs.Effects.{Effect, valueAfter, effectOf, effect, formatEffect, dataSize, dataFrom, dataIn, recordEffect, Does, Gives}
+use Rattle.adapter.specs.Effects.{valueAfter, effectOf, effect, formatEffect, dataSize, dataFrom, dataIn, recordEffect, Does, Gives}
 
 pub refusal-small : (r : Refusal) → refusalNumber r ≤ 13
 refusal-small Misshapen = omega arith

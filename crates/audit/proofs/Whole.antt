@@ -14,7 +14,7 @@ use Rattle.card.specs.Card.{Public, Card, allocated, inUse}
 use Rattle.card.specs.Soundness.{soundClauses, flagsBelow8, rootAllocated, keyZero, unallocatedEmpty, absentKeyZero, countRight, pointedTo, windowInTime, pointerRight, shape, sound, verdict}
 use Rattle.card.specs.SoundnessLaws.{Shaped, shape-true, misshapen-verdict}
 use Rattle.card.specs.declared.Verdict.{Verdict}
-use Rattle.card.specs.declared.Verdict.the-variants.{Misshapen, Unsound, Sound}
+use Rattle.card.specs.declared.Verdict.the-variants.{Misshapen, Unsound}
 use Rattle.audit.specs.Walks.{judged, pointing, PointersFit, passes, PointersWalked, rowed, RowsFit, blockClauses, blockSound}
 
 -- ---- the walk of the pointers: strict order, and each pointer right

@@ -3,20 +3,19 @@ use Prim.Native.Nat.{ℕ, zero, suc, _+_, _-_, _*_}
 use mathlib.Core.Bool.{Bool, true, false, _&&_, _||_, not, cond}
 use mathlib.Core.List.{List, [], _∷_, _++_}
 use lib.Dec.{eqb, ltb, leb}
-use lib.ListN.{length, take, drop, replicate}
+use lib.ListN.{length, replicate}
 use Rattle.card.specs.Pointers.{remove}
 use Rattle.card.specs.Contents.{zeros, overwrite}
 use Rattle.card.specs.Card.{Public, Card, card, allocated, hasKey, isRoot, freeBlocks, longestInterval, count, pointsTo, hasPointers}
 use Rattle.card.specs.Soundness.{ranges, lengths, timeLimit}
-use Rattle.card.specs.Access.{admits, opens}
-use Rattle.card.specs.Plan.{Check, _⇒_, first, Change, setWindow, setBlock, setKeys, takeBlock, freeBlock, addPointer, dropPointer, setTime, Shown, nothing, blockPart, numbers, Plan, Buffers, Result, refused, judge, judgeSound}
+use Rattle.card.specs.Access.{opens}
+use Rattle.card.specs.Plan.{_⇒_, Change, setWindow, setBlock, setKeys, takeBlock, freeBlock, addPointer, dropPointer, setTime, nothing, blockPart, numbers, Plan, Result, refused}
 use Rattle.card.specs.declared.Info.{Info}
 use Rattle.card.specs.declared.Port.{Port}
 use Rattle.card.specs.declared.Port.the-variants.{Host, Service}
 use Rattle.card.specs.declared.Mode.{Mode}
 use Rattle.card.specs.declared.Mode.the-variants.{Reading, Writing}
 use Rattle.card.specs.declared.Credential.{Credential}
-use Rattle.card.specs.declared.Credential.the-variants.{Key as KeyCredential}
 use Rattle.card.specs.declared.ReadOperands.{ReadOperands}
 use Rattle.card.specs.declared.WriteOperands.{WriteOperands}
 use Rattle.card.specs.declared.AllocOperands.{AllocOperands}

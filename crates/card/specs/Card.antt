@@ -1,11 +1,11 @@
 -- Document 01, "The card": the record and the tables, and what they say of a block.
 use Prim.Native.Nat.{ℕ, _+_, _*_, _/_, _%_}
-use mathlib.Core.Bool.{Bool, true, false, _&&_, not}
+use mathlib.Core.Bool.{Bool, _&&_, not}
 use mathlib.Core.List.{List}
 use lib.Dec.{eqb, ltb}
-use lib.ListN.{length, take, getD}
+use lib.ListN.{take, getD}
 use Rattle.card.specs.Lists.{numbersBelow}
-use Rattle.card.specs.Pointers.{pointer, contains, pointersTo, pointsFrom}
+use Rattle.card.specs.Pointers.{pointer, contains, pointsFrom}
 use Rattle.card.specs.Contents.{part}
 use Rattle.card.specs.declared.Info.{Info}
 use Rattle.card.specs.declared.Mode.{Mode}

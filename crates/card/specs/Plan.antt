@@ -1,10 +1,10 @@
 -- A call as checks in order and then changes in order: the two parts of each paragraph of document 01, "Calls".
 -- The checks and the changes are made from the public part of the card and from the answers of the access test alone.
-use Prim.Native.Nat.{ℕ, _+_, _-_, _*_}
-use mathlib.Core.Bool.{Bool, true, false, not, cond}
+use Prim.Native.Nat.{ℕ, _+_, _-_}
+use mathlib.Core.Bool.{Bool, not, cond}
 use mathlib.Core.List.{List, [], _∷_, _++_}
 use mathlib.Core.Option.{Option, none, some}
-use lib.ListN.{length, take, drop, set}
+use lib.ListN.{drop, set}
 use Rattle.card.specs.Pointers.{pointer, insert, remove}
 use Rattle.card.specs.Contents.{overwrite, fill, zeros}
 use Rattle.card.specs.Card.{Public, Card, count, windowAt, keyAt, inUse, block}
@@ -14,7 +14,6 @@ use Rattle.card.specs.declared.Mode.{Mode}
 use Rattle.card.specs.declared.Mode.the-variants.{Reading, Writing}
 use Rattle.card.specs.declared.NewKey.{NewKey}
 use Rattle.card.specs.declared.NewKey.the-variants.{Absent, Present}
-use Rattle.card.specs.declared.Call.{Call}
 use Rattle.card.specs.declared.Refusal.{Refusal}
 use Rattle.card.specs.declared.Refusal.the-variants.{Misshapen, Unsound}
 use Rattle.card.specs.declared.Answer.{Answer}

@@ -1,15 +1,13 @@
 -- Laws of checks in order, and of a call judged by them.
 -- Assumes nothing.
-use Prim.Native.Nat.{ℕ}
-use mathlib.Core.Path.{_≡_, refl, sym, ap, _∙_, subst}
-use mathlib.Core.Bool.{Bool, true, false, not, cond, true≢false, false≢true}
+use mathlib.Core.Path.{_≡_, refl, ap, subst}
+use mathlib.Core.Bool.{Bool, true, false, not, cond, true≢false}
 use mathlib.Core.List.{List, [], _∷_}
-use mathlib.Core.Option.{Option, none, some}
-use Rattle.card.specs.ListsLaws.{not-cases}
+use mathlib.Core.Option.{none, some}
 use Rattle.card.specs.Card.{Card}
 use Rattle.card.specs.Soundness.{shape, sound}
 use Rattle.card.specs.SoundnessLaws.{SoundCard, true-shape, true-sound}
-use Rattle.card.specs.Plan.{Check, _⇒_, first, audited, Plan, Buffers, Result, refused, done, settle, judge, judgeSound}
+use Rattle.card.specs.Plan.{Check, _⇒_, first, audited, Plan, Buffers, refused, done, settle, judge, judgeSound}
 use Rattle.card.specs.declared.Refusal.{Refusal}
 use Rattle.card.specs.declared.Refusal.the-variants.{Misshapen, Unsound}
 

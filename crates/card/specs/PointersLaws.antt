@@ -1,17 +1,16 @@
 -- Laws of sorted lists of pointers.
 -- Assumes nothing.
-use Prim.Native.Nat.{ℕ, zero, suc, _+_, _-_, _*_, _/_, _%_, _≤_, _<_}
-use mathlib.Core.Path.{_≡_, refl, sym, ap, _∙_, subst}
+use Prim.Native.Nat.{ℕ, suc, _+_, _-_, _≤_, _<_}
+use mathlib.Core.Path.{_≡_, refl, sym, ap, subst}
 use mathlib.Core.Logic.{_⊎_, inl, inr, ⊎-elim}
-use mathlib.Core.Bool.{Bool, true, false, _&&_, _||_, not, cond}
-use mathlib.Core.List.{List, [], _∷_, _++_}
+use mathlib.Core.Bool.{Bool, true, false, _||_, not, cond}
+use mathlib.Core.List.{List, [], _∷_}
 use native.Mathlib.Omega.{arith}
 use lib.Dec.{eqb, ltb}
-use lib.ListN.{length, take, drop, getD, length-append, length-take, length-drop}
-use lib.Seq.{take-at, drop-at, length-take-le}
-use borrow.Author.Tests.{lt-ltb, le-ltb, eq-eqb, ne-eqb, ltb-true, ltb-false, eqb-true, eqb-false}
+use lib.ListN.{length}
+use borrow.Author.Tests.{lt-ltb, eq-eqb, ltb-true, ltb-false, eqb-true, eqb-false}
 use Rattle.card.specs.Lists.{all, any}
-use Rattle.card.specs.ListsLaws.{and-left, and-right, and-true, or-left, or-right, or-false-left, or-false-right, or-cases, not-cases, all-cons, all-head, all-tail, absurd-test, same-or-other}
+use Rattle.card.specs.ListsLaws.{and-left, and-right, and-true, or-left, or-right, or-false-left, or-false-right, or-cases, all-cons, all-head, all-tail, absurd-test}
 use Rattle.card.specs.Pointers.{pointer, source, destination, ascending, contains, pointsFrom, adds, pointersTo, insert, remove}
 
 -- ---- the ends of a pointer

@@ -1,9 +1,9 @@
 -- What the contracts of the calls cite: an answer, a card and two buffers are what a rule says.
 use Prim.Native.Nat.{ℕ}
-use mathlib.Core.Path.{_≡_, refl, sym, ap, _∙_, subst}
+use mathlib.Core.Path.{_≡_, refl, sym, ap, _∙_}
 use mathlib.Core.List.{List}
 use Rattle.card.specs.Card.{Card}
-use Rattle.card.specs.Plan.{Plan, Buffers, Result, refused, done, outAfter, placesAfter, changes, judge, judgeSound}
+use Rattle.card.specs.Plan.{Plan, Buffers, Result, outAfter, placesAfter, changes, judgeSound}
 use Rattle.card.specs.PlanLaws.{FirstHolds, NoneHolds, refused-by, done-by}
 use Rattle.card.specs.declared.Refusal.{Refusal}
 use Rattle.card.specs.declared.Answer.{Answer}

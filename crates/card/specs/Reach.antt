@@ -4,7 +4,7 @@ use mathlib.Core.Path.{_≡_}
 use mathlib.Core.Bool.{Bool, true, false, _&&_, _||_, not}
 use mathlib.Core.List.{List, [], _∷_}
 use lib.Dec.{eqb}
-use Rattle.card.specs.Card.{Public, Card, allocated, hasKey, isRoot, windowOpen, pointsTo, keyHigh, keyLow}
+use Rattle.card.specs.Card.{Card, allocated, hasKey, isRoot, windowOpen, pointsTo, keyHigh, keyLow}
 use Rattle.card.specs.Session.{Request, Sent, performed}
 use Rattle.card.specs.declared.Mode.{Mode}
 use Rattle.card.specs.declared.Mode.the-variants.{Reading, Writing}

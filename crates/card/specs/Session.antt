@@ -1,6 +1,6 @@
 -- One call performed, and a list of calls run, each on the card that the one before left.
 use Prim.Native.Nat.{ℕ}
-use mathlib.Core.Bool.{Bool, true, false, cond}
+use mathlib.Core.Bool.{cond}
 use mathlib.Core.List.{List, [], _∷_, _++_, map}
 use lib.Dec.{eqb}
 use lib.ListN.{length, take}
@@ -9,7 +9,7 @@ use Rattle.card.specs.Access.{admits, opens}
 use Rattle.card.specs.Plan.{Plan, Buffers, Result, judge, judgeSound}
 use Rattle.card.specs.Calls.{answerNumber, answerValues, modeOf, readPlan, writePlan, allocPlan, createPlan, deletePlan, keyPlan, renewPlan, forcePlan, freePlan, tickPlan, auditPlan}
 use Rattle.card.specs.declared.Port.{Port}
-use Rattle.card.specs.declared.Port.the-variants.{Host, Service}
+use Rattle.card.specs.declared.Port.the-variants.{Host}
 use Rattle.card.specs.declared.Mode.the-variants.{Reading, Writing}
 use Rattle.card.specs.declared.Credential.the-variants.{Key as KeyCredential}
 use Rattle.card.specs.declared.Answer.{Answer}

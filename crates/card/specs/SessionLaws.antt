@@ -1,7 +1,7 @@
 -- A call performed, by what the audit finds.
 -- Assumes nothing.
 use Prim.Native.Nat.{ℕ}
-use mathlib.Core.Path.{_≡_, refl, sym, ap, ap₂, _∙_, subst}
+use mathlib.Core.Path.{_≡_, refl, ap, ap₂, _∙_}
 use mathlib.Core.List.{List, [], _∷_}
 use Rattle.card.specs.Card.{Card}
 use Rattle.card.specs.Soundness.{verdict}

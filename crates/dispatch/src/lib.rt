@@ -4,7 +4,6 @@ use card::Call;
 use card::Info;
 use card::Outcome;
 use card::Port;
-ghost use mathlib.Core.Path.{_≡_};
 ghost use Rattle.card.specs.Card.{card};
 ghost use Rattle.card.specs.SoundnessLaws.{SoundCard};
 ghost use Rattle.card.specs.Promises.{Is};

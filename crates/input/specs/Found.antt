@@ -5,7 +5,7 @@ use mathlib.Core.Bool.{cond}
 use mathlib.Core.List.{List}
 use lib.Dec.{eqb}
 use lib.ListN.{length, take, drop, getD}
-use Rattle.records.specs.Decode.{Next, ended, refused, sent, decode}
+use Rattle.records.specs.Decode.{ended, refused, sent, decode}
 use Rattle.input.specs.Play.{fault}
 use Rattle.input.specs.declared.Stop.{Stop}
 use Rattle.input.specs.declared.Stop.the-variants.{Went, Ended, Short, Refused, Full}

@@ -1,12 +1,12 @@
 -- Laws of a record found in an input: from what the code finds to what the rules decode.
 -- Assumes nothing.
-use Prim.Native.Nat.{ℕ, zero, suc, _+_, _-_, _≤_, _<_}
+use Prim.Native.Nat.{ℕ, _+_, _-_, _≤_, _<_}
 use mathlib.Core.Path.{_≡_, refl, sym, ap, ap₂, _∙_, subst}
 use mathlib.Core.Bool.{Bool, true, false, cond}
-use mathlib.Core.List.{List, [], _∷_}
+use mathlib.Core.List.{List, _∷_}
 use native.Mathlib.Omega.{arith}
 use native.Mathlib.Numerals.{add-one}
-use lib.Dec.{eqb, ltb}
+use lib.Dec.{eqb}
 use lib.ListN.{length, take, drop, getD, length-drop}
 use lib.Seq.{take-all, drop-cons, drop-drop, drop-length}
 use borrow.Author.Tests.{lt-ltb, le-ltb, lt-leb, eqb-true}
@@ -15,8 +15,8 @@ use Rattle.card.specs.ListsLaws.{not-cases}
 use Rattle.card.specs.declared.Port.{Port}
 use Rattle.card.specs.declared.Call.{Call}
 use Rattle.kinds.specs.Kinds.{row, lengthOf, dataLength, operandsLength, kindOf, kindLength, bodyLength}
-use Rattle.records.specs.Decode.{Next, ended, refused, sent, decodeKnown, decodeBody, nameOf, dataOf, nextOf, decode}
-use Rattle.records.specs.DecodeLaws.{OfKind, decoded-kind}
+use Rattle.records.specs.Decode.{ended, sent, decodeKnown, decodeBody, nameOf, dataOf, nextOf, decode}
+use Rattle.records.specs.DecodeLaws.{decoded-kind}
 use Rattle.kinds.specs.declared.Name.{Name}
 use Rattle.kinds.specs.declared.Name.the-variants.{Read as READ, Write as WRITE, Alloc as ALLOC, Create as CREATE, Delete as DELETE, Key as KEY, Renew as RENEW, Force as FORCE, Free as FREE, Tick as TICK, Audit as AUDIT}
 use Rattle.kinds.specs.declared.Kind.{Kind}

@@ -1,15 +1,14 @@
 -- Laws of playing an input: record after record, whatever bounds their number.
 -- Assumes nothing.
 use Prim.Native.Nat.{ℕ, zero, suc, _+_, _-_, _≤_, _<_}
-use mathlib.Core.Path.{_≡_, refl, sym, ap, ap₂, _∙_, subst}
+use mathlib.Core.Path.{_≡_, refl, ap, ap₂, _∙_}
 use mathlib.Core.Bool.{Bool, true, false, cond}
-use mathlib.Core.List.{List, [], _∷_, _++_, append-assoc, append-nil}
+use mathlib.Core.List.{List, [], _∷_, _++_}
 use native.Mathlib.Omega.{arith}
 use lib.Dec.{ltb}
-use lib.ListN.{length, take, drop, getD, length-append}
-use borrow.Author.Tests.{lt-ltb, le-ltb, ltb-true, ltb-false}
+use lib.ListN.{length}
+use borrow.Author.Tests.{lt-ltb, le-ltb}
 use Rattle.card.specs.Card.{Card}
-use Rattle.card.specs.ListsLaws.{not-cases}
 use Rattle.records.specs.Decode.{Next, ended, refused, sent, decode}
 use Rattle.kinds.specs.Kinds.{bodyLength}
 use Rattle.records.specs.DecodeLaws.{decode-shorter}

@@ -1,14 +1,12 @@
 -- Laws of a line that is written piece by piece.
 -- Assumes nothing.
-use Prim.Native.Nat.{ℕ, zero, suc, _+_, _*_, _≤_, _<_}
-use mathlib.Core.Path.{_≡_, refl, sym, ap, _∙_, subst}
-use mathlib.Core.Bool.{Bool, true, false, cond}
+use Prim.Native.Nat.{ℕ, _+_, _≤_}
+use mathlib.Core.Path.{_≡_, refl, sym, ap, subst}
 use mathlib.Core.List.{List, [], _∷_, _++_, append-assoc, append-nil}
 use native.Mathlib.Omega.{arith}
-use lib.Dec.{eqb}
-use lib.ListN.{length, length-append, take, length-take}
-use Rattle.card.specs.Calls.{refusalNumber, answerNumber, answerValues}
-use Rattle.card.specs.Session.{Reply, reported, shownValues}
+use lib.ListN.{length, length-append, length-take}
+use Rattle.card.specs.Calls.{refusalNumber}
+use Rattle.card.specs.Session.{Reply, reported}
 use Rattle.card.specs.declared.Refusal.{Refusal}
 use Rattle.card.specs.declared.Refusal.the-variants.{Misshapen, Unsound, NotAllocated, BadOperand, NotOpened, IsRoot, PointerExists, NoPointer, HasPointers, TooFewBlocks, TooFewPlaces, TimeEnds, BadRecord}
 use Rattle.card.specs.declared.Answer.{Answer}
@@ -17,7 +15,7 @@ use Rattle.card.specs.declared.Call.{Call}
 use Rattle.lines.specs.declared.Shown.{Shown}
 use Rattle.lines.specs.declared.Shown.the-variants.{Nothing, Bytes, Blocks}
 use Rattle.lines.specs.Lines.{space, newline, decimal, spaced, line, lineRoom, lastLine}
-use Rattle.lines.specs.LinesLaws.{decimal-length, spaced-one, spaced-length, spaced-append}
+use Rattle.lines.specs.LinesLaws.{decimal-length, spaced-one, spaced-length}
 use Rattle.lines.specs.Replied.{Lent, shownBy, valuesOf, replied, values-shown}
 use Rattle.lines.specs.Written.{Written, written-join, written-length}
 

@@ -17,7 +17,6 @@ use Rattle.card.specs.declared.Call.the-variants.{Create, Key}
 use Rattle.fields.specs.declared.Presented.{Presented}
 use Rattle.fields.specs.declared.Presented.the-variants.{Good as Presents, Bad as BadCredential}
 use Rattle.fields.specs.declared.Replacing.{Replacing}
-use Rattle.fields.specs.declared.Replacing.the-variants.{Good as Replaces, Bad as BadKey}
 use Rattle.records.specs.declared.Decoding.{Decoding}
 use Rattle.records.specs.declared.Decoding.the-variants.{Decoded, Bad}
 use Rattle.operands.specs.Operands.{numbersOf, callerOf, keyingOf, Made, Good, BadOperands, atPort, madeWith, createOf, keyWith, keyOf}

@@ -1,9 +1,9 @@
 -- The loop of a player: what it has reached, and what one turn more makes of it.
 -- Assumes nothing.
-use Prim.Native.Nat.{ℕ, zero, suc, _+_, _-_, _≤_, _<_}
+use Prim.Native.Nat.{ℕ, _+_, _-_, _≤_, _<_}
 use mathlib.Core.Path.{_≡_, refl, sym, ap, ap₂, _∙_, subst}
-use mathlib.Core.Bool.{Bool, true, false, cond}
-use mathlib.Core.List.{List, [], _∷_, _++_, append-assoc}
+use mathlib.Core.Bool.{Bool, true, false}
+use mathlib.Core.List.{List, [], _++_, append-assoc}
 use native.Mathlib.Omega.{arith}
 use lib.ListN.{length, drop, length-append, length-drop}
 use Rattle.card.specs.Card.{Card, card}
@@ -12,11 +12,11 @@ use Rattle.records.specs.Decode.{Next, ended, refused, sent, decode}
 use Rattle.lines.specs.Lines.{lineRoom}
 use Rattle.lines.specs.Written.{Written, written-none, written-join, written-length}
 use Rattle.input.specs.Play.{Turn, turnOf, turn, Play, play}
-use Rattle.input.specs.PlayLaws.{behind, stopped, play-full, play-went, play-stopped, turn-left, fault-stops}
+use Rattle.input.specs.PlayLaws.{behind, play-full, play-went, play-stopped, turn-left}
 use Rattle.input.specs.Played.{PlayedIs, isWent, is-went, not-went}
 use Rattle.player.specs.Called.{TurnedIs}
 use Rattle.input.specs.declared.Stop.{Stop}
-use Rattle.input.specs.declared.Stop.the-variants.{Went, Ended, Short, Refused, Full}
+use Rattle.input.specs.declared.Stop.the-variants.{Went, Full}
 
 -- ---- a turn that did not go changes nothing
 

@@ -1,20 +1,20 @@
 -- Changes of blocks and pointers keep soundness in pairs: a block taken and pointed to, a pointer dropped and its block freed.
 -- Between the two the card is sound but for that block, which no pointer goes to.
 -- Assumes nothing.
-use Prim.Native.Nat.{ℕ, suc, _+_, _-_, _*_, _≤_, _<_}
+use Prim.Native.Nat.{ℕ, _+_, _-_, _*_, _≤_, _<_}
 use mathlib.Core.Path.{_≡_, refl, sym, ap, _∙_, subst}
 use mathlib.Core.Logic.{⊎-elim}
 use mathlib.Core.Bool.{true, false, _&&_, not}
 use mathlib.Core.List.{List, _∷_, _++_}
 use native.Mathlib.Omega.{arith}
 use lib.Dec.{eqb}
-use lib.ListN.{length, take, drop, getD, set, length-set, length-replicate, length-append, length-drop}
-use lib.Seq.{take-at, drop-at, getD-set-same, getD-set-other, drop-drop, length-take-le}
+use lib.ListN.{length, take, drop, getD, set, length-set, length-replicate}
+use lib.Seq.{getD-set-same, getD-set-other}
 use borrow.Author.Tests.{eq-eqb, ne-eqb, eqb-false, not-true}
 use Rattle.card.specs.Lists.{all}
 use Rattle.card.specs.ListsLaws.{and-left, and-right, and-true, absurd-test, false-unless, below-or-not, same-or-other, all-both, all-drop, all-cons}
 use Rattle.card.specs.Pointers.{pointer, source, destination, ascending, contains, adds, pointersTo, insert, remove}
-use Rattle.card.specs.PointersLaws.{source-pointer, destination-pointer, insert-length, insert-ascending, all-insert, pointersTo-insert, remove-length, remove-ascending, all-remove, pointersTo-remove, uncounted, contains-all, contains-counted, unpointing}
+use Rattle.card.specs.PointersLaws.{source-pointer, destination-pointer, insert-ascending, all-insert, pointersTo-insert, remove-ascending, all-remove, pointersTo-remove, uncounted, contains-all, contains-counted, unpointing}
 use Rattle.card.specs.Contents.{zeros}
 use Rattle.card.specs.ContentsLaws.{overwrite-length}
 use Rattle.card.specs.Card.{Public, Card, flag, allocatedFlag, keyFlag, allocated, windowAt, windowEnd, longestInterval, count, inUse, pointsTo, hasPointers}

@@ -1,24 +1,24 @@
 -- A set of blocks that is closed under the four rules of reach, and how it stays closed under each change of a card.
 -- Assumes nothing.
-use Prim.Native.Nat.{ℕ, zero, suc, _+_, _-_, _*_, _≤_, _<_}
+use Prim.Native.Nat.{ℕ, _+_, _-_, _*_, _≤_, _<_}
 use mathlib.Core.Path.{_≡_, refl, sym, ap, _∙_, subst}
 use mathlib.Core.Logic.{_⊎_, inl, inr, ⊎-elim}
-use mathlib.Core.Bool.{Bool, true, false, _&&_, _||_, not, cond, false≢true}
-use mathlib.Core.List.{List, [], _∷_, _++_}
+use mathlib.Core.Bool.{Bool, true, false, not, false≢true}
+use mathlib.Core.List.{List}
 use native.Mathlib.Omega.{arith}
-use lib.Dec.{eqb, ltb, leb}
-use lib.ListN.{length, take, drop, getD, set, length-set, length-append, length-take, length-drop}
-use lib.Seq.{getD-set-same, getD-set-other, set-out, take-at, length-take-le}
-use borrow.Author.Tests.{lt-ltb, le-ltb, ltb-true, ltb-false, eqb-true, eq-eqb, eqb-false}
+use lib.Dec.{eqb, ltb}
+use lib.ListN.{length, getD, set, length-set, length-append}
+use lib.Seq.{getD-set-same, getD-set-other, set-out}
+use borrow.Author.Tests.{lt-ltb, ltb-true, eq-eqb}
 use Rattle.card.specs.Lists.{all}
-use Rattle.card.specs.ListsLaws.{and-left, and-right, and-true, not-cases, absurd-test, same-or-other, below-or-not}
+use Rattle.card.specs.ListsLaws.{and-right, absurd-test, same-or-other, below-or-not}
 use Rattle.card.specs.Pointers.{pointer, source, destination, contains, insert, remove}
-use Rattle.card.specs.PointersLaws.{source-pointer, destination-pointer, contains-insert, contains-remove, contains-all, insert-length, remove-length}
-use Rattle.card.specs.Contents.{overwrite, fill, part, zeros}
-use Rattle.card.specs.ContentsLaws.{overwrite-length, overwrite-before, overwrite-behind, fill-length, block-fits}
-use Rattle.card.specs.Card.{Public, Card, flag, allocatedFlag, keyFlag, allocated, hasKey, isRoot, windowAt, windowEnd, windowOpen, inUse, pointsTo, keyAt, keyHigh, keyLow}
+use Rattle.card.specs.PointersLaws.{source-pointer, destination-pointer, contains-insert, contains-remove, contains-all}
+use Rattle.card.specs.Contents.{part, zeros}
+use Rattle.card.specs.ContentsLaws.{overwrite-length, fill-length, block-fits}
+use Rattle.card.specs.Card.{Public, Card, flag, allocated, hasKey, isRoot, windowAt, windowEnd, windowOpen, inUse, pointsTo, keyHigh, keyLow}
 use Rattle.card.specs.SoundnessLaws.{allocated-below}
-use Rattle.card.specs.Plan.{Change, setWindow, setBlock, setKeys, takeBlock, freeBlock, addPointer, dropPointer, setTime, replaceKeys, changePublic, changeKeys, changeContents, change}
+use Rattle.card.specs.Plan.{Change, setWindow, setBlock, setKeys, takeBlock, freeBlock, addPointer, dropPointer, setTime, changePublic, changeKeys, changeContents, change}
 use Rattle.card.specs.ChangesLaws.{windowAt-block, kept-high, kept-low, inserted-long, inserted-take, removed-take, removed-length}
 use Rattle.card.specs.Reach.{keyPresented, sealed}
 use Rattle.card.specs.declared.Mode.{Mode}

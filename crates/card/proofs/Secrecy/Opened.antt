@@ -1,13 +1,13 @@
 -- What a presented credential opens lies in every set that is closed under reach.
 -- Assumes nothing.
-use Prim.Native.Nat.{ℕ, _+_}
-use mathlib.Core.Path.{_≡_, refl, sym, ap, _∙_, subst}
-use mathlib.Core.Logic.{_⊎_, inl, inr, ⊎-elim}
-use mathlib.Core.Bool.{Bool, true, false, _&&_, _||_, not, cond}
+use Prim.Native.Nat.{ℕ}
+use mathlib.Core.Path.{_≡_, refl}
+use mathlib.Core.Logic.{_⊎_, ⊎-elim}
+use mathlib.Core.Bool.{Bool, true, false, _&&_, not, cond}
 use lib.Dec.{eqb}
 use borrow.Author.Tests.{eqb-true, eq-eqb}
 use Rattle.card.specs.ListsLaws.{and-left, and-right, and-true, and-false-left, and-false-right, or-cases, absurd-test}
-use Rattle.card.specs.Card.{Public, Card, allocated, hasKey, isRoot, windowOpen, pointsTo, keyHigh, keyLow}
+use Rattle.card.specs.Card.{Card, allocated, hasKey, isRoot, windowOpen, pointsTo, keyHigh, keyLow}
 use Rattle.card.specs.Access.{keyIs, keyOpens, opensKeyed, opensRoot, opensPointed, opens}
 use Rattle.card.specs.Reach.{shows, keyPresented, sealed}
 use Rattle.card.specs.declared.Mode.{Mode}

@@ -1,24 +1,24 @@
 -- Each call of a host, where it is done: it shows and writes blocks of the closed set alone.
 -- Assumes nothing.
-use Prim.Native.Nat.{ℕ, zero, suc, _+_, _*_, _≤_, _<_}
+use Prim.Native.Nat.{ℕ, _≤_, _<_}
 use mathlib.Core.Path.{_≡_, refl, sym, ap, _∙_, subst}
-use mathlib.Core.Logic.{_⊎_, inl, inr, ⊎-elim}
-use mathlib.Core.Bool.{Bool, true, false, _&&_, _||_, not, cond}
+use mathlib.Core.Logic.{inl, inr}
+use mathlib.Core.Bool.{Bool, true, false, not, cond}
 use mathlib.Core.List.{List, [], _∷_}
 use native.Mathlib.Omega.{arith}
-use lib.Dec.{eqb, ltb, leb}
-use lib.ListN.{length, getD, set}
+use lib.Dec.{eqb, ltb}
+use lib.ListN.{length, set}
 use lib.Seq.{getD-set-other}
 use borrow.Author.Tests.{eqb-true, eqb-false, ltb-true, not-false, not-true, ne-eqb}
 use Rattle.card.specs.Lists.{all}
-use Rattle.card.specs.ListsLaws.{or-left, or-right, or-false-left, and-left, and-right, and-true, all-head, all-tail, all-cons, all-map, absurd-test, same-or-other}
-use Rattle.card.specs.Pointers.{pointer, source, contains}
+use Rattle.card.specs.ListsLaws.{or-right, or-false-left, all-head, all-tail, all-map, absurd-test}
+use Rattle.card.specs.Pointers.{pointer, source}
 use Rattle.card.specs.PointersLaws.{all-insert, source-pointer}
-use Rattle.card.specs.Card.{Public, Card, flag, allocatedFlag, allocated, inUse, pointsTo, hasKey, freeBlocks, count}
+use Rattle.card.specs.Card.{Public, Card, allocated, inUse, pointsTo, hasKey, freeBlocks, count}
 use Rattle.card.specs.Soundness.{pointerRight}
 use Rattle.card.specs.SoundnessLaws.{SoundCard, pointerRight-true, allocated-below}
 use Rattle.card.specs.Access.{opens, admits}
-use Rattle.card.specs.Plan.{Change, setWindow, setBlock, setKeys, takeBlock, freeBlock, addPointer, dropPointer, setTime, changePublic, change, Shown, nothing, blockPart, numbers, Plan, Buffers}
+use Rattle.card.specs.Plan.{setWindow, setBlock, setKeys, takeBlock, freeBlock, addPointer, dropPointer, changePublic, change, Shown, nothing, blockPart, numbers, Plan, Buffers}
 use Rattle.card.specs.PlanLaws.{NoneHolds}
 use Rattle.card.specs.Calls.{windowAfter, opensWindow, modeOf, wanted, picks, takeAll, readPlan, writePlan, allocPlan, createPlan, deletePlan, keyPlan, renewPlan, forcePlan, freePlan, tickPlan, auditPlan}
 use Rattle.card.specs.Session.{plan}
@@ -38,8 +38,8 @@ use Rattle.card.specs.declared.ForceOperands.{ForceOperands}
 use Rattle.card.specs.declared.TickOperands.{TickOperands}
 use Rattle.card.specs.declared.Call.{Call}
 use Rattle.card.specs.declared.Call.the-variants.{Read, Write, Alloc, Create, Delete, Key, Renew, Force, Free, Tick, Audit}
-use Rattle.card.specs.PicksLaws.{Without, Distinct, none, more, Takeable, picks-takeable}
-use Rattle.card.proofs.Secrecy.Closed.{Closed, Regular, Allowed, Grown, inUse-added, used-added}
+use Rattle.card.specs.PicksLaws.{Without, Distinct, none, more, picks-takeable}
+use Rattle.card.proofs.Secrecy.Closed.{Closed, Regular, Grown, inUse-added, used-added}
 use Rattle.card.proofs.Secrecy.Steps.{AllowedAll}
 use Rattle.card.proofs.Secrecy.Opened.{AllPresented, opened-within}
 

@@ -1,22 +1,22 @@
 -- One call of a host on two cards, and a whole list of them.
 -- Assumes nothing.
-use Prim.Native.Nat.{ℕ, zero, suc, _+_, _≤_, _<_}
-use mathlib.Core.Path.{_≡_, refl, sym, ap, ap₂, _∙_, subst}
+use Prim.Native.Nat.{ℕ}
+use mathlib.Core.Path.{_≡_, refl, sym, ap, ap₂, _∙_}
 use mathlib.Core.Logic.{_⊎_, inl, inr, ⊎-elim}
-use mathlib.Core.Bool.{Bool, true, false, _&&_, _||_, not, cond}
+use mathlib.Core.Bool.{Bool, true, false, _&&_, not, cond}
 use mathlib.Core.List.{List, [], _∷_}
 use mathlib.Core.Option.{Option, none, some}
 use lib.Dec.{eqb}
 use lib.ListN.{length}
-use borrow.Author.Tests.{eqb-false, eq-eqb}
+use borrow.Author.Tests.{eq-eqb}
 use Rattle.card.specs.ListsLaws.{and-true, or-left, or-right, or-false-left, or-false-right, absurd-test}
 use Rattle.card.specs.Card.{Public, Card, allocated, freeBlocks, block, count}
 use Rattle.card.specs.SoundnessLaws.{SoundCard}
 use Rattle.card.specs.Access.{opens, admits}
-use Rattle.card.specs.Plan.{Change, setWindow, freeBlock, dropPointer, first, Shown, nothing, blockPart, numbers, Plan, Buffers, Result, refused, done, outAfter, settle, judge, judgeSound, changes}
+use Rattle.card.specs.Plan.{setWindow, freeBlock, first, Shown, nothing, blockPart, numbers, Plan, Buffers, Result, refused, done, outAfter, settle, judgeSound}
 use Rattle.card.specs.PlanLaws.{first-none, judge-sound}
 use Rattle.card.specs.Calls.{opensWindow, windowAfter, modeOf, wanted, picks, takeAll, readPlan, writePlan, allocPlan, createPlan, deletePlan, keyPlan, renewPlan, forcePlan, freePlan, tickPlan, auditPlan}
-use Rattle.card.specs.Session.{Request, Sent, plan, perform, reply, replies, afterAll, hostSession}
+use Rattle.card.specs.Session.{Request, plan, perform, reply, replies, afterAll, hostSession}
 use Rattle.card.specs.Reach.{shows, presents, presented, takesLast, isOne, lastTaken}
 use Rattle.card.specs.declared.Port.the-variants.{Host}
 use Rattle.card.specs.declared.Mode.{Mode}
@@ -27,7 +27,7 @@ use Rattle.card.specs.declared.Refusal.{Refusal}
 use Rattle.card.specs.declared.Call.{Call}
 use Rattle.card.specs.declared.Call.the-variants.{Read, Write, Alloc, Create, Delete, Key, Renew, Force, Free, Tick, Audit}
 use Rattle.card.proofs.Secrecy.Closed.{Closed}
-use Rattle.card.proofs.Secrecy.Steps.{Alike, Kept, AllowedAll, GrownAll, grows, closed-changes, alike-changes, covered, FreesNone, Apart, apart-changes}
+use Rattle.card.proofs.Secrecy.Steps.{Alike, Kept, GrownAll, grows, closed-changes, alike-changes, covered, FreesNone, Apart, apart-changes}
 use Rattle.card.proofs.Secrecy.Opened.{AllPresented}
 use Rattle.card.proofs.Secrecy.Plans.{sound-regular, ShownIn, Safe, CallPresents, safe}
 

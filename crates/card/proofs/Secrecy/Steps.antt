@@ -1,23 +1,21 @@
 -- Changes on two cards that agree on a set of blocks, and changes in order: what stays closed, alike and unwritten.
 -- Assumes nothing.
-use Prim.Native.Nat.{ℕ, zero, suc, _+_, _*_, _≤_, _<_}
+use Prim.Native.Nat.{ℕ, _+_, _*_, _≤_, _<_}
 use mathlib.Core.Path.{_≡_, refl, sym, ap, _∙_, subst}
 use mathlib.Core.Logic.{_⊎_, inl, inr, ⊎-elim}
-use mathlib.Core.Bool.{Bool, true, false, _&&_, not}
-use mathlib.Core.List.{List, [], _∷_, _++_}
+use mathlib.Core.Bool.{Bool, true, false}
+use mathlib.Core.List.{List, [], _∷_}
 use native.Mathlib.Omega.{arith}
-use lib.Dec.{eqb, ltb}
+use lib.Dec.{ltb}
 use lib.ListN.{length, getD, set, length-replicate}
 use lib.Seq.{getD-set-same, getD-set-other}
-use Rattle.card.specs.ListsLaws.{and-left, and-right, absurd-test, same-or-other}
-use Rattle.card.specs.Contents.{fill, part, zeros}
+use Rattle.card.specs.ListsLaws.{and-right, absurd-test, same-or-other}
+use Rattle.card.specs.Contents.{zeros}
 use Rattle.card.specs.ContentsLaws.{part-fill-same, part-fill-other, block-fits}
-use Rattle.card.specs.Card.{Public, Card, flag, allocated, block}
-use Rattle.card.specs.Plan.{Change, setWindow, setBlock, setKeys, takeBlock, freeBlock, addPointer, dropPointer, setTime, keyBit, changePublic, changeKeys, changeContents, change, changes}
-use Rattle.card.specs.declared.Mode.the-variants.{Reading, Writing}
+use Rattle.card.specs.Card.{Public, Card, allocated, block}
+use Rattle.card.specs.Plan.{Change, setWindow, setBlock, setKeys, takeBlock, freeBlock, addPointer, dropPointer, setTime, changePublic, changeKeys, changeContents, change, changes}
 use Rattle.card.specs.declared.NewKey.{NewKey}
-use Rattle.card.specs.declared.NewKey.the-variants.{Absent, Present}
-use Rattle.card.proofs.Secrecy.Closed.{Closed, Regular, Allowed, Taken, Grown, regular-change, closed-change}
+use Rattle.card.proofs.Secrecy.Closed.{Closed, Regular, Allowed, Grown, regular-change, closed-change}
 
 -- ---- the contents of a block after one change
 

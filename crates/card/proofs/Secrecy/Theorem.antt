@@ -1,17 +1,17 @@
 -- Demand 3: what a host session shows, and what it leaves, depends on no hidden block and on no unallocated one.
 -- Assumes nothing.
-use Prim.Native.Nat.{ℕ, _+_, _≤_, _<_}
-use mathlib.Core.Path.{_≡_, refl, sym, ap, ap₂, _∙_, subst}
+use Prim.Native.Nat.{ℕ, _<_}
+use mathlib.Core.Path.{_≡_, refl, sym, ap, _∙_}
 use mathlib.Core.Logic.{_⊎_, inl, inr, ⊎-elim, Dec·not-not}
-use mathlib.Core.Bool.{Bool, true, false, _||_}
+use mathlib.Core.Bool.{Bool, true, false}
 use mathlib.Core.List.{List, [], _∷_, List-discrete}
 use native.Mathlib.Decide.{ℕ-discrete}
-use Rattle.card.specs.ListsLaws.{or-left, or-right, not-cases, absurd-test}
-use Rattle.card.specs.Card.{Public, Card, allocated, isRoot, windowOpen, pointsTo, hasKey, keyHigh, keyLow, block}
+use Rattle.card.specs.ListsLaws.{or-left, or-right, absurd-test}
+use Rattle.card.specs.Card.{Card, allocated, block}
 use Rattle.card.specs.SoundnessLaws.{SoundCard, allocated-below}
 use Rattle.card.specs.Access.{keyOpens, opensKeyed, opens}
-use Rattle.card.specs.Plan.{Change, changePublic, changeKeys}
-use Rattle.card.specs.Session.{Request, Sent, perform, replies, afterAll, hostSession}
+use Rattle.card.specs.Plan.{changeKeys}
+use Rattle.card.specs.Session.{Request, Sent, replies, afterAll, hostSession}
 use Rattle.card.specs.Reach.{presents, presented, keyPresented, sealed, Reach, unsealedRoot, byKey, openWindow, pointed, Hidden, lastTaken}
 use Rattle.card.specs.declared.Mode.{Mode}
 use Rattle.card.specs.declared.Mode.the-variants.{Reading, Writing}
@@ -20,9 +20,7 @@ use Rattle.card.specs.declared.Credential.{Credential}
 use Rattle.card.specs.declared.Credential.the-variants.{Nothing, Reference, Key}
 use Rattle.card.proofs.Guarantees.KeepsSound.{done-sound}
 use Rattle.card.proofs.Secrecy.Closed.{Closed}
-use Rattle.card.proofs.Secrecy.Steps.{Alike, Kept}
-use Rattle.card.proofs.Secrecy.Opened.{AllPresented}
-use Rattle.card.proofs.Secrecy.Plans.{CallPresents}
+use Rattle.card.proofs.Secrecy.Steps.{Alike}
 use Rattle.card.proofs.Secrecy.Sessions.{KeyLink, KeepsSound, AllPresent, BothRun, both-run, hidden-kept}
 
 -- ---- the statement

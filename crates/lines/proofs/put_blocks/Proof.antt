@@ -1,6 +1,5 @@
 -- `lines::put_blocks` meets its contract. Assumes nothing.
 use borrow.Author.Needs.{needs}
-use native.Mathlib.Omega.{arith}
 use Prim.Native.Nat.{_-_}
 use lib.ListN.{length}
 use Rattle.lines.specs.LinesLaws.{Spacing, spacing-none, spacing-room, spacing-more, spacing-done}

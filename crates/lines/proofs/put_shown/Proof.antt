@@ -1,7 +1,7 @@
 -- `lines::put_shown` meets its contract. Assumes nothing.
 use mathlib.Core.Path.{sym}
 use native.Mathlib.Omega.{arith}
-use lib.ListN.{length, length-take}
+use lib.ListN.{length-take}
 use lib.Seq.{length-take-le}
 use Rattle.lines.specs.Lines.{spaced}
 use Rattle.lines.specs.Written.{written-none}

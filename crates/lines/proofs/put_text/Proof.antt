@@ -1,6 +1,5 @@
 -- `lines::put_text` meets its contract. Assumes nothing.
 use borrow.Author.Needs.{needs}
-use native.Mathlib.Omega.{arith}
 use Prim.Native.Nat.{_-_}
 use lib.ListN.{length}
 use Rattle.lines.specs.LinesLaws.{Copying, copying-none, copying-room, copying-more, copying-done}
