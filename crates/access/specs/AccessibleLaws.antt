@@ -3,7 +3,7 @@
 use Prim.Native.Nat.{ℕ, _<_}
 use mathlib.Core.Path.{_≡_, refl}
 use Rattle.card.specs.Card.{Card, allocated, hasKey, windowOpen, pointsTo}
-use Rattle.card.specs.SoundnessLaws.{SoundCard}
+use Rattle.card.specs.SoundCard.{SoundCard}
 use Rattle.card.specs.Access.{keyOpens, opensKeyed, opensPointed, opens, admits}
 use Rattle.card.specs.declared.Mode.{Mode}
 use Rattle.card.specs.declared.Mode.the-variants.{Reading, Writing}

@@ -5,7 +5,7 @@ use card::Outcome;
 use records::Decoding;
 ghost use mathlib.Core.Path.{_≡_};
 ghost use lib.ListN.{length};
-ghost use Rattle.card.specs.Card.{card};
+ghost use Rattle.card.specs.Lent.{atEntry, atExit};
 ghost use Rattle.card.specs.Calls.{answerNumber};
 ghost use Rattle.operands.specs.Operands.{recordOf, numbersOf};
 ghost use Rattle.adapter.specs.Effects.{valueAfter, effect, dataSize, dataFrom, Gives};
@@ -55,7 +55,7 @@ pub fn perform(
     places: &mut [u16],
     value: &mut u64,
 ) -> u32
-    ensures { λ r. ⌜ Gives (effect (decoding) (now (info .entry)) (card (recordOf (now (info .entry))) (now (flags .entry)) (now (keys .entry)) (now (counts .entry)) (now (pointers .entry)) (now (windows .entry)) (now (contents .entry))) (now (input .entry)) (now (out .entry)) (now (places .entry)) (now (value .entry))) r (now (value .exit)) (now (info .exit)) (card (recordOf (now (info .exit))) (now (flags .exit)) (now (keys .exit)) (now (counts .exit)) (now (pointers .exit)) (now (windows .exit)) (now (contents .exit))) (now (out .exit)) (now (places .exit)) ⌝ }
+    ensures { λ r. ⌜ Gives (effect (decoding) (now (info .entry)) (atEntry (recordOf (now (info .entry))) flags keys counts pointers windows contents) (now (input .entry)) (now (out .entry)) (now (places .entry)) (now (value .entry))) r (now (value .exit)) (now (info .exit)) (atExit (recordOf (now (info .exit))) flags keys counts pointers windows contents) (now (out .exit)) (now (places .exit)) ⌝ }
 {
     let Decoding::Decoded(port, call) = decoding else {
         return 13;

@@ -11,7 +11,7 @@ use lib.ListN.{length}
 use borrow.Author.Tests.{lt-ltb, le-ltb, eq-eqb, ne-eqb, ltb-true, ltb-false, not-false}
 use Rattle.card.specs.ListsLaws.{or-false-left, or-false-right, and-true, absurd-test, not-cases}
 use Rattle.card.specs.Card.{Card, card, freeBlocks}
-use Rattle.card.specs.SoundnessLaws.{SoundCard}
+use Rattle.card.specs.SoundCard.{SoundCard}
 use Rattle.card.specs.Access.{admits}
 use Rattle.card.specs.Plan.{outAfter, placesAfter}
 use Rattle.card.specs.PlanLaws.{FirstHolds, here, later, NoneHolds}

@@ -12,7 +12,7 @@ use Rattle.card.specs.Pointers.{pointer, ascending, contains, insert}
 use Rattle.card.specs.PointersLaws.{insert-ascending}
 use Rattle.card.specs.ChangesLaws.{inserted-take, inserted-length}
 use Rattle.card.specs.Card.{Card, card, flag, inUse, freeBlocks, pointsTo}
-use Rattle.card.specs.SoundnessLaws.{SoundCard}
+use Rattle.card.specs.SoundCard.{SoundCard}
 use Rattle.card.specs.Plan.{withUsed, changePublic, changeKeys, changeContents, change, changes}
 use Rattle.card.specs.Calls.{picks, takeAll}
 use Rattle.card.specs.declared.Info.{Info}

@@ -17,7 +17,8 @@ use Rattle.card.specs.Pointers.{pointer, contains, remove}
 use Rattle.card.specs.PointersLaws.{remove-length}
 use Rattle.card.specs.Contents.{overwrite}
 use Rattle.card.specs.Card.{Public, Card, flag, allocatedFlag, allocated, freeBlocks, pointsTo}
-use Rattle.card.specs.SoundnessLaws.{SoundCard, flag-allocated, allocated-flag}
+use Rattle.card.specs.SoundCard.{SoundCard}
+use Rattle.card.specs.SoundnessLaws.{flag-allocated, allocated-flag}
 use Rattle.card.specs.Plan.{Change, takeBlock, addPointer, withFlags, changePublic, change, changes}
 use Rattle.card.specs.Calls.{picks, takeAll}
 use Rattle.card.proofs.Guarantees.Steps.{allocated-set, allocated-other, block-within}

@@ -8,7 +8,7 @@ use lib.Dec.{eqb, ltb}
 use lib.ListN.{length, getD, set}
 use Rattle.card.specs.Contents.{overwrite, fill, zeros}
 use Rattle.card.specs.Card.{Card, allocated, freeBlocks}
-use Rattle.card.specs.SoundnessLaws.{SoundCard}
+use Rattle.card.specs.SoundCard.{SoundCard}
 use Rattle.card.specs.Plan.{changes}
 use Rattle.card.specs.Calls.{noHint, distance, takeAll}
 

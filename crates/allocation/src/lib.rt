@@ -10,10 +10,10 @@ ghost use mathlib.Core.Path.{_≡_};
 ghost use mathlib.Core.List.{[]};
 ghost use Prim.Native.Nat.{_≤_, _<_};
 ghost use lib.ListN.{length};
+ghost use Rattle.card.specs.Lent.{Performs, lent, atEntry, atExit};
 ghost use Rattle.card.specs.Card.{card, freeBlocks};
-ghost use Rattle.card.specs.SoundnessLaws.{SoundCard};
+ghost use Rattle.card.specs.SoundCard.{SoundCard};
 ghost use Rattle.card.specs.Calls.{wanted, picks};
-ghost use Rattle.card.specs.Promises.{Is};
 ghost use Rattle.card.specs.Session.{request, performSound};
 ghost use Rattle.card.specs.declared.Call.the-variants.{Alloc};
 ghost use Rattle.checks.specs.Checked.{checked};
@@ -79,10 +79,10 @@ fn take_all(
     count: usize,
     places: &mut [u16],
 ) -> Info
-    requires { ⌜ Ready (card info (now flags) (now keys) (now counts) (now pointers) (now windows) (now contents)) reference want count ⌝ }
+    requires { ⌜ Ready (lent info flags keys counts pointers windows contents) reference want count ⌝ }
     requires { ⌜ count ≤ length (now places) ⌝ }
     requires { ⌜ count ≤ 64 ⌝ }
-    ensures { λ r. ⌜ Took (card info (now (flags .entry)) (now (keys .entry)) (now (counts .entry)) (now (pointers .entry)) (now (windows .entry)) (now (contents .entry))) reference (picks want count (freeBlocks (card info (now (flags .entry)) (now (keys .entry)) (now (counts .entry)) (now (pointers .entry)) (now (windows .entry)) (now (contents .entry)) .public))) (now (places .entry)) (card r (now (flags .exit)) (now (keys .entry)) (now (counts .exit)) (now (pointers .exit)) (now (windows .entry)) (now (contents .exit))) (now (places .exit)) ⌝ }
+    ensures { λ r. ⌜ Took (atEntry info flags keys counts pointers windows contents) reference (picks want count (freeBlocks (atEntry info flags keys counts pointers windows contents .public))) (now (places .entry)) (atExit r flags keys counts pointers windows contents) (now (places .exit)) ⌝ }
 {
     let blocks = info.blocks;
     let bytes = info.bytes;
@@ -139,8 +139,8 @@ fn alloc_check(
     o: AllocOperands,
     places: &[u16],
 ) -> Checked
-    requires { ⌜ SoundCard (card info (now flags) (now keys) (now counts) (now pointers) (now windows) (now contents)) ⌝ }
-    ensures { λ r. ⌜ r ≡ checked port (card info (now (flags .entry)) (now (keys .entry)) (now (counts .entry)) (now (pointers .entry)) (now (windows .entry)) (now (contents .entry))) (request (Alloc o) [] [] (now (places .entry))) ⌝ }
+    requires { ⌜ SoundCard (lent info flags keys counts pointers windows contents) ⌝ }
+    ensures { λ r. ⌜ r ≡ checked port (atEntry info flags keys counts pointers windows contents) (request (Alloc o) [] [] (now (places .entry))) ⌝ }
 {
     let credential = o.credential;
     let from = o.reference as usize;
@@ -189,8 +189,8 @@ pub fn alloc_sound(
     o: AllocOperands,
     places: &mut [u16],
 ) -> Outcome
-    requires { ⌜ SoundCard (card info (now flags) (now keys) (now counts) (now pointers) (now windows) (now contents)) ⌝ }
-    ensures { λ r. ⌜ Is (performSound port (card info (now (flags .entry)) (now (keys .entry)) (now (counts .entry)) (now (pointers .entry)) (now (windows .entry)) (now (contents .entry))) (request (Alloc o) [] [] (now (places .entry)))) (r .answer) (card (r .info) (now (flags .exit)) (now (keys .entry)) (now (counts .exit)) (now (pointers .exit)) (now (windows .entry)) (now (contents .exit))) [] (now (places .exit)) ⌝ }
+    requires { ⌜ SoundCard (lent info flags keys counts pointers windows contents) ⌝ }
+    ensures { λ r. ⌜ Performs (λ c. performSound port c (request (Alloc o) [] [] (now (places .entry)))) info flags keys counts pointers windows contents r [] (now (places .exit)) ⌝ }
 {
     match alloc_check(
         info,

@@ -12,7 +12,8 @@ use Rattle.card.specs.ListsLaws.{and-left, and-right, and-true, same-test, fals
 use Rattle.card.specs.Pointers.{ascending, pointersTo}
 use Rattle.card.specs.Card.{Public, Card, allocated, inUse}
 use Rattle.card.specs.Soundness.{soundClauses, flagsBelow8, rootAllocated, keyZero, unallocatedEmpty, absentKeyZero, countRight, pointedTo, windowInTime, pointerRight, shape, sound, verdict}
-use Rattle.card.specs.SoundnessLaws.{Shaped, shape-true, misshapen-verdict}
+use Rattle.card.specs.SoundCard.{Shaped}
+use Rattle.card.specs.SoundnessLaws.{shape-true, misshapen-verdict}
 use Rattle.card.specs.declared.Verdict.{Verdict}
 use Rattle.card.specs.declared.Verdict.the-variants.{Misshapen, Unsound}
 use Rattle.audit.specs.Walks.{judged, pointing, PointersFit, passes, PointersWalked, rowed, RowsFit, blockClauses, blockSound}

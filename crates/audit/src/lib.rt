@@ -5,6 +5,7 @@ ghost use mathlib.Core.List.{[]};
 ghost use Prim.Native.Nat.{_+_, _<_, _≤_};
 ghost use lib.ListN.{length, drop, getD, replicate};
 ghost use lib.Dec.{eqb};
+ghost use Rattle.card.specs.Lent.{atEntry};
 ghost use Rattle.card.specs.Lists.{all, allBelow};
 ghost use Rattle.card.specs.Card.{card, allocated};
 ghost use Rattle.card.specs.Soundness.{pointerRight, sound, verdict};
@@ -188,7 +189,7 @@ pub fn audit(
     windows: &[u64],
     contents: &[u8],
 ) -> Verdict
-    ensures { λ r. ⌜ r ≡ verdict (card info (now (flags .entry)) (now (keys .entry)) (now (counts .entry)) (now (pointers .entry)) (now (windows .entry)) (now (contents .entry))) ⌝ }
+    ensures { λ r. ⌜ r ≡ verdict (atEntry info flags keys counts pointers windows contents) ⌝ }
 {
     if shape::shaped(info, flags, keys, counts, pointers, windows, contents) {
         walk(info, flags, keys, counts, pointers, windows)

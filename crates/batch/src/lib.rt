@@ -14,6 +14,7 @@ use lines::Shown;
 ghost use Prim.Native.Nat.{_+_, _-_, _*_, _≤_};
 ghost use lib.ListN.{length, take, drop};
 ghost use mathlib.Core.Path.{_≡_};
+ghost use Rattle.card.specs.Lent.{lent, atEntry, atExit};
 ghost use Rattle.card.specs.Card.{card};
 ghost use Rattle.card.specs.Soundness.{verdict};
 ghost use Rattle.fields.specs.Bytes.{bytes};
@@ -151,8 +152,8 @@ fn answer_call(
     to: &mut [u8],
     at: usize,
 ) -> Wrote
-    requires { ⌜ found ≡ verdict (card info (now flags) (now keys) (now counts) (now pointers) (now windows) (now contents)) ⌝ ∗ ⌜ at + answerRoom (info .bytes) call ≤ length (now to) ⌝ }
-    ensures { λ r. ⌜ AnsweredIs call (served port (card info (now (flags .entry)) (now (keys .entry)) (now (counts .entry)) (now (pointers .entry)) (now (windows .entry)) (now (contents .entry))) call (now (payload .entry))) (answerRoom (info .bytes) call) (card (r .info) (now (flags .exit)) (now (keys .exit)) (now (counts .exit)) (now (pointers .exit)) (now (windows .exit)) (now (contents .exit))) (now (to .entry)) at (now (to .exit)) (r .at) ⌝ }
+    requires { ⌜ found ≡ verdict (lent info flags keys counts pointers windows contents) ⌝ ∗ ⌜ at + answerRoom (info .bytes) call ≤ length (now to) ⌝ }
+    ensures { λ r. ⌜ AnsweredIs call (served port (atEntry info flags keys counts pointers windows contents) call (now (payload .entry))) (answerRoom (info .bytes) call) (atExit (r .info) flags keys counts pointers windows contents) (now (to .entry)) at (now (to .exit)) (r .at) ⌝ }
 {
     let mut places = [0u16; 64];
     let size = lent_size(info, call);
@@ -197,8 +198,8 @@ fn serve_turn(
     to: &mut [u8],
     at: usize,
 ) -> Turned
-    requires { ⌜ found ≡ verdict (card info (now flags) (now keys) (now counts) (now pointers) (now windows) (now contents)) ⌝ ∗ ⌜ from ≤ length (now input) ⌝ ∗ ⌜ at ≤ length (now to) ⌝ }
-    ensures { λ r. ⌜ TurnIs (turn (card info (now (flags .entry)) (now (keys .entry)) (now (counts .entry)) (now (pointers .entry)) (now (windows .entry)) (now (contents .entry))) (drop from (now (input .entry))) (length (now (to .entry)) - at)) (length (now (to .entry)) - at) (r .stop) (card (r .info) (now (flags .exit)) (now (keys .exit)) (now (counts .exit)) (now (pointers .exit)) (now (windows .exit)) (now (contents .exit))) (now (input .entry)) (r .from) (now (to .entry)) at (now (to .exit)) (r .at) ⌝ }
+    requires { ⌜ found ≡ verdict (lent info flags keys counts pointers windows contents) ⌝ ∗ ⌜ from ≤ length (now input) ⌝ ∗ ⌜ at ≤ length (now to) ⌝ }
+    ensures { λ r. ⌜ TurnIs (turn (atEntry info flags keys counts pointers windows contents) (drop from (now (input .entry))) (length (now (to .entry)) - at)) (length (now (to .entry)) - at) (r .stop) (atExit (r .info) flags keys counts pointers windows contents) (now (input .entry)) (r .from) (now (to .entry)) at (now (to .exit)) (r .at) ⌝ }
 {
     let sent = input::find(input, from);
     match sent {
@@ -262,7 +263,7 @@ pub fn serve(
     input: &[u8],
     answers: &mut [u8],
 ) -> Part
-    ensures { λ r. ⌜ PlayedIs (serve (card info (now (flags .entry)) (now (keys .entry)) (now (counts .entry)) (now (pointers .entry)) (now (windows .entry)) (now (contents .entry))) (now (input .entry)) (length (now (answers .entry)))) (r .stop) (r .records) (card (r .info) (now (flags .exit)) (now (keys .exit)) (now (counts .exit)) (now (pointers .exit)) (now (windows .exit)) (now (contents .exit))) (now (input .entry)) (r .read) (now (answers .entry)) (now (answers .exit)) (r .written) ⌝ }
+    ensures { λ r. ⌜ PlayedIs (serve (atEntry info flags keys counts pointers windows contents) (now (input .entry)) (length (now (answers .entry)))) (r .stop) (r .records) (atExit (r .info) flags keys counts pointers windows contents) (now (input .entry)) (r .read) (now (answers .entry)) (now (answers .exit)) (r .written) ⌝ }
 {
     let found = audit::audit(info, flags, keys, counts, pointers, windows, contents);
     let mut left = info;

@@ -16,8 +16,8 @@ use card::TickOperands;
 use card::Verdict;
 use card::WriteOperands;
 ghost use mathlib.Core.List.{[]};
+ghost use Rattle.card.specs.Lent.{Performs};
 ghost use Rattle.card.specs.Card.{card};
-ghost use Rattle.card.specs.Promises.{Is};
 ghost use Rattle.card.specs.Session.{request, perform};
 
 // "READ(b, credential, interval, out)"
@@ -33,7 +33,7 @@ pub fn read(
     o: ReadOperands,
     out: &mut [u8],
 ) -> Outcome
-    ensures { λ r. ⌜ Is (perform port (card info (now (flags .entry)) (now (keys .entry)) (now (counts .entry)) (now (pointers .entry)) (now (windows .entry)) (now (contents .entry))) (request (Call.Read o) [] (now (out .entry)) [])) (r .answer) (card (r .info) (now (flags .entry)) (now (keys .entry)) (now (counts .entry)) (now (pointers .entry)) (now (windows .exit)) (now (contents .entry))) (now (out .exit)) [] ⌝ }
+    ensures { λ r. ⌜ Performs (λ c. perform port c (request (Call.Read o) [] (now (out .entry)) [])) info flags keys counts pointers windows contents r (now (out .exit)) [] ⌝ }
 {
     let verdict = audit::audit(info, flags, keys, counts, pointers, windows, contents);
     match verdict {
@@ -67,7 +67,7 @@ pub fn write(
     o: WriteOperands,
     input: &[u8],
 ) -> Outcome
-    ensures { λ r. ⌜ Is (perform port (card info (now (flags .entry)) (now (keys .entry)) (now (counts .entry)) (now (pointers .entry)) (now (windows .entry)) (now (contents .entry))) (request (Call.Write o) (now (input .entry)) [] [])) (r .answer) (card (r .info) (now (flags .entry)) (now (keys .entry)) (now (counts .entry)) (now (pointers .entry)) (now (windows .exit)) (now (contents .exit))) [] [] ⌝ }
+    ensures { λ r. ⌜ Performs (λ c. perform port c (request (Call.Write o) (now (input .entry)) [] [])) info flags keys counts pointers windows contents r [] [] ⌝ }
 {
     let verdict = audit::audit(info, flags, keys, counts, pointers, windows, contents);
     match verdict {
@@ -101,7 +101,7 @@ pub fn alloc(
     o: AllocOperands,
     places: &mut [u16],
 ) -> Outcome
-    ensures { λ r. ⌜ Is (perform port (card info (now (flags .entry)) (now (keys .entry)) (now (counts .entry)) (now (pointers .entry)) (now (windows .entry)) (now (contents .entry))) (request (Call.Alloc o) [] [] (now (places .entry)))) (r .answer) (card (r .info) (now (flags .exit)) (now (keys .entry)) (now (counts .exit)) (now (pointers .exit)) (now (windows .entry)) (now (contents .exit))) [] (now (places .exit)) ⌝ }
+    ensures { λ r. ⌜ Performs (λ c. perform port c (request (Call.Alloc o) [] [] (now (places .entry)))) info flags keys counts pointers windows contents r [] (now (places .exit)) ⌝ }
 {
     match audit::audit(info, flags, keys, counts, pointers, windows, contents) {
         Verdict::Misshapen => outcomes::refused(info, Refusal::Misshapen),
@@ -133,7 +133,7 @@ pub fn create(
     port: Port,
     o: CreateOperands,
 ) -> Outcome
-    ensures { λ r. ⌜ Is (perform port (card info (now (flags .entry)) (now (keys .entry)) (now (counts .entry)) (now (pointers .entry)) (now (windows .entry)) (now (contents .entry))) (request (Call.Create o) [] [] [])) (r .answer) (card (r .info) (now (flags .entry)) (now (keys .entry)) (now (counts .exit)) (now (pointers .exit)) (now (windows .entry)) (now (contents .entry))) [] [] ⌝ }
+    ensures { λ r. ⌜ Performs (λ c. perform port c (request (Call.Create o) [] [] [])) info flags keys counts pointers windows contents r [] [] ⌝ }
 {
     match audit::audit(info, flags, keys, counts, pointers, windows, contents) {
         Verdict::Misshapen => outcomes::refused(info, Refusal::Misshapen),
@@ -164,7 +164,7 @@ pub fn delete(
     port: Port,
     o: DeleteOperands,
 ) -> Outcome
-    ensures { λ r. ⌜ Is (perform port (card info (now (flags .entry)) (now (keys .entry)) (now (counts .entry)) (now (pointers .entry)) (now (windows .entry)) (now (contents .entry))) (request (Call.Delete o) [] [] [])) (r .answer) (card (r .info) (now (flags .exit)) (now (keys .exit)) (now (counts .exit)) (now (pointers .exit)) (now (windows .exit)) (now (contents .entry))) [] [] ⌝ }
+    ensures { λ r. ⌜ Performs (λ c. perform port c (request (Call.Delete o) [] [] [])) info flags keys counts pointers windows contents r [] [] ⌝ }
 {
     match audit::audit(info, flags, keys, counts, pointers, windows, contents) {
         Verdict::Misshapen => outcomes::refused(info, Refusal::Misshapen),
@@ -195,7 +195,7 @@ pub fn key(
     port: Port,
     o: KeyOperands,
 ) -> Outcome
-    ensures { λ r. ⌜ Is (perform port (card info (now (flags .entry)) (now (keys .entry)) (now (counts .entry)) (now (pointers .entry)) (now (windows .entry)) (now (contents .entry))) (request (Call.Key o) [] [] [])) (r .answer) (card (r .info) (now (flags .exit)) (now (keys .exit)) (now (counts .entry)) (now (pointers .entry)) (now (windows .exit)) (now (contents .entry))) [] [] ⌝ }
+    ensures { λ r. ⌜ Performs (λ c. perform port c (request (Call.Key o) [] [] [])) info flags keys counts pointers windows contents r [] [] ⌝ }
 {
     let verdict = audit::audit(info, flags, keys, counts, pointers, windows, contents);
     match verdict {
@@ -226,7 +226,7 @@ pub fn renew(
     contents: &[u8],
     o: RenewOperands,
 ) -> Outcome
-    ensures { λ r. ⌜ ((port : Port) → Is (perform port (card info (now (flags .entry)) (now (keys .entry)) (now (counts .entry)) (now (pointers .entry)) (now (windows .entry)) (now (contents .entry))) (request (Call.Renew o) [] [] [])) (r .answer) (card (r .info) (now (flags .entry)) (now (keys .entry)) (now (counts .entry)) (now (pointers .entry)) (now (windows .exit)) (now (contents .entry))) [] []) ⌝ }
+    ensures { λ r. ⌜ ((port : Port) → Performs (λ c. perform port c (request (Call.Renew o) [] [] [])) info flags keys counts pointers windows contents r [] []) ⌝ }
 {
     let verdict = audit::audit(info, flags, keys, counts, pointers, windows, contents);
     match verdict {
@@ -256,7 +256,7 @@ pub fn force(
     contents: &[u8],
     o: ForceOperands,
 ) -> Outcome
-    ensures { λ r. ⌜ ((port : Port) → Is (perform port (card info (now (flags .entry)) (now (keys .entry)) (now (counts .entry)) (now (pointers .entry)) (now (windows .entry)) (now (contents .entry))) (request (Call.Force o) [] [] [])) (r .answer) (card (r .info) (now (flags .entry)) (now (keys .entry)) (now (counts .entry)) (now (pointers .entry)) (now (windows .exit)) (now (contents .entry))) [] []) ⌝ }
+    ensures { λ r. ⌜ ((port : Port) → Performs (λ c. perform port c (request (Call.Force o) [] [] [])) info flags keys counts pointers windows contents r [] []) ⌝ }
 {
     let verdict = audit::audit(info, flags, keys, counts, pointers, windows, contents);
     match verdict {
@@ -285,7 +285,7 @@ pub fn free(
     windows: &[u64],
     contents: &[u8],
 ) -> Outcome
-    ensures { λ r. ⌜ ((port : Port) → Is (perform port (card info (now (flags .entry)) (now (keys .entry)) (now (counts .entry)) (now (pointers .entry)) (now (windows .entry)) (now (contents .entry))) (request (Call.Free) [] [] [])) (r .answer) (card (r .info) (now (flags .entry)) (now (keys .entry)) (now (counts .entry)) (now (pointers .entry)) (now (windows .entry)) (now (contents .entry))) [] []) ⌝ }
+    ensures { λ r. ⌜ ((port : Port) → Performs (λ c. perform port c (request (Call.Free) [] [] [])) info flags keys counts pointers windows contents r [] []) ⌝ }
 {
     let verdict = audit::audit(info, flags, keys, counts, pointers, windows, contents);
     match verdict {
@@ -314,7 +314,7 @@ pub fn tick(
     contents: &[u8],
     o: TickOperands,
 ) -> Outcome
-    ensures { λ r. ⌜ ((port : Port) → Is (perform port (card info (now (flags .entry)) (now (keys .entry)) (now (counts .entry)) (now (pointers .entry)) (now (windows .entry)) (now (contents .entry))) (request (Call.Tick o) [] [] [])) (r .answer) (card (r .info) (now (flags .entry)) (now (keys .entry)) (now (counts .entry)) (now (pointers .entry)) (now (windows .entry)) (now (contents .entry))) [] []) ⌝ }
+    ensures { λ r. ⌜ ((port : Port) → Performs (λ c. perform port c (request (Call.Tick o) [] [] [])) info flags keys counts pointers windows contents r [] []) ⌝ }
 {
     let verdict = audit::audit(info, flags, keys, counts, pointers, windows, contents);
     match verdict {
@@ -343,7 +343,7 @@ pub fn audit(
     windows: &[u64],
     contents: &[u8],
 ) -> Outcome
-    ensures { λ r. ⌜ ((port : Port) → Is (perform port (card info (now (flags .entry)) (now (keys .entry)) (now (counts .entry)) (now (pointers .entry)) (now (windows .entry)) (now (contents .entry))) (request (Call.Audit) [] [] [])) (r .answer) (card (r .info) (now (flags .entry)) (now (keys .entry)) (now (counts .entry)) (now (pointers .entry)) (now (windows .entry)) (now (contents .entry))) [] []) ⌝ }
+    ensures { λ r. ⌜ ((port : Port) → Performs (λ c. perform port c (request (Call.Audit) [] [] [])) info flags keys counts pointers windows contents r [] []) ⌝ }
 {
     let verdict = audit::audit(info, flags, keys, counts, pointers, windows, contents);
     match verdict {

@@ -6,6 +6,7 @@ pub mod Contents
 pub mod ContentsLaws
 pub mod Card
 pub mod Soundness
+pub mod SoundCard
 pub mod SoundnessLaws
 pub mod Access
 pub mod Plan
@@ -14,6 +15,7 @@ pub mod PlanLaws
 pub mod Calls
 pub mod PicksLaws
 pub mod Promises
+pub mod Lent
 pub mod Session
 pub mod SessionLaws
 pub mod BuffersLaws

@@ -6,7 +6,8 @@ use mathlib.Core.List.{List, [], _∷_}
 use mathlib.Core.Option.{none, some}
 use Rattle.card.specs.Card.{Card}
 use Rattle.card.specs.Soundness.{shape, sound}
-use Rattle.card.specs.SoundnessLaws.{SoundCard, true-shape, true-sound}
+use Rattle.card.specs.SoundCard.{SoundCard}
+use Rattle.card.specs.SoundnessLaws.{true-shape, true-sound}
 use Rattle.card.specs.Plan.{Check, _⇒_, first, audited, Plan, Buffers, refused, done, settle, judge, judgeSound}
 use Rattle.card.specs.declared.Refusal.{Refusal}
 use Rattle.card.specs.declared.Refusal.the-variants.{Misshapen, Unsound}

@@ -1,4 +1,4 @@
--- Shape and soundness as statements, a field for each clause, and the two ways between them and the tests.
+-- The two ways between the tests of shape and soundness and the statements of SoundCard.
 -- Assumes nothing.
 use Prim.Native.Nat.{ℕ, _+_, _*_, _%_, _≤_, _<_}
 use mathlib.Core.Path.{_≡_, refl, ap}
@@ -13,10 +13,11 @@ use Rattle.card.specs.ListsLaws.{and-left, and-right, and-true, or-else,
 use Rattle.card.specs.Pointers.{ascending, source, destination, pointersTo}
 use Rattle.card.specs.Card.{Public, Card, flag, allocatedFlag, keyFlag, allocated, isRoot, windowEnd, longestInterval, count, inUse, keyHigh, keyLow}
 use Rattle.card.specs.Soundness.{timeLimit, rangeClauses, ranges, lengthClauses, lengths, shapeClauses, shape, soundClauses, flagsBelow8, rootAllocated, keyZero, unallocatedEmpty, absentKeyZero, countRight, pointedTo, windowInTime, pointerRight, sound, verdict}
+use Rattle.card.specs.SoundCard.{InRanges, HasLengths, Shaped, KeyZero, Empty, RightPointer, Consistent, SoundCard}
 use Rattle.card.specs.declared.Mode.{Mode}
 use Rattle.card.specs.declared.Mode.the-variants.{Reading, Writing}
 use Rattle.card.specs.declared.Verdict.{Verdict}
-use Rattle.card.specs.declared.Verdict.the-variants.{Misshapen, Unsound, Sound as FoundSound}
+use Rattle.card.specs.declared.Verdict.the-variants.{Misshapen, Unsound, Sound}
 
 -- A decided choice: where a test fails, one thing holds; so the two joined hold.
 or-from : (a b : Bool) → (a ≡ false → b ≡ true) → a || b ≡ true
@@ -24,31 +25,6 @@ or-from true b f = refl
 or-from false b f = f refl
 
 -- ---- shape
-
-pub record InRanges (blocks roots bytes : ℕ) : Type 0 where
-  pub blocksLow : 16 ≤ blocks
-  pub blocksHigh : blocks ≤ 4096
-  pub rootsLow : 1 ≤ roots
-  pub rootsHigh : roots ≤ 8
-  pub bytesLow : 512 ≤ bytes
-  pub bytesHigh : bytes ≤ 65536
-  pub bytesDivide : 65536 % bytes ≡ 0
-
-pub record HasLengths (blocks bytes : ℕ) (c : Card) : Type 0 where
-  pub flags : length (c .public .flags) ≡ blocks
-  pub keys : length (c .keys) ≡ 4 * blocks
-  pub counts : length (c .public .counts) ≡ blocks
-  pub placesLow : 1 ≤ length (c .public .pointers)
-  pub placesHigh : length (c .public .pointers) ≤ 16384
-  pub windows : length (c .public .windows) ≡ 2 * blocks
-  pub contents : length (c .contents) ≡ blocks * bytes
-
--- Document 01, "Shape", as statements.
-pub record Shaped (c : Card) : Type 0 where
-  pub inRanges : InRanges (c .public .info .blocks) (c .public .info .roots) (c .public .info .bytes)
-  pub timeHigh : c .public .info .time < timeLimit
-  pub hasLengths : HasLengths (c .public .info .blocks) (c .public .info .bytes) c
-  pub usedHigh : c .public .info .used ≤ length (c .public .pointers)
 
 pub ranges-true : (blocks roots bytes : ℕ) → ranges blocks roots bytes ≡ true → InRanges blocks roots bytes
 unfolding ranges
@@ -160,37 +136,6 @@ true-shape h =
 
 -- ---- soundness
 
--- Both words of a block's key for the mode are 0.
-pub record KeyZero (c : Card) (mode : Mode) (b : ℕ) : Type 0 where
-  pub high : keyHigh (c .keys) mode b ≡ 0
-  pub low : keyLow (c .keys) mode b ≡ 0
-
--- "flags, keys, count and windows 0"
-pub record Empty (c : Card) (b : ℕ) : Type 0 where
-  pub flagZero : flag (c .public) b ≡ 0
-  pub keysZero : (mode : Mode) → KeyZero c mode b
-  pub countZero : count (c .public) b ≡ 0
-  pub windowZero : (mode : Mode) → windowEnd (c .public) mode b ≡ 0
-
-pub record RightPointer (p : Public) (w : ℕ) : Type 0 where
-  pub sourceAllocated : allocated p (source w) ≡ true
-  pub destinationAllocated : allocated p (destination w) ≡ true
-  pub noRoot : p .info .roots ≤ destination w
-  pub different : source w ≡ destination w → ⊥
-
--- Document 01, "Soundness", as statements.
-pub record Sound (c : Card) : Type 0 where
-  pub flagsLow : (b : ℕ) → b < c .public .info .blocks → flag (c .public) b < 8
-  pub rootsAllocated : (b : ℕ) → b < c .public .info .blocks → b < c .public .info .roots → allocatedFlag (flag (c .public) b) ≡ true
-  pub unallocated : (b : ℕ) → b < c .public .info .blocks → allocatedFlag (flag (c .public) b) ≡ false → Empty c b
-  pub absentKey : (mode : Mode) (b : ℕ) → b < c .public .info .blocks → keyFlag mode (flag (c .public) b) ≡ false → KeyZero c mode b
-  pub ascends : ascending (inUse (c .public)) ≡ true
-  pub restZero : all (λ w. eqb w 0) (drop (c .public .info .used) (c .public .pointers)) ≡ true
-  pub pointersRight : all (λ w. pointerRight (c .public) w) (inUse (c .public)) ≡ true
-  pub counts : (b : ℕ) → b < c .public .info .blocks → count (c .public) b ≡ pointersTo b (inUse (c .public))
-  pub pointed : (b : ℕ) → b < c .public .info .blocks → c .public .info .roots ≤ b → allocatedFlag (flag (c .public) b) ≡ true → 1 ≤ count (c .public) b
-  pub windowsLow : (mode : Mode) (b : ℕ) → b < c .public .info .blocks → windowEnd (c .public) mode b ≤ c .public .info .time + longestInterval
-
 pub keyZero-true : (c : Card) (b : ℕ) (mode : Mode) → keyZero c b mode ≡ true → KeyZero c mode b
 unfolding keyZero
 keyZero-true c b mode e = record { high = eqb-true _ _ (and-left _ _ e); low = eqb-true _ _ (and-right (eqb (keyHigh (c .keys) mode b) 0) _ e) }
@@ -296,7 +241,7 @@ true-pointedTo c b f =
     (f (ltb-false _ _ (or-false-left _ _ e))
     (not-false _ (or-false-right (isRoot (c .public) b) _ e))))
 
-pub sound-true : (c : Card) → sound c ≡ true → Sound c
+pub sound-true : (c : Card) → sound c ≡ true → Consistent c
 unfolding sound flagsBelow8 countRight windowInTime
 sound-true c e =
     let h = every-true (soundClauses c) e in
@@ -320,7 +265,7 @@ sound-true c e =
       ];
     }
 
-pub true-sound : {c : Card} → Sound c → sound c ≡ true
+pub true-sound : {c : Card} → Consistent c → sound c ≡ true
 unfolding sound flagsBelow8 countRight windowInTime
 true-sound {c} h =
     let blocks = c .public .info .blocks in
@@ -362,11 +307,6 @@ true-sound {c} h =
       ),
     )
 
--- A card of the right shape that is sound: what a call that is not refused 1 or 2 starts from.
-pub record SoundCard (c : Card) : Type 0 where
-  pub shaped : Shaped c
-  pub isSound : Sound c
-
 -- ---- what soundness gives
 
 -- An allocated block is below N.
@@ -386,9 +326,9 @@ flag-allocated p b l e = and-true _ _ (lt-ltb _ _ l) e
 
 -- The verdict on two tests.
 abbrev verdictOn : Bool → Bool → Verdict
-verdictOn s t = cond s (cond t FoundSound Unsound) Misshapen
+verdictOn s t = cond s (cond t Sound Unsound) Misshapen
 
-on-sound : (s t : Bool) → verdictOn s t ≡ FoundSound → (s ≡ true) × (t ≡ true)
+on-sound : (s t : Bool) → verdictOn s t ≡ Sound → (s ≡ true) × (t ≡ true)
 on-sound true true e = (refl, refl)
 on-sound true false e = let z : _≡_ {A = ℕ} 0 1 = cc in absurd (omega arith)
 on-sound false t e = let z : _≡_ {A = ℕ} 0 1 = cc in absurd (omega arith)
@@ -403,7 +343,7 @@ on-misshapen true true e = let z : _≡_ {A = ℕ} 0 1 = cc in absurd (omega ari
 on-misshapen true false e = let z : _≡_ {A = ℕ} 0 1 = cc in absurd (omega arith)
 on-misshapen false t e = refl
 
-pub verdict-sound : (c : Card) → verdict c ≡ FoundSound → SoundCard c
+pub verdict-sound : (c : Card) → verdict c ≡ Sound → SoundCard c
 unfolding verdict
 verdict-sound c e =
     let h = on-sound (shape c) (sound c) e in
@@ -417,7 +357,7 @@ pub verdict-misshapen : (c : Card) → verdict c ≡ Misshapen → shape c ≡ f
 unfolding verdict
 verdict-misshapen c e = on-misshapen (shape c) (sound c) e
 
-pub sound-verdict : {c : Card} → SoundCard c → verdict c ≡ FoundSound
+pub sound-verdict : {c : Card} → SoundCard c → verdict c ≡ Sound
 unfolding verdict
 sound-verdict h = rw (true-shape (h .shaped), true-sound (h .isSound)) refl
 

@@ -6,6 +6,7 @@ ghost use Prim.Native.Nat.{_-_, _≤_, _<_};
 ghost use mathlib.Core.Bool.{true};
 ghost use mathlib.Core.Path.{_≡_};
 ghost use lib.ListN.{length, take, drop};
+ghost use Rattle.card.specs.Lent.{atEntry, atExit};
 ghost use Rattle.card.specs.Calls.{format};
 ghost use Rattle.card.specs.Card.{card};
 ghost use Rattle.lines.specs.Lines.{lineRoom, lastLine};
@@ -65,7 +66,7 @@ fn play_some(
     output: &mut [u8],
 ) -> Played
     requires { ⌜ records < 9223372036854775808 ⌝ ∗ ⌜ filled ≤ length (now buffer) ⌝ }
-    ensures { λ r. ⌜ PlayedIs (play records (card info (now (flags .entry)) (now (keys .entry)) (now (counts .entry)) (now (pointers .entry)) (now (windows .entry)) (now (contents .entry))) (take filled (now (buffer .entry))) (length (now (output .entry)))) (r .stop) (r .records) (card (r .info) (now (flags .exit)) (now (keys .exit)) (now (counts .exit)) (now (pointers .exit)) (now (windows .exit)) (now (contents .exit))) (now (buffer .exit)) (r .filled) (now (output .entry)) (now (output .exit)) (r .written) ⌝ }
+    ensures { λ r. ⌜ PlayedIs (play records (atEntry info flags keys counts pointers windows contents) (take filled (now (buffer .entry))) (length (now (output .entry)))) (r .stop) (r .records) (atExit (r .info) flags keys counts pointers windows contents) (now (buffer .exit)) (r .filled) (now (output .entry)) (now (output .exit)) (r .written) ⌝ }
 {
     let part = player::play(
         info,
@@ -152,7 +153,7 @@ fn turn(
     output: &mut [u8],
 ) -> Progress
     requires { ⌜ records < 9223372036854775808 ⌝ ∗ ⌜ filled ≤ length (now buffer) ⌝ ∗ ⌜ recordRoom ≤ length (now buffer) ⌝ }
-    ensures { λ r. ⌜ TurnIs (play records (card info (now (flags .entry)) (now (keys .entry)) (now (counts .entry)) (now (pointers .entry)) (now (windows .entry)) (now (contents .entry))) (take filled (now (buffer .entry))) (length (now (output .entry)))) (r .stop) (r .records) (card (r .info) (now (flags .exit)) (now (keys .exit)) (now (counts .exit)) (now (pointers .exit)) (now (windows .exit)) (now (contents .exit))) (now (buffer .exit)) (r .filled) (now (output .entry)) (now (output .exit)) (r .wrote) (r .on) ⌝ }
+    ensures { λ r. ⌜ TurnIs (play records (atEntry info flags keys counts pointers windows contents) (take filled (now (buffer .entry))) (length (now (output .entry)))) (r .stop) (r .records) (atExit (r .info) flags keys counts pointers windows contents) (now (buffer .exit)) (r .filled) (now (output .entry)) (now (output .exit)) (r .wrote) (r .on) ⌝ }
 {
     let played = play_some(
         info,
@@ -195,7 +196,7 @@ fn play_all(
     windows: &mut [u64],
     contents: &mut [u8],
 ) -> Progress
-    ensures { λ r. ⌜ SessionIs (card info (now (flags .entry)) (now (keys .entry)) (now (counts .entry)) (now (pointers .entry)) (now (windows .entry)) (now (contents .entry))) (r .stop) (r .records) (card (r .info) (now (flags .exit)) (now (keys .exit)) (now (counts .exit)) (now (pointers .exit)) (now (windows .exit)) (now (contents .exit))) (r .wrote) (r .on) ⌝ }
+    ensures { λ r. ⌜ SessionIs (atEntry info flags keys counts pointers windows contents) (r .stop) (r .records) (atExit (r .info) flags keys counts pointers windows contents) (r .wrote) (r .on) ⌝ }
 {
     let mut buffer = [0u8; 65536];
     let mut output = [0u8; 65536];
@@ -238,7 +239,7 @@ fn play_fresh(
     windows: &mut [u64],
     contents: &mut [u8],
 ) -> Progress
-    ensures { λ r. ⌜ SessionIs (format 16 1 512 (card info (now (flags .entry)) (now (keys .entry)) (now (counts .entry)) (now (pointers .entry)) (now (windows .entry)) (now (contents .entry))) .after) (r .stop) (r .records) (card (r .info) (now (flags .exit)) (now (keys .exit)) (now (counts .exit)) (now (pointers .exit)) (now (windows .exit)) (now (contents .exit))) (r .wrote) (r .on) ⌝ }
+    ensures { λ r. ⌜ SessionIs (format 16 1 512 (atEntry info flags keys counts pointers windows contents) .after) (r .stop) (r .records) (atExit (r .info) flags keys counts pointers windows contents) (r .wrote) (r .on) ⌝ }
 {
     let formatted = format::format(
         info,

@@ -7,9 +7,9 @@ use card::Port;
 use card::Refusal;
 use card::Verdict;
 ghost use mathlib.Core.Path.{_≡_};
+ghost use Rattle.card.specs.Lent.{Performs, lent};
 ghost use Rattle.card.specs.Card.{card};
 ghost use Rattle.card.specs.Soundness.{verdict};
-ghost use Rattle.card.specs.Promises.{Is};
 ghost use Rattle.card.specs.Session.{request, perform};
 
 // A call on a card of which the verdict is known.
@@ -28,8 +28,8 @@ pub fn perform_judged(
     out: &mut [u8],
     places: &mut [u16],
 ) -> Outcome
-    requires { ⌜ found ≡ verdict (card info (now flags) (now keys) (now counts) (now pointers) (now windows) (now contents)) ⌝ }
-    ensures { λ r. ⌜ Is (perform port (card info (now (flags .entry)) (now (keys .entry)) (now (counts .entry)) (now (pointers .entry)) (now (windows .entry)) (now (contents .entry))) (request call (now (input .entry)) (now (out .entry)) (now (places .entry)))) (r .answer) (card (r .info) (now (flags .exit)) (now (keys .exit)) (now (counts .exit)) (now (pointers .exit)) (now (windows .exit)) (now (contents .exit))) (now (out .exit)) (now (places .exit)) ⌝ }
+    requires { ⌜ found ≡ verdict (lent info flags keys counts pointers windows contents) ⌝ }
+    ensures { λ r. ⌜ Performs (λ c. perform port c (request call (now (input .entry)) (now (out .entry)) (now (places .entry)))) info flags keys counts pointers windows contents r (now (out .exit)) (now (places .exit)) ⌝ }
 {
     match found {
         Verdict::Misshapen => Outcome {
@@ -72,7 +72,7 @@ pub fn perform(
     out: &mut [u8],
     places: &mut [u16],
 ) -> Outcome
-    ensures { λ r. ⌜ Is (perform port (card info (now (flags .entry)) (now (keys .entry)) (now (counts .entry)) (now (pointers .entry)) (now (windows .entry)) (now (contents .entry))) (request call (now (input .entry)) (now (out .entry)) (now (places .entry)))) (r .answer) (card (r .info) (now (flags .exit)) (now (keys .exit)) (now (counts .exit)) (now (pointers .exit)) (now (windows .exit)) (now (contents .exit))) (now (out .exit)) (now (places .exit)) ⌝ }
+    ensures { λ r. ⌜ Performs (λ c. perform port c (request call (now (input .entry)) (now (out .entry)) (now (places .entry)))) info flags keys counts pointers windows contents r (now (out .exit)) (now (places .exit)) ⌝ }
 {
     let found = audit::audit(info, flags, keys, counts, pointers, windows, contents);
     perform_judged(

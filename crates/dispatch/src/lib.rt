@@ -4,9 +4,8 @@ use card::Call;
 use card::Info;
 use card::Outcome;
 use card::Port;
-ghost use Rattle.card.specs.Card.{card};
-ghost use Rattle.card.specs.SoundnessLaws.{SoundCard};
-ghost use Rattle.card.specs.Promises.{Is};
+ghost use Rattle.card.specs.Lent.{Performs, lent};
+ghost use Rattle.card.specs.SoundCard.{SoundCard};
 ghost use Rattle.card.specs.Session.{request, performSound};
 
 pub fn perform_sound(
@@ -23,8 +22,8 @@ pub fn perform_sound(
     out: &mut [u8],
     places: &mut [u16],
 ) -> Outcome
-    requires { ⌜ SoundCard (card info (now flags) (now keys) (now counts) (now pointers) (now windows) (now contents)) ⌝ }
-    ensures { λ r. ⌜ Is (performSound port (card info (now (flags .entry)) (now (keys .entry)) (now (counts .entry)) (now (pointers .entry)) (now (windows .entry)) (now (contents .entry))) (request call (now (input .entry)) (now (out .entry)) (now (places .entry)))) (r .answer) (card (r .info) (now (flags .exit)) (now (keys .exit)) (now (counts .exit)) (now (pointers .exit)) (now (windows .exit)) (now (contents .exit))) (now (out .exit)) (now (places .exit)) ⌝ }
+    requires { ⌜ SoundCard (lent info flags keys counts pointers windows contents) ⌝ }
+    ensures { λ r. ⌜ Performs (λ c. performSound port c (request call (now (input .entry)) (now (out .entry)) (now (places .entry)))) info flags keys counts pointers windows contents r (now (out .exit)) (now (places .exit)) ⌝ }
 {
     match call {
         Call::Read(o) => transfer::read_sound(

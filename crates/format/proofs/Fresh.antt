@@ -15,7 +15,8 @@ use Rattle.card.specs.ListsLaws.{and-true}
 use Rattle.card.specs.Contents.{zeros, overwrite}
 use Rattle.card.specs.Card.{Card, card}
 use Rattle.card.specs.Soundness.{ranges, lengths, shape}
-use Rattle.card.specs.SoundnessLaws.{Shaped, shape-true}
+use Rattle.card.specs.SoundCard.{Shaped}
+use Rattle.card.specs.SoundnessLaws.{shape-true}
 use Rattle.card.specs.Calls.{freshInfo, format, formatResult}
 use Rattle.card.specs.Promises.{Is, is-same}
 use Rattle.card.specs.declared.Outcome.{Outcome}

@@ -6,10 +6,10 @@ ghost use mathlib.Core.Path.{_≡_};
 ghost use mathlib.Core.List.{[], _++_};
 ghost use Prim.Native.Nat.{_-_, _≤_};
 ghost use lib.ListN.{length, replicate};
+ghost use Rattle.card.specs.Lent.{Performs};
 ghost use Rattle.card.specs.Card.{card};
 ghost use Rattle.card.specs.Contents.{zeros};
 ghost use Rattle.card.specs.Calls.{format};
-ghost use Rattle.card.specs.Promises.{Is};
 
 fn clear_words(to: &mut [u64])
     ensures { λ _. ⌜ now (to .exit) ≡ zeros (length (now (to .entry))) ⌝ }
@@ -73,7 +73,7 @@ pub fn format(
     windows: &mut [u64],
     contents: &mut [u8],
 ) -> Outcome
-    ensures { λ r. ⌜ Is (format blocks roots bytes (card info (now (flags .entry)) (now (keys .entry)) (now (counts .entry)) (now (pointers .entry)) (now (windows .entry)) (now (contents .entry)))) (r .answer) (card (r .info) (now (flags .exit)) (now (keys .exit)) (now (counts .exit)) (now (pointers .exit)) (now (windows .exit)) (now (contents .exit))) [] [] ⌝ }
+    ensures { λ r. ⌜ Performs (format blocks roots bytes) info flags keys counts pointers windows contents r [] [] ⌝ }
 {
     let fresh = Info {
         blocks,

@@ -17,6 +17,7 @@ use operands::Keying;
 use records::Decoding;
 ghost use mathlib.Core.Path.{_≡_};
 ghost use mathlib.Core.List.{[]};
+ghost use Rattle.card.specs.Lent.{atEntry, atExit};
 ghost use Rattle.card.specs.Card.{card};
 ghost use Rattle.operands.specs.Operands.{recordOf, credentialOf, newKeyOf, atPort, readOf, writeOf, allocOf, createOf, deleteOf, keyOf};
 ghost use Rattle.interface.specs.Batch.{stopNumber, left, BatchIs};
@@ -43,7 +44,7 @@ pub extern "C" fn negvask_read(
     interval: u32,
     out: &mut [u8],
 ) -> u32
-    ensures { λ r. ⌜ Does (effect (atPort port (readOf block interval (credentialOf kind reference high low))) (now (info .entry)) (card (recordOf (now (info .entry))) (now (flags .entry)) (now (keys .entry)) (now (counts .entry)) (now (pointers .entry)) (now (windows .entry)) (now (contents .entry))) [] (now (out .entry)) [] 0) r (now (info .exit)) (card (recordOf (now (info .exit))) (now (flags .entry)) (now (keys .entry)) (now (counts .entry)) (now (pointers .entry)) (now (windows .exit)) (now (contents .entry))) (now (out .exit)) [] ⌝ }
+    ensures { λ r. ⌜ Does (effect (atPort port (readOf block interval (credentialOf kind reference high low))) (now (info .entry)) (atEntry (recordOf (now (info .entry))) flags keys counts pointers windows contents) [] (now (out .entry)) [] 0) r (now (info .exit)) (atExit (recordOf (now (info .exit))) flags keys counts pointers windows contents) (now (out .exit)) [] ⌝ }
 {
     let caller = operands::caller_of(port, kind, reference, high, low);
     let Caller::Good(at, credential) = caller else {
@@ -91,7 +92,7 @@ pub extern "C" fn negvask_write(
     interval: u32,
     bytes: &[u8],
 ) -> u32
-    ensures { λ r. ⌜ Does (effect (atPort port (writeOf block interval (credentialOf kind reference high low))) (now (info .entry)) (card (recordOf (now (info .entry))) (now (flags .entry)) (now (keys .entry)) (now (counts .entry)) (now (pointers .entry)) (now (windows .entry)) (now (contents .entry))) (now (bytes .entry)) [] [] 0) r (now (info .exit)) (card (recordOf (now (info .exit))) (now (flags .entry)) (now (keys .entry)) (now (counts .entry)) (now (pointers .entry)) (now (windows .exit)) (now (contents .exit))) [] [] ⌝ }
+    ensures { λ r. ⌜ Does (effect (atPort port (writeOf block interval (credentialOf kind reference high low))) (now (info .entry)) (atEntry (recordOf (now (info .entry))) flags keys counts pointers windows contents) (now (bytes .entry)) [] [] 0) r (now (info .exit)) (atExit (recordOf (now (info .exit))) flags keys counts pointers windows contents) [] [] ⌝ }
 {
     let caller = operands::caller_of(port, kind, reference, high, low);
     let Caller::Good(at, credential) = caller else {
@@ -140,7 +141,7 @@ pub extern "C" fn negvask_alloc(
     count: u8,
     places: &mut [u16],
 ) -> u32
-    ensures { λ r. ⌜ Does (effect (atPort port (allocOf block hint count (credentialOf kind reference high low))) (now (info .entry)) (card (recordOf (now (info .entry))) (now (flags .entry)) (now (keys .entry)) (now (counts .entry)) (now (pointers .entry)) (now (windows .entry)) (now (contents .entry))) [] [] (now (places .entry)) 0) r (now (info .exit)) (card (recordOf (now (info .exit))) (now (flags .exit)) (now (keys .entry)) (now (counts .exit)) (now (pointers .exit)) (now (windows .entry)) (now (contents .exit))) [] (now (places .exit)) ⌝ }
+    ensures { λ r. ⌜ Does (effect (atPort port (allocOf block hint count (credentialOf kind reference high low))) (now (info .entry)) (atEntry (recordOf (now (info .entry))) flags keys counts pointers windows contents) [] [] (now (places .entry)) 0) r (now (info .exit)) (atExit (recordOf (now (info .exit))) flags keys counts pointers windows contents) [] (now (places .exit)) ⌝ }
 {
     let caller = operands::caller_of(port, kind, reference, high, low);
     let Caller::Good(at, credential) = caller else {
@@ -192,7 +193,7 @@ pub extern "C" fn negvask_create(
     high2: u64,
     low2: u64,
 ) -> u32
-    ensures { λ r. ⌜ Does (effect (atPort port (createOf source destination (credentialOf kind reference high low) (credentialOf kind2 reference2 high2 low2))) (now (info .entry)) (card (recordOf (now (info .entry))) (now (flags .entry)) (now (keys .entry)) (now (counts .entry)) (now (pointers .entry)) (now (windows .entry)) (now (contents .entry))) [] [] [] 0) r (now (info .exit)) (card (recordOf (now (info .exit))) (now (flags .entry)) (now (keys .entry)) (now (counts .exit)) (now (pointers .exit)) (now (windows .entry)) (now (contents .entry))) [] [] ⌝ }
+    ensures { λ r. ⌜ Does (effect (atPort port (createOf source destination (credentialOf kind reference high low) (credentialOf kind2 reference2 high2 low2))) (now (info .entry)) (atEntry (recordOf (now (info .entry))) flags keys counts pointers windows contents) [] [] [] 0) r (now (info .exit)) (atExit (recordOf (now (info .exit))) flags keys counts pointers windows contents) [] [] ⌝ }
 {
     let caller = operands::caller_of(port, kind, reference, high, low);
     let Caller::Good(at, credential) = caller else {
@@ -244,7 +245,7 @@ pub extern "C" fn negvask_delete(
     destination: u16,
     value: &mut u64,
 ) -> u32
-    ensures { λ r. ⌜ Gives (effect (atPort port (deleteOf source destination (credentialOf kind reference high low))) (now (info .entry)) (card (recordOf (now (info .entry))) (now (flags .entry)) (now (keys .entry)) (now (counts .entry)) (now (pointers .entry)) (now (windows .entry)) (now (contents .entry))) [] [] [] (now (value .entry))) r (now (value .exit)) (now (info .exit)) (card (recordOf (now (info .exit))) (now (flags .exit)) (now (keys .exit)) (now (counts .exit)) (now (pointers .exit)) (now (windows .exit)) (now (contents .entry))) [] [] ⌝ }
+    ensures { λ r. ⌜ Gives (effect (atPort port (deleteOf source destination (credentialOf kind reference high low))) (now (info .entry)) (atEntry (recordOf (now (info .entry))) flags keys counts pointers windows contents) [] [] [] (now (value .entry))) r (now (value .exit)) (now (info .exit)) (atExit (recordOf (now (info .exit))) flags keys counts pointers windows contents) [] [] ⌝ }
 {
     let caller = operands::caller_of(port, kind, reference, high, low);
     let Caller::Good(at, credential) = caller else {
@@ -294,7 +295,7 @@ pub extern "C" fn negvask_key(
     writehigh: u64,
     writelow: u64,
 ) -> u32
-    ensures { λ r. ⌜ Does (effect (atPort port (keyOf block (credentialOf kind reference high low) (newKeyOf read readhigh readlow) (newKeyOf write writehigh writelow))) (now (info .entry)) (card (recordOf (now (info .entry))) (now (flags .entry)) (now (keys .entry)) (now (counts .entry)) (now (pointers .entry)) (now (windows .entry)) (now (contents .entry))) [] [] [] 0) r (now (info .exit)) (card (recordOf (now (info .exit))) (now (flags .exit)) (now (keys .exit)) (now (counts .entry)) (now (pointers .entry)) (now (windows .exit)) (now (contents .entry))) [] [] ⌝ }
+    ensures { λ r. ⌜ Does (effect (atPort port (keyOf block (credentialOf kind reference high low) (newKeyOf read readhigh readlow) (newKeyOf write writehigh writelow))) (now (info .entry)) (atEntry (recordOf (now (info .entry))) flags keys counts pointers windows contents) [] [] [] 0) r (now (info .exit)) (atExit (recordOf (now (info .exit))) flags keys counts pointers windows contents) [] [] ⌝ }
 {
     let caller = operands::caller_of(port, kind, reference, high, low);
     let Caller::Good(at, credential) = caller else {
@@ -340,7 +341,7 @@ pub extern "C" fn negvask_renew(
     low: u64,
     interval: u32,
 ) -> u32
-    ensures { λ r. ⌜ Does (effect (Decoding.Decoded Port.Host (Call.Renew (record { mode = mode; block = block; high = high; low = low; interval = interval }))) (now (info .entry)) (card (recordOf (now (info .entry))) (now (flags .entry)) (now (keys .entry)) (now (counts .entry)) (now (pointers .entry)) (now (windows .entry)) (now (contents .entry))) [] [] [] 0) r (now (info .exit)) (card (recordOf (now (info .exit))) (now (flags .entry)) (now (keys .entry)) (now (counts .entry)) (now (pointers .entry)) (now (windows .exit)) (now (contents .entry))) [] [] ⌝ }
+    ensures { λ r. ⌜ Does (effect (Decoding.Decoded Port.Host (Call.Renew (record { mode = mode; block = block; high = high; low = low; interval = interval }))) (now (info .entry)) (atEntry (recordOf (now (info .entry))) flags keys counts pointers windows contents) [] [] [] 0) r (now (info .exit)) (atExit (recordOf (now (info .exit))) flags keys counts pointers windows contents) [] [] ⌝ }
 {
     if info.len() != 5 {
         return 1;
@@ -377,7 +378,7 @@ pub extern "C" fn negvask_force(
     contents: &[u8],
     block: u16,
 ) -> u32
-    ensures { λ r. ⌜ Does (effect (Decoding.Decoded Port.Host (Call.Force (record { block = block }))) (now (info .entry)) (card (recordOf (now (info .entry))) (now (flags .entry)) (now (keys .entry)) (now (counts .entry)) (now (pointers .entry)) (now (windows .entry)) (now (contents .entry))) [] [] [] 0) r (now (info .exit)) (card (recordOf (now (info .exit))) (now (flags .entry)) (now (keys .entry)) (now (counts .entry)) (now (pointers .entry)) (now (windows .exit)) (now (contents .entry))) [] [] ⌝ }
+    ensures { λ r. ⌜ Does (effect (Decoding.Decoded Port.Host (Call.Force (record { block = block }))) (now (info .entry)) (atEntry (recordOf (now (info .entry))) flags keys counts pointers windows contents) [] [] [] 0) r (now (info .exit)) (atExit (recordOf (now (info .exit))) flags keys counts pointers windows contents) [] [] ⌝ }
 {
     if info.len() != 5 {
         return 1;
@@ -409,7 +410,7 @@ pub extern "C" fn negvask_tick(
     seconds: u64,
     value: &mut u64,
 ) -> u32
-    ensures { λ r. ⌜ Gives (effect (Decoding.Decoded Port.Host (Call.Tick (record { seconds = seconds }))) (now (info .entry)) (card (recordOf (now (info .entry))) (now (flags .entry)) (now (keys .entry)) (now (counts .entry)) (now (pointers .entry)) (now (windows .entry)) (now (contents .entry))) [] [] [] (now (value .entry))) r (now (value .exit)) (now (info .exit)) (card (recordOf (now (info .exit))) (now (flags .entry)) (now (keys .entry)) (now (counts .entry)) (now (pointers .entry)) (now (windows .entry)) (now (contents .entry))) [] [] ⌝ }
+    ensures { λ r. ⌜ Gives (effect (Decoding.Decoded Port.Host (Call.Tick (record { seconds = seconds }))) (now (info .entry)) (atEntry (recordOf (now (info .entry))) flags keys counts pointers windows contents) [] [] [] (now (value .entry))) r (now (value .exit)) (now (info .exit)) (atExit (recordOf (now (info .exit))) flags keys counts pointers windows contents) [] [] ⌝ }
 {
     if info.len() != 5 {
         return 1;
@@ -439,7 +440,7 @@ pub extern "C" fn negvask_free(
     contents: &[u8],
     value: &mut u64,
 ) -> u32
-    ensures { λ r. ⌜ Gives (effect (Decoding.Decoded Port.Host Call.Free) (now (info .entry)) (card (recordOf (now (info .entry))) (now (flags .entry)) (now (keys .entry)) (now (counts .entry)) (now (pointers .entry)) (now (windows .entry)) (now (contents .entry))) [] [] [] (now (value .entry))) r (now (value .exit)) (now (info .entry)) (card (recordOf (now (info .entry))) (now (flags .entry)) (now (keys .entry)) (now (counts .entry)) (now (pointers .entry)) (now (windows .entry)) (now (contents .entry))) [] [] ⌝ }
+    ensures { λ r. ⌜ Gives (effect (Decoding.Decoded Port.Host Call.Free) (now (info .entry)) (atEntry (recordOf (now (info .entry))) flags keys counts pointers windows contents) [] [] [] (now (value .entry))) r (now (value .exit)) (now (info .entry)) (atEntry (recordOf (now (info .entry))) flags keys counts pointers windows contents) [] [] ⌝ }
 {
     if info.len() != 5 {
         return 1;
@@ -468,7 +469,7 @@ pub extern "C" fn negvask_audit(
     windows: &[u64],
     contents: &[u8],
 ) -> u32
-    ensures { λ r. ⌜ Does (effect (Decoding.Decoded Port.Host Call.Audit) (now (info .entry)) (card (recordOf (now (info .entry))) (now (flags .entry)) (now (keys .entry)) (now (counts .entry)) (now (pointers .entry)) (now (windows .entry)) (now (contents .entry))) [] [] [] 0) r (now (info .entry)) (card (recordOf (now (info .entry))) (now (flags .entry)) (now (keys .entry)) (now (counts .entry)) (now (pointers .entry)) (now (windows .entry)) (now (contents .entry))) [] [] ⌝ }
+    ensures { λ r. ⌜ Does (effect (Decoding.Decoded Port.Host Call.Audit) (now (info .entry)) (atEntry (recordOf (now (info .entry))) flags keys counts pointers windows contents) [] [] [] 0) r (now (info .entry)) (atEntry (recordOf (now (info .entry))) flags keys counts pointers windows contents) [] [] ⌝ }
 {
     if info.len() != 5 {
         return 1;
@@ -503,7 +504,7 @@ pub extern "C" fn negvask_format(
     roots: u64,
     bytes: u64,
 ) -> u32
-    ensures { λ r. ⌜ Does (formatEffect blocks roots bytes (now (info .entry)) (card (recordOf (now (info .entry))) (now (flags .entry)) (now (keys .entry)) (now (counts .entry)) (now (pointers .entry)) (now (windows .entry)) (now (contents .entry)))) r (now (info .exit)) (card (recordOf (now (info .exit))) (now (flags .exit)) (now (keys .exit)) (now (counts .exit)) (now (pointers .exit)) (now (windows .exit)) (now (contents .exit))) [] [] ⌝ }
+    ensures { λ r. ⌜ Does (formatEffect blocks roots bytes (now (info .entry)) (atEntry (recordOf (now (info .entry))) flags keys counts pointers windows contents)) r (now (info .exit)) (atExit (recordOf (now (info .exit))) flags keys counts pointers windows contents) [] [] ⌝ }
 {
     if info.len() != 5 {
         return 1;
@@ -542,7 +543,7 @@ pub extern "C" fn negvask_serve(
     places: &mut [u16],
     value: &mut u64,
 ) -> u32
-    ensures { λ r. ⌜ Gives (recordEffect kind (now (body .entry)) (now (info .entry)) (card (recordOf (now (info .entry))) (now (flags .entry)) (now (keys .entry)) (now (counts .entry)) (now (pointers .entry)) (now (windows .entry)) (now (contents .entry))) (now (out .entry)) (now (places .entry)) (now (value .entry))) r (now (value .exit)) (now (info .exit)) (card (recordOf (now (info .exit))) (now (flags .exit)) (now (keys .exit)) (now (counts .exit)) (now (pointers .exit)) (now (windows .exit)) (now (contents .exit))) (now (out .exit)) (now (places .exit)) ⌝ }
+    ensures { λ r. ⌜ Gives (recordEffect kind (now (body .entry)) (now (info .entry)) (atEntry (recordOf (now (info .entry))) flags keys counts pointers windows contents) (now (out .entry)) (now (places .entry)) (now (value .entry))) r (now (value .exit)) (now (info .exit)) (atExit (recordOf (now (info .exit))) flags keys counts pointers windows contents) (now (out .exit)) (now (places .exit)) ⌝ }
 {
     let decoding = records::decode(kind, body);
     let size = adapter::data_size(decoding);

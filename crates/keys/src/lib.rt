@@ -14,11 +14,10 @@ ghost use mathlib.Core.Path.{_≡_};
 ghost use mathlib.Core.List.{[]};
 ghost use Prim.Native.Nat.{_+_, _*_, _≤_};
 ghost use lib.ListN.{length};
-ghost use Rattle.card.specs.Card.{card};
-ghost use Rattle.card.specs.SoundnessLaws.{SoundCard};
+ghost use Rattle.card.specs.Lent.{Performs, lent};
+ghost use Rattle.card.specs.SoundCard.{SoundCard};
 ghost use Rattle.card.specs.Plan.{keyBit, highWord, lowWord, replaceKeys};
 ghost use Rattle.card.specs.Calls.{modeOf};
-ghost use Rattle.card.specs.Promises.{Is};
 ghost use Rattle.card.specs.Session.{request, performSound};
 
 // ---- KEY
@@ -76,8 +75,8 @@ pub fn key_sound(
     port: Port,
     o: KeyOperands,
 ) -> Outcome
-    requires { ⌜ SoundCard (card info (now flags) (now keys) (now counts) (now pointers) (now windows) (now contents)) ⌝ }
-    ensures { λ r. ⌜ Is (performSound port (card info (now (flags .entry)) (now (keys .entry)) (now (counts .entry)) (now (pointers .entry)) (now (windows .entry)) (now (contents .entry))) (request (Call.Key o) [] [] [])) (r .answer) (card (r .info) (now (flags .exit)) (now (keys .exit)) (now (counts .entry)) (now (pointers .entry)) (now (windows .exit)) (now (contents .entry))) [] [] ⌝ }
+    requires { ⌜ SoundCard (lent info flags keys counts pointers windows contents) ⌝ }
+    ensures { λ r. ⌜ Performs (λ c. performSound port c (request (Call.Key o) [] [] [])) info flags keys counts pointers windows contents r [] [] ⌝ }
 {
     let block = o.block as usize;
     if access::missing(info, flags, block) {
@@ -133,8 +132,8 @@ pub fn renew_sound(
     contents: &[u8],
     o: RenewOperands,
 ) -> Outcome
-    requires { ⌜ SoundCard (card info (now flags) (now keys) (now counts) (now pointers) (now windows) (now contents)) ⌝ }
-    ensures { λ r. ⌜ ((port : Port) → Is (performSound port (card info (now (flags .entry)) (now (keys .entry)) (now (counts .entry)) (now (pointers .entry)) (now (windows .entry)) (now (contents .entry))) (request (Call.Renew o) [] [] [])) (r .answer) (card (r .info) (now (flags .entry)) (now (keys .entry)) (now (counts .entry)) (now (pointers .entry)) (now (windows .exit)) (now (contents .entry))) [] []) ⌝ }
+    requires { ⌜ SoundCard (lent info flags keys counts pointers windows contents) ⌝ }
+    ensures { λ r. ⌜ ((port : Port) → Performs (λ c. performSound port c (request (Call.Renew o) [] [] [])) info flags keys counts pointers windows contents r [] []) ⌝ }
 {
     let block = o.block as usize;
     let bad = (1 < o.mode) | (o.interval == 0) | (86400 < o.interval);
@@ -175,8 +174,8 @@ pub fn force_sound(
     contents: &[u8],
     o: ForceOperands,
 ) -> Outcome
-    requires { ⌜ SoundCard (card info (now flags) (now keys) (now counts) (now pointers) (now windows) (now contents)) ⌝ }
-    ensures { λ r. ⌜ ((port : Port) → Is (performSound port (card info (now (flags .entry)) (now (keys .entry)) (now (counts .entry)) (now (pointers .entry)) (now (windows .entry)) (now (contents .entry))) (request (Call.Force o) [] [] [])) (r .answer) (card (r .info) (now (flags .entry)) (now (keys .entry)) (now (counts .entry)) (now (pointers .entry)) (now (windows .exit)) (now (contents .entry))) [] []) ⌝ }
+    requires { ⌜ SoundCard (lent info flags keys counts pointers windows contents) ⌝ }
+    ensures { λ r. ⌜ ((port : Port) → Performs (λ c. performSound port c (request (Call.Force o) [] [] [])) info flags keys counts pointers windows contents r [] []) ⌝ }
 {
     let block = o.block as usize;
     if access::missing(info, flags, block) {

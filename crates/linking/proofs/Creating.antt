@@ -11,7 +11,8 @@ use borrow.Author.Tests.{eq-eqb, ne-eqb, eqb-false, not-false}
 use Rattle.card.specs.ListsLaws.{or-false-right}
 use Rattle.card.specs.Pointers.{pointer}
 use Rattle.card.specs.Card.{Card, card, isRoot}
-use Rattle.card.specs.SoundnessLaws.{SoundCard, allocated-below}
+use Rattle.card.specs.SoundCard.{SoundCard}
+use Rattle.card.specs.SoundnessLaws.{allocated-below}
 use Rattle.card.specs.Access.{admits}
 use Rattle.card.specs.Plan.{addPointer, change, changes, outAfter, placesAfter}
 use Rattle.card.specs.PlanLaws.{FirstHolds, here, later, NoneHolds}

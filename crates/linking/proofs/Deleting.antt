@@ -13,7 +13,8 @@ use Rattle.card.specs.ListsLaws.{and-true, and-false-left, and-false-right}
 use Rattle.card.specs.Pointers.{pointer, pointsFrom}
 use Rattle.card.specs.PointersLaws.{contains-counted, destination-pointer, remove-length}
 use Rattle.card.specs.Card.{Card, card, inUse, pointsTo, hasPointers}
-use Rattle.card.specs.SoundnessLaws.{SoundCard, allocated-below}
+use Rattle.card.specs.SoundCard.{SoundCard}
+use Rattle.card.specs.SoundnessLaws.{allocated-below}
 use Rattle.card.specs.Access.{admits}
 use Rattle.card.specs.Plan.{dropPointer, freeBlock, change, changes, outAfter, placesAfter}
 use Rattle.card.specs.PlanLaws.{FirstHolds, here, later, NoneHolds}

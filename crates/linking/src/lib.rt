@@ -10,9 +10,9 @@ use card::Refusal;
 use checks::Checked;
 ghost use mathlib.Core.Path.{_≡_};
 ghost use mathlib.Core.List.{[]};
+ghost use Rattle.card.specs.Lent.{Performs, lent, atEntry};
 ghost use Rattle.card.specs.Card.{card, pointsTo};
-ghost use Rattle.card.specs.SoundnessLaws.{SoundCard};
-ghost use Rattle.card.specs.Promises.{Is};
+ghost use Rattle.card.specs.SoundCard.{SoundCard};
 ghost use Rattle.card.specs.Session.{request, performSound};
 ghost use Rattle.card.specs.declared.Call.the-variants.{Create, Delete};
 ghost use Rattle.checks.specs.Checked.{checked};
@@ -41,8 +41,8 @@ fn create_check(
     port: Port,
     o: CreateOperands,
 ) -> Checked
-    requires { ⌜ SoundCard (card info (now flags) (now keys) (now counts) (now pointers) (now windows) (now contents)) ⌝ }
-    ensures { λ r. ⌜ r ≡ checked port (card info (now (flags .entry)) (now (keys .entry)) (now (counts .entry)) (now (pointers .entry)) (now (windows .entry)) (now (contents .entry))) (request (Create o) [] [] []) ⌝ }
+    requires { ⌜ SoundCard (lent info flags keys counts pointers windows contents) ⌝ }
+    ensures { λ r. ⌜ r ≡ checked port (atEntry info flags keys counts pointers windows contents) (request (Create o) [] [] []) ⌝ }
 {
     let first = o.credential;
     let second = o.second;
@@ -106,8 +106,8 @@ pub fn create_sound(
     port: Port,
     o: CreateOperands,
 ) -> Outcome
-    requires { ⌜ SoundCard (card info (now flags) (now keys) (now counts) (now pointers) (now windows) (now contents)) ⌝ }
-    ensures { λ r. ⌜ Is (performSound port (card info (now (flags .entry)) (now (keys .entry)) (now (counts .entry)) (now (pointers .entry)) (now (windows .entry)) (now (contents .entry))) (request (Create o) [] [] [])) (r .answer) (card (r .info) (now (flags .entry)) (now (keys .entry)) (now (counts .exit)) (now (pointers .exit)) (now (windows .entry)) (now (contents .entry))) [] [] ⌝ }
+    requires { ⌜ SoundCard (lent info flags keys counts pointers windows contents) ⌝ }
+    ensures { λ r. ⌜ Performs (λ c. performSound port c (request (Create o) [] [] [])) info flags keys counts pointers windows contents r [] [] ⌝ }
 {
     match create_check(
         info,
@@ -142,8 +142,8 @@ fn delete_check(
     port: Port,
     o: DeleteOperands,
 ) -> Checked
-    requires { ⌜ SoundCard (card info (now flags) (now keys) (now counts) (now pointers) (now windows) (now contents)) ⌝ }
-    ensures { λ r. ⌜ r ≡ checked port (card info (now (flags .entry)) (now (keys .entry)) (now (counts .entry)) (now (pointers .entry)) (now (windows .entry)) (now (contents .entry))) (request (Delete o) [] [] []) ⌝ }
+    requires { ⌜ SoundCard (lent info flags keys counts pointers windows contents) ⌝ }
+    ensures { λ r. ⌜ r ≡ checked port (atEntry info flags keys counts pointers windows contents) (request (Delete o) [] [] []) ⌝ }
 {
     let credential = o.credential;
     let from = o.source as usize;
@@ -194,8 +194,8 @@ pub fn delete_sound(
     port: Port,
     o: DeleteOperands,
 ) -> Outcome
-    requires { ⌜ SoundCard (card info (now flags) (now keys) (now counts) (now pointers) (now windows) (now contents)) ⌝ }
-    ensures { λ r. ⌜ Is (performSound port (card info (now (flags .entry)) (now (keys .entry)) (now (counts .entry)) (now (pointers .entry)) (now (windows .entry)) (now (contents .entry))) (request (Delete o) [] [] [])) (r .answer) (card (r .info) (now (flags .exit)) (now (keys .exit)) (now (counts .exit)) (now (pointers .exit)) (now (windows .exit)) (now (contents .entry))) [] [] ⌝ }
+    requires { ⌜ SoundCard (lent info flags keys counts pointers windows contents) ⌝ }
+    ensures { λ r. ⌜ Performs (λ c. performSound port c (request (Delete o) [] [] [])) info flags keys counts pointers windows contents r [] [] ⌝ }
 {
     match delete_check(
         info,

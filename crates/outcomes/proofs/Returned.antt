@@ -5,7 +5,8 @@ use mathlib.Core.Path.{_≡_, sym, _∙_}
 use mathlib.Core.List.{List}
 use Rattle.card.specs.Card.{Card, card}
 use Rattle.card.specs.Soundness.{verdict}
-use Rattle.card.specs.SoundnessLaws.{SoundCard, verdict-sound}
+use Rattle.card.specs.SoundCard.{SoundCard}
+use Rattle.card.specs.SoundnessLaws.{verdict-sound}
 use Rattle.card.specs.Plan.{Plan, Buffers, judgeSound, changes, outAfter, placesAfter}
 use Rattle.card.specs.PlanLaws.{FirstHolds, NoneHolds}
 use Rattle.card.specs.Promises.{Is, is-refused, is-done}

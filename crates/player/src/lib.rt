@@ -9,7 +9,6 @@ use input::Turned;
 use input::Wrote;
 ghost use Prim.Native.Nat.{_+_, _≤_, _<_};
 ghost use lib.ListN.{length, drop};
-ghost use Rattle.card.specs.Card.{card};
 ghost use Rattle.lines.specs.Lines.{lineRoom};
 ghost use Rattle.input.specs.Play.{played, turn, play};
 ghost use Rattle.input.specs.Played.{PlayedIs};
@@ -33,7 +32,7 @@ fn play_call(
     at: usize,
 ) -> Wrote
     requires { ⌜ at + lineRoom ≤ length (now to) ⌝ }
-    ensures { λ r. ⌜ CalledIs ordinal kind call (played port (card info (now (flags .entry)) (now (keys .entry)) (now (counts .entry)) (now (pointers .entry)) (now (windows .entry)) (now (contents .entry))) call (now (payload .entry))) (card (r .info) (now (flags .exit)) (now (keys .exit)) (now (counts .exit)) (now (pointers .exit)) (now (windows .exit)) (now (contents .exit))) (now (to .entry)) at (now (to .exit)) (r .at) ⌝ }
+    ensures { λ r. ⌜ CalledIs ordinal kind call (played port (atEntry info flags keys counts pointers windows contents) call (now (payload .entry))) (atExit (r .info) flags keys counts pointers windows contents) (now (to .entry)) at (now (to .exit)) (r .at) ⌝ }
 {
     let mut out = [0u8; 512];
     let mut places = [0u16; 64];
@@ -76,7 +75,7 @@ fn play_turn(
     at: usize,
 ) -> Turned
     requires { ⌜ from ≤ length (now input) ⌝ ∗ ⌜ at + lineRoom ≤ length (now to) ⌝ }
-    ensures { λ r. ⌜ TurnedIs (turn ordinal (card info (now (flags .entry)) (now (keys .entry)) (now (counts .entry)) (now (pointers .entry)) (now (windows .entry)) (now (contents .entry))) (drop from (now (input .entry)))) (r .stop) (card (r .info) (now (flags .exit)) (now (keys .exit)) (now (counts .exit)) (now (pointers .exit)) (now (windows .exit)) (now (contents .exit))) (now (input .entry)) (r .from) (now (to .entry)) at (now (to .exit)) (r .at) ⌝ }
+    ensures { λ r. ⌜ TurnedIs (turn ordinal (atEntry info flags keys counts pointers windows contents) (drop from (now (input .entry)))) (r .stop) (atExit (r .info) flags keys counts pointers windows contents) (now (input .entry)) (r .from) (now (to .entry)) at (now (to .exit)) (r .at) ⌝ }
 {
     let found = input::find(input, from);
     match found {
@@ -132,7 +131,7 @@ pub fn play(
     output: &mut [u8],
 ) -> Part
     requires { ⌜ records < 9223372036854775808 ⌝ }
-    ensures { λ r. ⌜ PlayedIs (play records (card info (now (flags .entry)) (now (keys .entry)) (now (counts .entry)) (now (pointers .entry)) (now (windows .entry)) (now (contents .entry))) (now (input .entry)) (length (now (output .entry)))) (r .stop) (r .records) (card (r .info) (now (flags .exit)) (now (keys .exit)) (now (counts .exit)) (now (pointers .exit)) (now (windows .exit)) (now (contents .exit))) (now (input .entry)) (r .read) (now (output .entry)) (now (output .exit)) (r .written) ⌝ }
+    ensures { λ r. ⌜ PlayedIs (play records (atEntry info flags keys counts pointers windows contents) (now (input .entry)) (length (now (output .entry)))) (r .stop) (r .records) (atExit (r .info) flags keys counts pointers windows contents) (now (input .entry)) (r .read) (now (output .entry)) (now (output .exit)) (r .written) ⌝ }
 {
     let mut left = info;
     let mut count = records;

@@ -1,9 +1,9 @@
 // The shape of a record and tables: ranges and lengths.
 use card::Info;
 ghost use mathlib.Core.Path.{_≡_};
-ghost use Rattle.card.specs.Card.{card};
+ghost use Rattle.card.specs.Lent.{atEntry};
 ghost use Rattle.card.specs.Soundness.{ranges, shape};
-ghost use Rattle.card.specs.SoundnessLaws.{InRanges};
+ghost use Rattle.card.specs.SoundCard.{InRanges};
 
 fn in_ranges(blocks: usize, roots: usize, bytes: usize) -> bool
     ensures { λ r. ⌜ r ≡ ranges blocks roots bytes ⌝ }
@@ -31,7 +31,7 @@ fn has_lengths(
     contents: &[u8],
 ) -> bool
     requires { ⌜ InRanges (info .blocks) (info .roots) (info .bytes) ⌝ }
-    ensures { λ r. ⌜ r ≡ shape (card info (now (flags .entry)) (now (keys .entry)) (now (counts .entry)) (now (pointers .entry)) (now (windows .entry)) (now (contents .entry))) ⌝ }
+    ensures { λ r. ⌜ r ≡ shape (atEntry info flags keys counts pointers windows contents) ⌝ }
 {
     let blocks = info.blocks;
     let places = pointers.len();
@@ -56,7 +56,7 @@ pub fn shaped(
     windows: &[u64],
     contents: &[u8],
 ) -> bool
-    ensures { λ r. ⌜ r ≡ shape (card info (now (flags .entry)) (now (keys .entry)) (now (counts .entry)) (now (pointers .entry)) (now (windows .entry)) (now (contents .entry))) ⌝ }
+    ensures { λ r. ⌜ r ≡ shape (atEntry info flags keys counts pointers windows contents) ⌝ }
 {
     if in_ranges(info.blocks, info.roots, info.bytes) {
         has_lengths(info, flags, keys, counts, pointers, windows, contents)

@@ -8,7 +8,7 @@ use lib.ListN.{length}
 use borrow.Author.Tests.{le-leb, lt-leb}
 use Rattle.card.specs.Card.{Card}
 use Rattle.card.specs.Soundness.{timeLimit}
-use Rattle.card.specs.SoundnessLaws.{SoundCard}
+use Rattle.card.specs.SoundCard.{SoundCard}
 use Rattle.card.specs.Plan.{withTime, changes, change, changePublic, changeKeys, changeContents, outAfter, placesAfter}
 use Rattle.card.specs.PlanLaws.{here}
 use Rattle.card.specs.Promises.{Is, is-done}

@@ -7,9 +7,8 @@ use card::Port;
 use card::Refusal;
 use card::TickOperands;
 ghost use mathlib.Core.List.{[]};
-ghost use Rattle.card.specs.Card.{card};
-ghost use Rattle.card.specs.SoundnessLaws.{SoundCard};
-ghost use Rattle.card.specs.Promises.{Is};
+ghost use Rattle.card.specs.Lent.{Performs, lent};
+ghost use Rattle.card.specs.SoundCard.{SoundCard};
 ghost use Rattle.card.specs.Session.{request, performSound};
 
 pub fn free_sound(
@@ -21,8 +20,8 @@ pub fn free_sound(
     windows: &[u64],
     contents: &[u8],
 ) -> Outcome
-    requires { ⌜ SoundCard (card info (now flags) (now keys) (now counts) (now pointers) (now windows) (now contents)) ⌝ }
-    ensures { λ r. ⌜ ((port : Port) → Is (performSound port (card info (now (flags .entry)) (now (keys .entry)) (now (counts .entry)) (now (pointers .entry)) (now (windows .entry)) (now (contents .entry))) (request (Call.Free) [] [] [])) (r .answer) (card (r .info) (now (flags .entry)) (now (keys .entry)) (now (counts .entry)) (now (pointers .entry)) (now (windows .entry)) (now (contents .entry))) [] []) ⌝ }
+    requires { ⌜ SoundCard (lent info flags keys counts pointers windows contents) ⌝ }
+    ensures { λ r. ⌜ ((port : Port) → Performs (λ c. performSound port c (request (Call.Free) [] [] [])) info flags keys counts pointers windows contents r [] []) ⌝ }
 {
     let free = tables::count_free(flags);
     Outcome {
@@ -41,8 +40,8 @@ pub fn tick_sound(
     contents: &[u8],
     o: TickOperands,
 ) -> Outcome
-    requires { ⌜ SoundCard (card info (now flags) (now keys) (now counts) (now pointers) (now windows) (now contents)) ⌝ }
-    ensures { λ r. ⌜ ((port : Port) → Is (performSound port (card info (now (flags .entry)) (now (keys .entry)) (now (counts .entry)) (now (pointers .entry)) (now (windows .entry)) (now (contents .entry))) (request (Call.Tick o) [] [] [])) (r .answer) (card (r .info) (now (flags .entry)) (now (keys .entry)) (now (counts .entry)) (now (pointers .entry)) (now (windows .entry)) (now (contents .entry))) [] []) ⌝ }
+    requires { ⌜ SoundCard (lent info flags keys counts pointers windows contents) ⌝ }
+    ensures { λ r. ⌜ ((port : Port) → Performs (λ c. performSound port c (request (Call.Tick o) [] [] [])) info flags keys counts pointers windows contents r [] []) ⌝ }
 {
     // Compared before it is added: the sum could wrap.
     if 1099511627776 - info.time <= o.seconds {

@@ -10,7 +10,7 @@ use lib.ListN.{length}
 use lib.Seq.{length-take-le}
 use Rattle.card.specs.Pointers.{pointer, destination, pointersTo}
 use Rattle.card.specs.Card.{Card, count, inUse, pointsTo}
-use Rattle.card.specs.SoundnessLaws.{SoundCard}
+use Rattle.card.specs.SoundCard.{SoundCard}
 use Rattle.tables.specs.InUse.{Sorted, Addable, Removable}
 
 module _ {c : Card} (s : SoundCard c) where

@@ -14,7 +14,7 @@ use Rattle.card.specs.Contents.{part, fill, overwrite}
 use Rattle.card.specs.ContentsLaws.{block-fits, part-length}
 use Rattle.card.specs.ListsLaws.{or-false-left}
 use Rattle.card.specs.Card.{Card, allocated}
-use Rattle.card.specs.SoundnessLaws.{SoundCard}
+use Rattle.card.specs.SoundCard.{SoundCard}
 use Rattle.access.proofs.Blocks.{unnot, flagged, there}
 
 -- A block that is there: its part lies within the contents, of at most 2^28 bytes.

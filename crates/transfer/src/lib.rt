@@ -11,9 +11,8 @@ ghost use mathlib.Core.Path.{_≡_};
 ghost use mathlib.Core.List.{[]};
 ghost use Prim.Native.Nat.{_-_, _≤_};
 ghost use lib.ListN.{length, take, drop};
-ghost use Rattle.card.specs.Card.{card};
-ghost use Rattle.card.specs.SoundnessLaws.{SoundCard};
-ghost use Rattle.card.specs.Promises.{Is};
+ghost use Rattle.card.specs.Lent.{Performs, lent};
+ghost use Rattle.card.specs.SoundCard.{SoundCard};
 ghost use Rattle.card.specs.Session.{request, performSound};
 
 // "Else out is that block's part of the contents": the part from `at` to `end` is handed on to the copying function.
@@ -36,8 +35,8 @@ pub fn read_sound(
     o: ReadOperands,
     out: &mut [u8],
 ) -> Outcome
-    requires { ⌜ SoundCard (card info (now flags) (now keys) (now counts) (now pointers) (now windows) (now contents)) ⌝ }
-    ensures { λ r. ⌜ Is (performSound port (card info (now (flags .entry)) (now (keys .entry)) (now (counts .entry)) (now (pointers .entry)) (now (windows .entry)) (now (contents .entry))) (request (Call.Read o) [] (now (out .entry)) [])) (r .answer) (card (r .info) (now (flags .entry)) (now (keys .entry)) (now (counts .entry)) (now (pointers .entry)) (now (windows .exit)) (now (contents .entry))) (now (out .exit)) [] ⌝ }
+    requires { ⌜ SoundCard (lent info flags keys counts pointers windows contents) ⌝ }
+    ensures { λ r. ⌜ Performs (λ c. performSound port c (request (Call.Read o) [] (now (out .entry)) [])) info flags keys counts pointers windows contents r (now (out .exit)) [] ⌝ }
 {
     let block = o.block as usize;
     let bytes = info.bytes;
@@ -82,8 +81,8 @@ pub fn write_sound(
     o: WriteOperands,
     input: &[u8],
 ) -> Outcome
-    requires { ⌜ SoundCard (card info (now flags) (now keys) (now counts) (now pointers) (now windows) (now contents)) ⌝ }
-    ensures { λ r. ⌜ Is (performSound port (card info (now (flags .entry)) (now (keys .entry)) (now (counts .entry)) (now (pointers .entry)) (now (windows .entry)) (now (contents .entry))) (request (Call.Write o) (now (input .entry)) [] [])) (r .answer) (card (r .info) (now (flags .entry)) (now (keys .entry)) (now (counts .entry)) (now (pointers .entry)) (now (windows .exit)) (now (contents .exit))) [] [] ⌝ }
+    requires { ⌜ SoundCard (lent info flags keys counts pointers windows contents) ⌝ }
+    ensures { λ r. ⌜ Performs (λ c. performSound port c (request (Call.Write o) (now (input .entry)) [] [])) info flags keys counts pointers windows contents r [] [] ⌝ }
 {
     let block = o.block as usize;
     let bytes = info.bytes;

@@ -17,7 +17,8 @@ use Rattle.card.specs.Contents.{overwrite, part, zeros}
 use Rattle.card.specs.ContentsLaws.{block-fits, overwrite-length, overwrite-within, overwrite-behind, part-length, part-same}
 use Rattle.card.specs.Card.{Card, allocatedFlag, block}
 use Rattle.card.specs.Soundness.{ranges, lengths}
-use Rattle.card.specs.SoundnessLaws.{InRanges, HasLengths, Shaped, KeyZero, Sound, SoundCard, ranges-true, lengths-true}
+use Rattle.card.specs.SoundCard.{InRanges, HasLengths, Shaped, KeyZero, Consistent, SoundCard}
+use Rattle.card.specs.SoundnessLaws.{ranges-true, lengths-true}
 use Rattle.card.specs.Calls.{freshCard, formatResult, format}
 use Rattle.card.specs.declared.Mode.{Mode}
 
@@ -107,7 +108,7 @@ module _ (blocks roots bytes : ℕ) (c : Card) (inRanges : InRanges blocks roots
   noKeys : (m : Mode) (b : ℕ) → KeyZero (freshCard blocks roots bytes c) m b
   noKeys m b = record { high = zeros-at (4 * blocks) _; low = zeros-at (4 * blocks) _ }
 
-  fresh-sound : Sound (freshCard blocks roots bytes c)
+  fresh-sound : Consistent (freshCard blocks roots bytes c)
   unfolding ascending all pointersTo
   fresh-sound = record {
     flagsLow = λ b l. freshFlags-either blocks roots (λ (f : ℕ). f < 8) b (λ r. omega arith) (λ r. omega arith);

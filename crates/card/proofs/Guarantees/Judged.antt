@@ -7,7 +7,8 @@ use mathlib.Core.Option.{Option, none, some}
 use Rattle.card.specs.ListsLaws.{not-cases}
 use Rattle.card.specs.Card.{Card}
 use Rattle.card.specs.Soundness.{shape, sound}
-use Rattle.card.specs.SoundnessLaws.{SoundCard, shape-true, sound-true}
+use Rattle.card.specs.SoundCard.{SoundCard}
+use Rattle.card.specs.SoundnessLaws.{shape-true, sound-true}
 use Rattle.card.specs.Plan.{first, changes, Plan, Buffers, Result, refused, settle, judge, judgeSound}
 use Rattle.card.specs.PlanLaws.{NoneHolds, first-none, judge-misshapen, judge-unsound, judge-sound}
 use Rattle.card.specs.declared.Refusal.{Refusal}

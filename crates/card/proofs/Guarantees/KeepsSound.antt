@@ -13,7 +13,8 @@ use Rattle.card.specs.ListsLaws.{or-false-left, or-false-right, all-head
 use Rattle.card.specs.Pointers.{pointer, source, destination, ascending, pointersTo}
 use Rattle.card.specs.Card.{Public, Card, allocated, isRoot, freeBlocks, longestInterval, count, inUse, pointsTo, hasPointers}
 use Rattle.card.specs.Soundness.{timeLimit}
-use Rattle.card.specs.SoundnessLaws.{SoundCard, allocated-below}
+use Rattle.card.specs.SoundCard.{SoundCard}
+use Rattle.card.specs.SoundnessLaws.{allocated-below}
 use Rattle.card.specs.Plan.{setWindow, takeBlock, freeBlock, addPointer, dropPointer, withFlags, changePublic, change, changes, Buffers, Result, settle}
 use Rattle.card.specs.PlanLaws.{NoneHolds}
 use Rattle.card.specs.Calls.{missing, windowAfter, opensWindow, wanted, picks, takeAll, closeWindows, modeOf, readPlan, writePlan, allocPlan, createPlan, deletePlan, keyPlan, renewPlan, forcePlan, freePlan, tickPlan, auditPlan}

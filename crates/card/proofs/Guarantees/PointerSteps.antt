@@ -19,7 +19,8 @@ use Rattle.card.specs.Contents.{zeros}
 use Rattle.card.specs.ContentsLaws.{overwrite-length}
 use Rattle.card.specs.Card.{Public, Card, flag, allocatedFlag, keyFlag, allocated, windowAt, windowEnd, longestInterval, count, inUse, pointsTo, hasPointers}
 use Rattle.card.specs.Soundness.{pointerRight}
-use Rattle.card.specs.SoundnessLaws.{Shaped, KeyZero, Empty, RightPointer, SoundCard, pointerRight-true, true-pointerRight, allocated-below, allocated-flag, flag-allocated}
+use Rattle.card.specs.SoundCard.{Shaped, KeyZero, Empty, RightPointer, SoundCard}
+use Rattle.card.specs.SoundnessLaws.{pointerRight-true, true-pointerRight, allocated-below, allocated-flag, flag-allocated}
 use Rattle.card.specs.Plan.{takeBlock, freeBlock, addPointer, dropPointer, highWord, lowWord, withFlags, changePublic, changeKeys, changeContents, change}
 use Rattle.card.specs.declared.Mode.{Mode}
 use Rattle.card.specs.declared.Mode.the-variants.{Reading, Writing}

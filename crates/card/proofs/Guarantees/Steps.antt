@@ -15,7 +15,8 @@ use Rattle.card.specs.Contents.{fill}
 use Rattle.card.specs.ContentsLaws.{overwrite-length, fill-length, block-fits}
 use Rattle.card.specs.Card.{Public, Card, card, flag, allocatedFlag, keyFlag, allocated, windowAt, windowEnd, longestInterval, count, inUse, keyHigh, keyLow}
 use Rattle.card.specs.Soundness.{timeLimit, pointerRight}
-use Rattle.card.specs.SoundnessLaws.{Shaped, KeyZero, Empty, RightPointer, SoundCard, pointerRight-true, true-pointerRight, allocated-below, allocated-flag, flag-allocated}
+use Rattle.card.specs.SoundCard.{Shaped, KeyZero, Empty, RightPointer, SoundCard}
+use Rattle.card.specs.SoundnessLaws.{pointerRight-true, true-pointerRight, allocated-below, allocated-flag, flag-allocated}
 use Rattle.card.specs.Plan.{setWindow, setBlock, setKeys, setTime, highWord, lowWord, withFlags, changePublic, changeKeys, changeContents, change}
 use Rattle.card.specs.declared.Mode.{Mode}
 use Rattle.card.specs.declared.NewKey.{NewKey}

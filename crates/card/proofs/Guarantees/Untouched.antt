@@ -14,7 +14,8 @@ use Rattle.card.specs.ListsLaws.{absurd-test, or-false-left, same-or-oth
 use Rattle.card.specs.Contents.{zeros}
 use Rattle.card.specs.ContentsLaws.{fill-length, part-fill-same, part-fill-other}
 use Rattle.card.specs.Card.{Public, Card, allocatedFlag, allocated, freeBlocks, count, block}
-use Rattle.card.specs.SoundnessLaws.{SoundCard, allocated-below, flag-allocated}
+use Rattle.card.specs.SoundCard.{SoundCard}
+use Rattle.card.specs.SoundnessLaws.{allocated-below, flag-allocated}
 use Rattle.card.specs.Plan.{setWindow, setBlock, takeBlock, freeBlock, addPointer, dropPointer, withFlags, changePublic, changeContents, change, changes, Buffers}
 use Rattle.card.specs.PlanLaws.{NoneHolds}
 use Rattle.card.specs.Calls.{windowAfter, opensWindow, wanted, picks, takeAll, readPlan, writePlan, allocPlan, createPlan, deletePlan, keyPlan, renewPlan, forcePlan, freePlan, tickPlan, auditPlan}

@@ -14,7 +14,8 @@ use Rattle.card.specs.ListsLaws.{and-left, and-right, and-true, or-else,
 use Rattle.card.specs.Contents.{fill}
 use Rattle.card.specs.Card.{Card, allocated, isRoot, windowOpen, pointsTo, block}
 use Rattle.card.specs.Soundness.{shape, sound}
-use Rattle.card.specs.SoundnessLaws.{SoundCard, shape-true, sound-true, allocated-below}
+use Rattle.card.specs.SoundCard.{SoundCard}
+use Rattle.card.specs.SoundnessLaws.{shape-true, sound-true, allocated-below}
 use Rattle.card.specs.Session.{Request, Sent, afterAll, reports, hostSession}
 use Rattle.card.specs.Reach.{shows, presents, presented, keyPresented, sealed, Reach, unsealedRoot, byKey, openWindow, pointed, Hidden, takesLast, isOne, lastTaken}
 use Rattle.card.specs.Trials.{rules, playerCard, read, alloc, key, lending}

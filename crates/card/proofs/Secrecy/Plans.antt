@@ -16,7 +16,8 @@ use Rattle.card.specs.Pointers.{pointer, source}
 use Rattle.card.specs.PointersLaws.{all-insert, source-pointer}
 use Rattle.card.specs.Card.{Public, Card, allocated, inUse, pointsTo, hasKey, freeBlocks, count}
 use Rattle.card.specs.Soundness.{pointerRight}
-use Rattle.card.specs.SoundnessLaws.{SoundCard, pointerRight-true, allocated-below}
+use Rattle.card.specs.SoundCard.{SoundCard}
+use Rattle.card.specs.SoundnessLaws.{pointerRight-true, allocated-below}
 use Rattle.card.specs.Access.{opens, admits}
 use Rattle.card.specs.Plan.{setWindow, setBlock, setKeys, takeBlock, freeBlock, addPointer, dropPointer, changePublic, change, Shown, nothing, blockPart, numbers, Plan, Buffers}
 use Rattle.card.specs.PlanLaws.{NoneHolds}

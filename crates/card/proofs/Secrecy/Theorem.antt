@@ -8,7 +8,8 @@ use mathlib.Core.List.{List, [], _∷_, List-discrete}
 use native.Mathlib.Decide.{ℕ-discrete}
 use Rattle.card.specs.ListsLaws.{or-left, or-right, absurd-test}
 use Rattle.card.specs.Card.{Card, allocated, block}
-use Rattle.card.specs.SoundnessLaws.{SoundCard, allocated-below}
+use Rattle.card.specs.SoundCard.{SoundCard}
+use Rattle.card.specs.SoundnessLaws.{allocated-below}
 use Rattle.card.specs.Access.{keyOpens, opensKeyed, opens}
 use Rattle.card.specs.Plan.{changeKeys}
 use Rattle.card.specs.Session.{Request, Sent, replies, afterAll, hostSession}
