@@ -9,15 +9,15 @@ ghost use Rattle.fields.specs.Bytes.{number, zeroed};
 ghost use Rattle.fields.specs.Fields.{credential, newKey};
 
 // What 17 bytes of a credential hold.
-pub enum Presented {
-    Good(Credential),
-    Bad,
+pub enum ParsedCredential {
+    Valid(Credential),
+    Invalid,
 }
 
 // What 17 bytes of a new key hold.
-pub enum Replacing {
-    Good(NewKey),
-    Bad,
+pub enum ParsedKey {
+    Valid(NewKey),
+    Invalid,
 }
 
 // ---- numbers and filler
@@ -75,41 +75,41 @@ fn zeroed(bytes: &[u8], at: usize, count: usize) -> bool
 // ---- credentials and new keys
 
 // The credential of the 17 bytes at a place.
-pub fn credential(bytes: &[u8], at: usize) -> Presented
+pub fn credential(bytes: &[u8], at: usize) -> ParsedCredential
     requires { ⌜ at + 17 ≤ length (now bytes) ⌝ }
     ensures { λ r. ⌜ r ≡ credential (drop at (now (bytes .entry))) ⌝ }
 {
     match bytes[at] {
         0 => {
             if zeroed(bytes, at + 1, 16) {
-                return Presented::Good(Credential::Nothing);
+                return ParsedCredential::Valid(Credential::Nothing);
             }
-            Presented::Bad
+            ParsedCredential::Invalid
         }
         1 => {
             if zeroed(bytes, at + 3, 14) {
-                return Presented::Good(Credential::Reference(two(bytes, at + 1)));
+                return ParsedCredential::Valid(Credential::Reference(two(bytes, at + 1)));
             }
-            Presented::Bad
+            ParsedCredential::Invalid
         }
-        2 => Presented::Good(Credential::Key(eight(bytes, at + 1), eight(bytes, at + 9))),
-        _ => Presented::Bad,
+        2 => ParsedCredential::Valid(Credential::Key(eight(bytes, at + 1), eight(bytes, at + 9))),
+        _ => ParsedCredential::Invalid,
     }
 }
 
 // The new key, or none, of the 17 bytes at a place.
-pub fn new_key(bytes: &[u8], at: usize) -> Replacing
+pub fn new_key(bytes: &[u8], at: usize) -> ParsedKey
     requires { ⌜ at + 17 ≤ length (now bytes) ⌝ }
     ensures { λ r. ⌜ r ≡ newKey (drop at (now (bytes .entry))) ⌝ }
 {
     match bytes[at] {
         0 => {
             if zeroed(bytes, at + 1, 16) {
-                return Replacing::Good(NewKey::Absent);
+                return ParsedKey::Valid(NewKey::Absent);
             }
-            Replacing::Bad
+            ParsedKey::Invalid
         }
-        1 => Replacing::Good(NewKey::Present(eight(bytes, at + 1), eight(bytes, at + 9))),
-        _ => Replacing::Bad,
+        1 => ParsedKey::Valid(NewKey::Present(eight(bytes, at + 1), eight(bytes, at + 9))),
+        _ => ParsedKey::Invalid,
     }
 }

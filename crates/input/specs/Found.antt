@@ -1,9 +1,7 @@
 -- A record found in an input, as the code of the player has it.
 use Prim.Native.Nat.{ℕ, _-_, _≤_}
 use mathlib.Core.Path.{_≡_}
-use mathlib.Core.Bool.{cond}
 use mathlib.Core.List.{List}
-use lib.Dec.{eqb}
 use lib.ListN.{length, take, drop, getD}
 use Rattle.records.specs.Decode.{ended, refused, sent, decode}
 use Rattle.input.specs.Play.{fault}
@@ -12,10 +10,6 @@ use Rattle.input.specs.declared.Stop.the-variants.{Went, Ended, Short, R
 use Rattle.input.specs.declared.Record.{Record}
 use Rattle.input.specs.declared.Found.{Found}
 use Rattle.input.specs.declared.Found.the-variants.{Whole, Nothing}
-
--- The length of the operands in a body of a length.
-abbrev pub operandsWithin : ℕ → ℕ
-operandsWithin length = cond (eqb length 535) 23 length
 
 -- A whole record: what the input starts with, from the place on.
 pub record WholeIs (input : List ℕ) (from : ℕ) (r : Record) : Type 0 where

@@ -2,31 +2,28 @@
 -- Assumes nothing.
 use Prim.Native.Nat.{ℕ, _+_, _-_, _≤_, _<_}
 use mathlib.Core.Path.{_≡_, refl, sym, ap, ap₂, _∙_, subst}
-use mathlib.Core.Bool.{Bool, true, false, cond}
+use mathlib.Core.Bool.{Bool, cond}
 use mathlib.Core.List.{List, _∷_}
 use native.Mathlib.Omega.{arith}
 use native.Mathlib.Numerals.{add-one}
-use lib.Dec.{eqb}
 use lib.ListN.{length, take, drop, getD, length-drop}
 use lib.Seq.{take-all, drop-cons, drop-drop, drop-length}
-use borrow.Author.Tests.{lt-ltb, le-ltb, lt-leb, eqb-true}
-use mathlib.Core.Logic.{⊎-elim}
-use Rattle.card.specs.ListsLaws.{not-cases}
+use borrow.Author.Tests.{lt-ltb, le-ltb, lt-leb}
 use Rattle.card.specs.declared.Port.{Port}
 use Rattle.card.specs.declared.Call.{Call}
 use Rattle.kinds.specs.Kinds.{row, lengthOf, dataLength, operandsLength, kindOf, kindLength, bodyLength}
 use Rattle.records.specs.Decode.{ended, sent, decodeKnown, decodeBody, nameOf, dataOf, nextOf, decode}
-use Rattle.records.specs.DecodeLaws.{decoded-kind}
+use Rattle.records.specs.Parsed.{ParsedIs}
 use Rattle.kinds.specs.declared.Name.{Name}
 use Rattle.kinds.specs.declared.Name.the-variants.{Read as READ, Write as WRITE, Alloc as ALLOC, Create as CREATE, Delete as DELETE, Key as KEY, Renew as RENEW, Force as FORCE, Free as FREE, Tick as TICK, Audit as AUDIT}
 use Rattle.kinds.specs.declared.Kind.{Kind}
 use Rattle.kinds.specs.declared.Kind.the-variants.{Known, Unknown}
 use Rattle.kinds.specs.declared.Length.{Length}
 use Rattle.kinds.specs.declared.Length.the-variants.{Bytes, Unknown as UnknownLength}
-use Rattle.records.specs.declared.Decoding.{Decoding}
 use Rattle.records.specs.declared.Decoding.the-variants.{Decoded, Bad}
+use Rattle.records.specs.declared.Parsed.{Parsed}
 use Rattle.input.specs.Play.{isShort, fault}
-use Rattle.input.specs.Found.{operandsWithin, WholeIs, NothingIs, FoundIs}
+use Rattle.input.specs.Found.{WholeIs, NothingIs, FoundIs}
 use Rattle.input.specs.declared.Stop.{Stop}
 use Rattle.input.specs.declared.Stop.the-variants.{Short, Refused}
 use Rattle.input.specs.declared.Record.{Record}
@@ -35,36 +32,24 @@ use Rattle.input.specs.declared.Found.the-variants.{Whole}
 
 -- ---- a body's operands and data
 
-operands-right : (name : Name) → operandsLength name ≡ operandsWithin (lengthOf name)
-unfolding operandsLength lengthOf dataLength row
-operands-right READ = refl
-operands-right WRITE = refl
-operands-right ALLOC = refl
-operands-right CREATE = refl
-operands-right DELETE = refl
-operands-right KEY = refl
-operands-right RENEW = refl
-operands-right FORCE = refl
-operands-right FREE = refl
-operands-right TICK = refl
-operands-right AUDIT = refl
-
-data-right : (name : Name) → dataLength name ≡ lengthOf name - operandsWithin (lengthOf name)
+data-most : (name : Name) → dataLength name ≤ lengthOf name
 unfolding lengthOf dataLength row
-data-right READ = refl
-data-right WRITE = refl
-data-right ALLOC = refl
-data-right CREATE = refl
-data-right DELETE = refl
-data-right KEY = refl
-data-right RENEW = refl
-data-right FORCE = refl
-data-right FREE = refl
-data-right TICK = refl
-data-right AUDIT = refl
+data-most READ = omega arith
+data-most WRITE = omega arith
+data-most ALLOC = omega arith
+data-most CREATE = omega arith
+data-most DELETE = omega arith
+data-most KEY = omega arith
+data-most RENEW = omega arith
+data-most FORCE = omega arith
+data-most FREE = omega arith
+data-most TICK = omega arith
+data-most AUDIT = omega arith
 
-pub operands-most : (n : ℕ) → operandsWithin n ≤ n
-operands-most n = ⊎-elim (λ (e : eqb n 535 ≡ true). rw e (omega (arith, eqb-true n 535 e))) (λ (e : eqb n 535 ≡ false). rw e (omega arith)) (not-cases (eqb n 535))
+-- The data are what is left of a body behind its operands.
+data-right : (name : Name) → dataLength name ≡ lengthOf name - operandsLength name
+unfolding operandsLength
+data-right name = omega (arith, data-most name)
 
 -- ---- where the input is at its end
 
@@ -123,39 +108,31 @@ module _ (input : List ℕ) (from : ℕ) (h : from < length input) where
     fault-here ∙ ap (λ (l : Length). cond (isShort l (length body)) Short Refused) (sym e ∙ u) ∙ ap (λ (t : Bool). cond t Short Refused) (lt-ltb (length body) n s),
   )
 
-  pub found-bad : {l : Length} {n : ℕ} {d : Decoding} → l ≡ bodyLength kind → l ≡ Bytes n → n ≤ length body → d ≡ decodeBody kind body → d ≡ Bad → NothingIs (drop from input) Refused
+  pub found-bad : {l : Length} {n : ℕ} {r : Parsed} → l ≡ bodyLength kind → l ≡ Bytes n → n ≤ length body → ParsedIs kind body r → r .decoding ≡ Bad → NothingIs (drop from input) Refused
   unfolding nextOf isShort
-  found-bad {n = n} e u s d b = (
-    decodes-next ∙ ap (nextOf body) (sym d ∙ b),
+  found-bad {n = n} e u s p b = (
+    decodes-next ∙ ap (nextOf body) (sym (p .decodes) ∙ b),
     fault-here ∙ ap (λ (l : Length). cond (isShort l (length body)) Short Refused) (sym e ∙ u) ∙ ap (λ (t : Bool). cond t Short Refused) (le-ltb (length body) n s),
   )
 
-  pub found-whole : {l : Length} {n : ℕ} {d : Decoding} {port : Port} {call : Call} → l ≡ bodyLength kind → l ≡ Bytes n → n ≤ length body → d ≡ decodeBody kind body → d ≡ Decoded port call
-      → WholeIs input from (record { kind = kind; port = port; call = call; payload = from + 1 + operandsWithin n; next = from + 1 + n })
-  unfolding nextOf dataOf bodyLength kindLength
-  found-whole {l} {n} {d} {port} {call} e u s q r =
-      let k = decoded-kind kind body port call (sym r ∙ q) in
-      let same : n ≡ lengthOf (nameOf call) = length-is n (lengthOf (nameOf call)) (sym u ∙ e ∙ ap kindLength (k .kind)) in
-      let size : dataLength (nameOf call) ≡ from + 1 + n - (from + 1 + operandsWithin n) =
-      data-right (nameOf call) ∙ sym (ap (λ (m : ℕ). m - operandsWithin m) same) ∙ shift n (operandsWithin n) in
-      let payload-is : take (dataLength (nameOf call)) (drop (operandsLength (nameOf call)) body) ≡ take (from + 1 + n - (from + 1 + operandsWithin n)) (drop (from + 1 + operandsWithin n) input) =
-      ap₂ (λ (m : ℕ) (ys : List ℕ). take m ys)
-      size
-      (ap₂ (λ (m : ℕ) (ys : List ℕ). drop m ys) (operands-right (nameOf call) ∙ ap operandsWithin (sym same)) body-whole ∙ drop-drop (operandsWithin n) (from + 1) input) in
-      let rest-is : drop (lengthOf (nameOf call)) body ≡ drop (from + 1 + n) input =
-      ap₂ (λ (m : ℕ) (ys : List ℕ). drop m ys) (sym same) body-whole ∙ drop-drop n (from + 1) input in
+  pub found-whole : {r : Parsed} {port : Port} {call : Call} → ParsedIs kind body r → r .decoding ≡ Decoded port call
+      → WholeIs input from (record { kind = kind; port = port; call = call; payload = from + 1 + r .payload; next = from + 1 + r .end })
+  unfolding nextOf dataOf
+  found-whole {r} {port} {call} p e =
+      let operands-end : r .payload ≡ operandsLength (nameOf call) = p .payloadAt e in
+      let body-end : r .end ≡ lengthOf (nameOf call) = p .endAt e in
+      let size : dataLength (nameOf call) ≡ from + 1 + r .end - (from + 1 + r .payload) = omega (arith, data-right (nameOf call)) in
+      let payload-is : take (dataLength (nameOf call)) (drop (operandsLength (nameOf call)) body) ≡ take (from + 1 + r .end - (from + 1 + r .payload)) (drop (from + 1 + r .payload) input) =
+      ap₂ (λ (m : ℕ) (ys : List ℕ). take m ys) size
+      (ap₂ (λ (m : ℕ) (ys : List ℕ). drop m ys) (sym operands-end) body-whole ∙ drop-drop (r .payload) (from + 1) input) in
+      let rest-is : drop (lengthOf (nameOf call)) body ≡ drop (from + 1 + r .end) input =
+      ap₂ (λ (m : ℕ) (ys : List ℕ). drop m ys) (sym body-end) body-whole ∙ drop-drop (r .end) (from + 1) input in
       record {
-        decodes = decodes-next ∙ ap (nextOf body) (sym q ∙ r) ∙ ap₂ (sent port call) payload-is rest-is;
+        decodes = decodes-next ∙ ap (nextOf body) (sym (p .decodes) ∙ e) ∙ ap₂ (sent port call) payload-is rest-is;
         hasKind = rw starts;
-        payloadWithin = omega (arith, operands-most n);
-        nextWithin = omega (arith, body-length);
+        payloadWithin = omega (arith, p .ordered);
+        nextWithin = omega (arith, p .within, body-length);
       }
-    where
-      shift : (a b : ℕ) → a - b ≡ from + 1 + a - (from + 1 + b)
-      shift a b = omega arith
-
-      length-is : (a b : ℕ) → Bytes a ≡ Bytes b → a ≡ b
-      length-is a b p = cc
 
 -- The bounds of a whole record.
 pub whole-within : (input : List ℕ) (from : ℕ) {found : Found} {r : Record} → FoundIs input from found → found ≡ Whole r → (r .payload ≤ r .next) × (r .next ≤ length input)

@@ -7,7 +7,7 @@ use records::Decoding;
 ghost use Prim.Native.Nat.{_≤_};
 ghost use lib.ListN.{length};
 ghost use mathlib.Core.Path.{_≡_};
-ghost use Rattle.input.specs.Found.{operandsWithin, FoundIs};
+ghost use Rattle.input.specs.Found.{FoundIs};
 ghost use Rattle.input.specs.Played.{isWent};
 
 // Why a player stopped.
@@ -39,13 +39,6 @@ pub enum Found {
     Nothing(Stop),
 }
 
-// The bytes of a body beside its operands are WRITE's 512, its last; no other body is as long.
-fn operands(length: usize) -> usize
-    ensures { λ r. ⌜ r ≡ operandsWithin length ⌝ }
-{
-    if length == 535 { 23 } else { length }
-}
-
 // The record of an input that starts at a place, or why there is none.
 pub fn find(input: &[u8], from: usize) -> Found
     requires { ⌜ from ≤ length (now input) ⌝ }
@@ -63,14 +56,16 @@ pub fn find(input: &[u8], from: usize) -> Found
     if body.len() < length {
         return Found::Nothing(Stop::Short);
     }
-    match records::decode(kind, body) {
+    let parsed = records::decode(kind, body);
+    let decoding = parsed.decoding;
+    match decoding {
         Decoding::Bad => Found::Nothing(Stop::Refused),
         Decoding::Decoded(port, call) => Found::Whole(Record {
             kind,
             port,
             call,
-            payload: start + operands(length),
-            next: start + length,
+            payload: start + parsed.payload,
+            next: start + parsed.end,
         }),
     }
 }

@@ -4,8 +4,9 @@ use Prim.Native.Nat.{ℕ}
 use mathlib.Core.Path.{_≡_, sym, ap}
 use mathlib.Core.List.{List, [], _∷_}
 use borrow.Author.Tests.{ne-eqb}
-use Rattle.kinds.specs.Kinds.{row, names, kindNumber, lengthOf, among, kindOf, kindLength, bodyLength}
+use Rattle.kinds.specs.Kinds.{row, names, kindNumber, lengthOf, dataLength, operandsLength, lengthsOf, among, kindOf, kindLength, bodyLength}
 use Rattle.kinds.specs.declared.Name.{Name}
+use Rattle.kinds.specs.declared.Lengths.{Lengths}
 use Rattle.kinds.specs.declared.Kind.{Kind}
 use Rattle.kinds.specs.declared.Kind.the-variants.{Known, Unknown}
 use Rattle.kinds.specs.declared.Length.the-variants.{Bytes, Unknown as UnknownLength}
@@ -13,14 +14,14 @@ use Rattle.card.specs.declared.Port.{Port}
 
 -- To compute by the table, a proof unfolds this one name.
 unfoldable pub table : Unit {0}
-unfolding row names kindNumber lengthOf among kindOf
+unfolding row names kindNumber lengthOf dataLength operandsLength lengthsOf among kindOf
 table = tt
 
 pub at-kind : {k n : ℕ} → k ≡ n → kindOf n ≡ kindOf k
 at-kind e = ap kindOf (sym e)
 
-pub at-name : {a b : Name} → a ≡ b → lengthOf b ≡ lengthOf a
-at-name e = ap lengthOf (sym e)
+pub at-name : {a b : Name} → a ≡ b → lengthsOf b ≡ lengthsOf a
+at-name e = ap lengthsOf (sym e)
 
 -- The number is none of the list, the last first.
 abbrev pub Apart : ℕ → List ℕ → Type 0
@@ -52,10 +53,10 @@ unknown k h =
 
 -- ---- the length of a kind's body
 
-pub known-length : (k : ℕ) {l : ℕ} {r : Kind} {port : Port} {name : Name}
-    → r ≡ kindOf k → r ≡ Known port name → l ≡ lengthOf name
-    → Bytes l ≡ bodyLength k
-unfolding bodyLength kindLength
+pub known-length : (k : ℕ) {l : Lengths} {r : Kind} {port : Port} {name : Name}
+    → r ≡ kindOf k → r ≡ Known port name → l ≡ lengthsOf name
+    → Bytes (l .body) ≡ bodyLength k
+unfolding bodyLength kindLength lengthsOf
 known-length k e q h = rw (← e, q, h)
 
 pub unknown-length : (k : ℕ) {r : Kind} → r ≡ kindOf k → r ≡ Unknown → UnknownLength ≡ bodyLength k

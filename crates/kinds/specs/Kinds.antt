@@ -10,6 +10,7 @@ use Rattle.kinds.specs.declared.Name.{Name}
 use Rattle.kinds.specs.declared.Name.the-variants.{Read as READ, Write as WRITE, Alloc as ALLOC, Create as CREATE, Delete as DELETE, Key as KEY, Renew as RENEW, Force as FORCE, Free as FREE, Tick as TICK, Audit as AUDIT}
 use Rattle.kinds.specs.declared.Kind.{Kind}
 use Rattle.kinds.specs.declared.Kind.the-variants.{Known, Unknown}
+use Rattle.kinds.specs.declared.Lengths.{Lengths}
 use Rattle.kinds.specs.declared.Length.{Length}
 use Rattle.kinds.specs.declared.Length.the-variants.{Bytes, Unknown as UnknownLength}
 
@@ -60,6 +61,9 @@ dataLength name = rowPayload (row name)
 -- The length of a call's operands, which come first in its body.
 unfoldable pub operandsLength : Name → ℕ
 operandsLength name = lengthOf name - dataLength name
+
+unfoldable pub lengthsOf : Name → Lengths
+lengthsOf name = record { operands = operandsLength name; body = lengthOf name }
 
 -- The call has a kind at the port.
 unfoldable pub hasKind : Port → Name → Bool

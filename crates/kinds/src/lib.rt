@@ -2,7 +2,7 @@
 // What is right is defined in specs/, after document 01, "Call records and the player".
 use card::Port;
 ghost use mathlib.Core.Path.{_≡_};
-ghost use Rattle.kinds.specs.Kinds.{lengthOf, kindOf, bodyLength};
+ghost use Rattle.kinds.specs.Kinds.{lengthsOf, kindOf, bodyLength};
 
 // The calls that a record may hold.
 pub enum Name {
@@ -23,6 +23,12 @@ pub enum Name {
 pub enum Kind {
     Known(Port, Name),
     Unknown,
+}
+
+// The lengths of a call's operands and of its body.
+pub struct Lengths {
+    pub operands: usize,
+    pub body: usize,
 }
 
 // The length of a body, where there is such a kind.
@@ -57,22 +63,55 @@ pub fn kind_of(kind: u8) -> Kind
     }
 }
 
-// The length of a call's body.
-pub fn length_of(name: Name) -> usize
-    ensures { λ r. ⌜ r ≡ lengthOf name ⌝ }
+// The length of a call's operands, which come first in its body, and of the body. WRITE's data follow its operands.
+pub fn lengths_of(name: Name) -> Lengths
+    ensures { λ r. ⌜ r ≡ lengthsOf name ⌝ }
 {
     match name {
-        Name::Read => 23,
-        Name::Write => 535,
-        Name::Alloc => 22,
-        Name::Create => 38,
-        Name::Delete => 21,
-        Name::Key => 53,
-        Name::Renew => 23,
-        Name::Force => 2,
-        Name::Free => 0,
-        Name::Tick => 8,
-        Name::Audit => 0,
+        Name::Read => Lengths {
+            operands: 23,
+            body: 23,
+        },
+        Name::Write => Lengths {
+            operands: 23,
+            body: 535,
+        },
+        Name::Alloc => Lengths {
+            operands: 22,
+            body: 22,
+        },
+        Name::Create => Lengths {
+            operands: 38,
+            body: 38,
+        },
+        Name::Delete => Lengths {
+            operands: 21,
+            body: 21,
+        },
+        Name::Key => Lengths {
+            operands: 53,
+            body: 53,
+        },
+        Name::Renew => Lengths {
+            operands: 23,
+            body: 23,
+        },
+        Name::Force => Lengths {
+            operands: 2,
+            body: 2,
+        },
+        Name::Free => Lengths {
+            operands: 0,
+            body: 0,
+        },
+        Name::Tick => Lengths {
+            operands: 8,
+            body: 8,
+        },
+        Name::Audit => Lengths {
+            operands: 0,
+            body: 0,
+        },
     }
 }
 
@@ -82,7 +121,10 @@ pub fn body_length(kind: u8) -> Length
 {
     let known = kind_of(kind);
     match known {
-        Kind::Known(_, name) => Length::Bytes(length_of(name)),
+        Kind::Known(_, name) => {
+            let lengths = lengths_of(name);
+            Length::Bytes(lengths.body)
+        }
         Kind::Unknown => Length::Unknown,
     }
 }

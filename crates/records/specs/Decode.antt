@@ -7,6 +7,7 @@ use lib.Dec.{leb}
 use lib.ListN.{length, take, drop, getD}
 use Rattle.card.specs.declared.Port.{Port}
 use Rattle.card.specs.declared.Credential.{Credential}
+use Rattle.card.specs.declared.Credential.the-variants.{Nothing, Reference, Key as KeyCredential}
 use Rattle.card.specs.declared.Call.{Call}
 use Rattle.card.specs.declared.Call.the-variants.{Read, Write, Alloc, Create, Delete, Key, Renew, Force, Free, Tick, Audit}
 use Rattle.fields.specs.Bytes.{number}
@@ -16,57 +17,67 @@ use Rattle.kinds.specs.declared.Name.{Name}
 use Rattle.kinds.specs.declared.Name.the-variants.{Read as READ, Write as WRITE, Alloc as ALLOC, Create as CREATE, Delete as DELETE, Key as KEY, Renew as RENEW, Force as FORCE, Free as FREE, Tick as TICK, Audit as AUDIT}
 use Rattle.kinds.specs.declared.Kind.{Kind}
 use Rattle.kinds.specs.declared.Kind.the-variants.{Known, Unknown}
-use Rattle.fields.specs.declared.Presented.{Presented}
-use Rattle.fields.specs.declared.Presented.the-variants.{Good as Presents, Bad as BadCredential}
-use Rattle.fields.specs.declared.Replacing.{Replacing}
-use Rattle.fields.specs.declared.Replacing.the-variants.{Good as Replaces, Bad as BadKey}
+use Rattle.fields.specs.declared.ParsedCredential.{ParsedCredential}
+use Rattle.fields.specs.declared.ParsedCredential.the-variants.{Valid as ValidCredential, Invalid as InvalidCredential}
+use Rattle.fields.specs.declared.ParsedKey.{ParsedKey}
+use Rattle.fields.specs.declared.ParsedKey.the-variants.{Valid as ValidKey, Invalid as InvalidKey}
 use Rattle.records.specs.declared.Decoding.{Decoding}
 use Rattle.records.specs.declared.Decoding.the-variants.{Decoded, Bad}
 
--- ---- each call's body
+-- ---- the calls of their operands
 
 -- A call that has one credential.
-unfoldable pub withCredential : Port → (Credential → Call) → Presented → Decoding
-withCredential port call (Presents c) = Decoded port (call c)
-withCredential port call BadCredential = Bad
+unfoldable pub withCredential : Port → (Credential → Call) → ParsedCredential → Decoding
+withCredential port call (ValidCredential c) = Decoded port (call c)
+withCredential port call InvalidCredential = Bad
 
-unfoldable pub createWith : Port → ℕ → ℕ → Presented → Presented → Decoding
-createWith port source destination (Presents c) (Presents d) =
+abbrev pub readWith : Port → ℕ → ParsedCredential → ℕ → Decoding
+readWith port block p interval = withCredential port (λ c. Read (record { block = block; credential = c; interval = interval })) p
+
+abbrev pub writeWith : Port → ℕ → ParsedCredential → ℕ → Decoding
+writeWith port block p interval = withCredential port (λ c. Write (record { block = block; credential = c; interval = interval })) p
+
+abbrev pub allocWith : Port → ℕ → ParsedCredential → ℕ → ℕ → Decoding
+allocWith port reference p hint count =
+    withCredential port (λ c. Alloc (record { reference = reference; credential = c; hint = hint; count = count })) p
+
+unfoldable pub createWith : Port → ℕ → ParsedCredential → ℕ → ParsedCredential → Decoding
+createWith port source (ValidCredential c) destination (ValidCredential d) =
     Decoded port (Create (record { source = source; credential = c; destination = destination; second = d }))
-createWith port source destination (Presents c) BadCredential = Bad
-createWith port source destination BadCredential second = Bad
+createWith port source (ValidCredential c) destination InvalidCredential = Bad
+createWith port source InvalidCredential destination second = Bad
 
-unfoldable pub keyWith : Port → ℕ → Presented → Replacing → Replacing → Decoding
-keyWith port block (Presents c) (Replaces r) (Replaces w) =
+abbrev pub deleteWith : Port → ℕ → ParsedCredential → ℕ → Decoding
+deleteWith port source p destination =
+    withCredential port (λ c. Delete (record { source = source; credential = c; destination = destination })) p
+
+unfoldable pub keyWith : Port → ℕ → ParsedCredential → ParsedKey → ParsedKey → Decoding
+keyWith port block (ValidCredential c) (ValidKey r) (ValidKey w) =
     Decoded port (Key (record { block = block; credential = c; read = r; write = w }))
-keyWith port block (Presents c) (Replaces r) BadKey = Bad
-keyWith port block (Presents c) BadKey write = Bad
-keyWith port block BadCredential read write = Bad
+keyWith port block (ValidCredential c) (ValidKey r) InvalidKey = Bad
+keyWith port block (ValidCredential c) InvalidKey write = Bad
+keyWith port block InvalidCredential read write = Bad
+
+-- RENEW is by a key alone.
+unfoldable pub renewWith : Port → ℕ → ℕ → ParsedCredential → ℕ → Decoding
+renewWith port mode block (ValidCredential Nothing) interval = Bad
+renewWith port mode block (ValidCredential (Reference r)) interval = Bad
+renewWith port mode block (ValidCredential (KeyCredential high low)) interval =
+    Decoded port (Renew (record { mode = mode; block = block; high = high; low = low; interval = interval }))
+renewWith port mode block InvalidCredential interval = Bad
+
+-- ---- each call's body
 
 -- A body of the call's length, or one that starts so.
 unfoldable pub decodeCall : Port → Name → List ℕ → Decoding
-decodeCall port READ xs =
-    withCredential port (λ c. Read (record { block = number 2 xs; credential = c; interval = number 4 (drop 19 xs) })) (credential (drop 2 xs))
-decodeCall port WRITE xs =
-    withCredential port (λ c. Write (record { block = number 2 xs; credential = c; interval = number 4 (drop 19 xs) })) (credential (drop 2 xs))
-decodeCall port ALLOC xs =
-    withCredential port
-    (λ c. Alloc (record { reference = number 2 xs; credential = c; hint = number 2 (drop 19 xs); count = getD xs 21 0 }))
-    (credential (drop 2 xs))
-decodeCall port CREATE xs = createWith port (number 2 xs) (number 2 (drop 19 xs)) (credential (drop 2 xs)) (credential (drop 21 xs))
-decodeCall port DELETE xs =
-    withCredential port (λ c. Delete (record { source = number 2 xs; credential = c; destination = number 2 (drop 19 xs) })) (credential (drop 2 xs))
+decodeCall port READ xs = readWith port (number 2 xs) (credential (drop 2 xs)) (number 4 (drop 19 xs))
+decodeCall port WRITE xs = writeWith port (number 2 xs) (credential (drop 2 xs)) (number 4 (drop 19 xs))
+decodeCall port ALLOC xs = allocWith port (number 2 xs) (credential (drop 2 xs)) (number 2 (drop 19 xs)) (getD xs 21 0)
+decodeCall port CREATE xs = createWith port (number 2 xs) (credential (drop 2 xs)) (number 2 (drop 19 xs)) (credential (drop 21 xs))
+decodeCall port DELETE xs = deleteWith port (number 2 xs) (credential (drop 2 xs)) (number 2 (drop 19 xs))
 decodeCall port KEY xs = keyWith port (number 2 xs) (credential (drop 2 xs)) (newKey (drop 19 xs)) (newKey (drop 36 xs))
 decodeCall port RENEW xs =
-    Decoded port
-    (Renew
-    (record {
-      mode = getD xs 0 0;
-      block = number 2 (drop 1 xs);
-      high = number 8 (drop 3 xs);
-      low = number 8 (drop 11 xs);
-      interval = number 4 (drop 19 xs);
-    }))
+    renewWith port (getD xs 0 0) (number 2 (drop 1 xs)) (ValidCredential (KeyCredential (number 8 (drop 3 xs)) (number 8 (drop 11 xs)))) (number 4 (drop 19 xs))
 decodeCall port FORCE xs = Decoded port (Force (record { block = number 2 xs }))
 decodeCall port FREE xs = Decoded port Free
 decodeCall port TICK xs = Decoded port (Tick (record { seconds = number 8 xs }))

@@ -12,117 +12,71 @@ use borrow.Author.Tests.{le-leb, lt-leb, leb-true}
 use Rattle.card.specs.ListsLaws.{not-cases}
 use Rattle.card.specs.declared.Port.{Port}
 use Rattle.card.specs.declared.Credential.{Credential}
+use Rattle.card.specs.declared.Credential.the-variants.{Key as KeyCredential}
 use Rattle.card.specs.declared.NewKey.{NewKey}
 use Rattle.card.specs.declared.Call.{Call}
 use Rattle.card.specs.declared.Call.the-variants.{Read, Write, Alloc, Create, Delete, Key, Renew, Force, Free, Tick, Audit}
 use Rattle.fields.specs.Bytes.{number}
 use Rattle.kinds.specs.Kinds.{lengthOf, kindOf}
 use Rattle.fields.specs.Fields.{credential, newKey}
-use Rattle.records.specs.Decode.{withCredential, createWith, keyWith, decodeCall, decodeKnown, decodeBody, nameOf, sent, nextOf, decode}
+use Rattle.records.specs.Decode.{withCredential, readWith, writeWith, allocWith, createWith, deleteWith, keyWith, renewWith, decodeCall, decodeKnown, decodeBody, nameOf, sent, nextOf, decode}
 use Rattle.kinds.specs.declared.Name.{Name}
 use Rattle.kinds.specs.declared.Name.the-variants.{Read as READ, Write as WRITE, Alloc as ALLOC, Create as CREATE, Delete as DELETE, Key as KEY, Renew as RENEW, Force as FORCE, Free as FREE, Tick as TICK, Audit as AUDIT}
 use Rattle.kinds.specs.declared.Kind.{Kind}
 use Rattle.kinds.specs.declared.Kind.the-variants.{Known, Unknown}
-use Rattle.fields.specs.declared.Presented.{Presented}
-use Rattle.fields.specs.declared.Presented.the-variants.{Good as Presents, Bad as BadCredential}
-use Rattle.fields.specs.declared.Replacing.{Replacing}
-use Rattle.fields.specs.declared.Replacing.the-variants.{Good as Replaces, Bad as BadKey}
+use Rattle.fields.specs.declared.ParsedCredential.{ParsedCredential}
+use Rattle.fields.specs.declared.ParsedCredential.the-variants.{Valid as ValidCredential, Invalid as InvalidCredential}
+use Rattle.fields.specs.declared.ParsedKey.{ParsedKey}
+use Rattle.fields.specs.declared.ParsedKey.the-variants.{Valid as ValidKey, Invalid as InvalidKey}
 use Rattle.records.specs.declared.Decoding.{Decoding}
 use Rattle.records.specs.declared.Decoding.the-variants.{Decoded, Bad}
 
--- A bad credential, where a call has one.
-pub refused : (port : Port) (call : Credential → Call) (ys : List ℕ) {p : Presented}
-    → p ≡ credential ys → p ≡ BadCredential
-    → Bad ≡ withCredential port call (credential ys)
-unfolding withCredential
-refused port call ys p e = rw (← p, e)
-
 module _ (port : Port) (xs : List ℕ) where
-  -- ---- calls with one credential
+  -- ---- calls of their operands
 
-  pub read : {b i : ℕ} {p : Presented} {c : Credential}
-      → b ≡ number 2 xs → i ≡ number 4 (drop 19 xs) → p ≡ credential (drop 2 xs) → p ≡ Presents c
-      → Decoded port (Read (record { block = b; credential = c; interval = i })) ≡ decodeCall port READ xs
-  unfolding decodeCall withCredential
-  read b i p e = rw (← p, e, ← b, ← i)
+  pub read : {b i : ℕ} {p : ParsedCredential} → b ≡ number 2 xs → p ≡ credential (drop 2 xs) → i ≡ number 4 (drop 19 xs)
+      → readWith port b p i ≡ decodeCall port READ xs
+  unfolding decodeCall
+  read b p i = rw (b, p, i)
 
-  pub write : {b i : ℕ} {p : Presented} {c : Credential}
-      → b ≡ number 2 xs → i ≡ number 4 (drop 19 xs) → p ≡ credential (drop 2 xs) → p ≡ Presents c
-      → Decoded port (Write (record { block = b; credential = c; interval = i })) ≡ decodeCall port WRITE xs
-  unfolding decodeCall withCredential
-  write b i p e = rw (← p, e, ← b, ← i)
+  pub write : {b i : ℕ} {p : ParsedCredential} → b ≡ number 2 xs → p ≡ credential (drop 2 xs) → i ≡ number 4 (drop 19 xs)
+      → writeWith port b p i ≡ decodeCall port WRITE xs
+  unfolding decodeCall
+  write b p i = rw (b, p, i)
 
-  pub alloc : {r h n : ℕ} {p : Presented} {c : Credential}
-      → r ≡ number 2 xs → h ≡ number 2 (drop 19 xs) → n ≡ getD xs 21 0 → p ≡ credential (drop 2 xs) → p ≡ Presents c
-      → Decoded port (Alloc (record { reference = r; credential = c; hint = h; count = n })) ≡ decodeCall port ALLOC xs
-  unfolding decodeCall withCredential
-  alloc r h n p e = rw (← p, e, ← r, ← h, ← n)
+  pub alloc : {r h n : ℕ} {p : ParsedCredential} → r ≡ number 2 xs → p ≡ credential (drop 2 xs) → h ≡ number 2 (drop 19 xs) → n ≡ getD xs 21 0
+      → allocWith port r p h n ≡ decodeCall port ALLOC xs
+  unfolding decodeCall
+  alloc r p h n = rw (r, p, h, n)
 
-  pub delete : {s d : ℕ} {p : Presented} {c : Credential}
-      → s ≡ number 2 xs → d ≡ number 2 (drop 19 xs) → p ≡ credential (drop 2 xs) → p ≡ Presents c
-      → Decoded port (Delete (record { source = s; credential = c; destination = d })) ≡ decodeCall port DELETE xs
-  unfolding decodeCall withCredential
-  delete s d p e = rw (← p, e, ← s, ← d)
+  pub create : {s d : ℕ} {p q : ParsedCredential} → s ≡ number 2 xs → p ≡ credential (drop 2 xs) → d ≡ number 2 (drop 19 xs) → q ≡ credential (drop 21 xs)
+      → createWith port s p d q ≡ decodeCall port CREATE xs
+  unfolding decodeCall
+  create s p d q = rw (s, p, d, q)
 
-  -- ---- calls with more
+  pub delete : {s d : ℕ} {p : ParsedCredential} → s ≡ number 2 xs → p ≡ credential (drop 2 xs) → d ≡ number 2 (drop 19 xs)
+      → deleteWith port s p d ≡ decodeCall port DELETE xs
+  unfolding decodeCall
+  delete s p d = rw (s, p, d)
 
-  pub create : {s d : ℕ} {p q : Presented} {c e : Credential}
-      → s ≡ number 2 xs → d ≡ number 2 (drop 19 xs) → p ≡ credential (drop 2 xs) → q ≡ credential (drop 21 xs)
-      → p ≡ Presents c → q ≡ Presents e
-      → Decoded port (Create (record { source = s; credential = c; destination = d; second = e })) ≡ decodeCall port CREATE xs
-  unfolding decodeCall createWith
-  create s d p q e f = rw (← p, ← q, e, f, ← s, ← d)
-
-  pub create-second : {p q : Presented} {c : Credential}
-      → p ≡ credential (drop 2 xs) → q ≡ credential (drop 21 xs) → p ≡ Presents c → q ≡ BadCredential
-      → Bad ≡ decodeCall port CREATE xs
-  unfolding decodeCall createWith
-  create-second p q e f = rw (← p, ← q, e, f)
-
-  pub key : {b : ℕ} {p : Presented} {r w : Replacing} {c : Credential} {m n : NewKey}
-      → b ≡ number 2 xs → p ≡ credential (drop 2 xs) → r ≡ newKey (drop 19 xs) → w ≡ newKey (drop 36 xs) → p ≡ Presents c
-      → r ≡ Replaces m → w ≡ Replaces n
-      → Decoded port (Key (record { block = b; credential = c; read = m; write = n })) ≡ decodeCall port KEY xs
-  unfolding decodeCall keyWith
-  key b p r w e f g = rw (← p, ← r, ← w, e, f, g, ← b)
-
-  pub key-read : {p : Presented} {r : Replacing} {c : Credential}
-      → p ≡ credential (drop 2 xs) → r ≡ newKey (drop 19 xs) → p ≡ Presents c → r ≡ BadKey
-      → Bad ≡ decodeCall port KEY xs
-  unfolding decodeCall keyWith
-  key-read p r e f = rw (← p, ← r, e, f)
-
-  pub key-write : {p : Presented} {r w : Replacing} {c : Credential} {m : NewKey}
-      → p ≡ credential (drop 2 xs) → r ≡ newKey (drop 19 xs) → w ≡ newKey (drop 36 xs) → p ≡ Presents c → r ≡ Replaces m
-      → w ≡ BadKey
-      → Bad ≡ decodeCall port KEY xs
-  unfolding decodeCall keyWith
-  key-write p r w e f g = rw (← p, ← r, ← w, e, f, g)
-
-  pub create-refused : {p : Presented} → p ≡ credential (drop 2 xs) → p ≡ BadCredential → Bad ≡ decodeCall port CREATE xs
-  unfolding decodeCall createWith
-  create-refused p e = rw (← p, e)
-
-  pub key-refused : {p : Presented} → p ≡ credential (drop 2 xs) → p ≡ BadCredential → Bad ≡ decodeCall port KEY xs
-  unfolding decodeCall keyWith
-  key-refused p e = rw (← p, e)
-
-  -- ---- calls without a credential
+  pub key : {b : ℕ} {p : ParsedCredential} {r w : ParsedKey} → b ≡ number 2 xs → p ≡ credential (drop 2 xs) → r ≡ newKey (drop 19 xs) → w ≡ newKey (drop 36 xs)
+      → keyWith port b p r w ≡ decodeCall port KEY xs
+  unfolding decodeCall
+  key b p r w = rw (b, p, r, w)
 
   pub renew : {m b h l i : ℕ}
-      → m ≡ getD xs 0 0 → b ≡ number 2 (drop 1 xs) → h ≡ number 8 (drop 3 xs) → l ≡ number 8 (drop 11 xs)
-      → i ≡ number 4 (drop 19 xs)
-      → Decoded port (Renew (record { mode = m; block = b; high = h; low = l; interval = i })) ≡ decodeCall port RENEW xs
+      → m ≡ getD xs 0 0 → b ≡ number 2 (drop 1 xs) → h ≡ number 8 (drop 3 xs) → l ≡ number 8 (drop 11 xs) → i ≡ number 4 (drop 19 xs)
+      → renewWith port m b (ValidCredential (KeyCredential h l)) i ≡ decodeCall port RENEW xs
   unfolding decodeCall
-  renew m b h l i = rw (← m, ← b, ← h, ← l, ← i)
+  renew m b h l i = rw (m, b, h, l, i)
 
   pub force : {b : ℕ} → b ≡ number 2 xs → Decoded port (Force (record { block = b })) ≡ decodeCall port FORCE xs
   unfolding decodeCall
-  force b = rw (← b) refl
+  force b = rw b
 
   pub tick : {n : ℕ} → n ≡ number 8 xs → Decoded port (Tick (record { seconds = n })) ≡ decodeCall port TICK xs
   unfolding decodeCall
-  tick n = rw (← n) refl
+  tick n = rw n
 
   pub free : Decoded port Free ≡ decodeCall port FREE xs
   unfolding decodeCall
@@ -166,27 +120,27 @@ Named port name (Decoded p call) = (p ≡ port) × (nameOf call ≡ name)
 Named port name Bad = Unit {0}
 
 named-credential : (port : Port) (name : Name) (call : Credential → Call)
-    → ((c : Credential) → nameOf (call c) ≡ name) → (q : Presented)
+    → ((c : Credential) → nameOf (call c) ≡ name) → (q : ParsedCredential)
     → Named port name (withCredential port call q)
 unfolding withCredential
-named-credential port name call h (Presents c) = (refl, h c)
-named-credential port name call h BadCredential = tt
+named-credential port name call h (ValidCredential c) = (refl, h c)
+named-credential port name call h InvalidCredential = tt
 
-named-create : (port : Port) (s d : ℕ) (p q : Presented) → Named port CREATE (createWith port s d p q)
+named-create : (port : Port) (s d : ℕ) (p q : ParsedCredential) → Named port CREATE (createWith port s p d q)
 unfolding createWith nameOf
-named-create port s d (Presents c) (Presents e) = (refl, refl)
-named-create port s d (Presents c) BadCredential = tt
-named-create port s d BadCredential q = tt
+named-create port s d (ValidCredential c) (ValidCredential e) = (refl, refl)
+named-create port s d (ValidCredential c) InvalidCredential = tt
+named-create port s d InvalidCredential q = tt
 
-named-key : (port : Port) (b : ℕ) (p : Presented) (r w : Replacing) → Named port KEY (keyWith port b p r w)
+named-key : (port : Port) (b : ℕ) (p : ParsedCredential) (r w : ParsedKey) → Named port KEY (keyWith port b p r w)
 unfolding keyWith nameOf
-named-key port b (Presents c) (Replaces m) (Replaces n) = (refl, refl)
-named-key port b (Presents c) (Replaces m) BadKey = tt
-named-key port b (Presents c) BadKey w = tt
-named-key port b BadCredential r w = tt
+named-key port b (ValidCredential c) (ValidKey m) (ValidKey n) = (refl, refl)
+named-key port b (ValidCredential c) (ValidKey m) InvalidKey = tt
+named-key port b (ValidCredential c) InvalidKey w = tt
+named-key port b InvalidCredential r w = tt
 
 named : (port : Port) (name : Name) (xs : List ℕ) → Named port name (decodeCall port name xs)
-unfolding decodeCall nameOf
+unfolding decodeCall renewWith nameOf
 named port READ xs = named-credential port READ _ (λ c. refl) _
 named port WRITE xs = named-credential port WRITE _ (λ c. refl) _
 named port ALLOC xs = named-credential port ALLOC _ (λ c. refl) _

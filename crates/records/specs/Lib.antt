@@ -1,5 +1,6 @@
 pub mod Decode
 pub mod DecodeLaws
+pub mod Parsed
 pub mod Encode
 pub mod RoundTrip
 pub mod Samples

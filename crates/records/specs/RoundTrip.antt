@@ -21,14 +21,14 @@ use Rattle.fields.specs.Bytes.{number, bytes, zeroed}
 use Rattle.fields.specs.BytesLaws.{length-bytes, number-bytes}
 use Rattle.kinds.specs.Kinds.{row, names, kindNumber, lengthOf, dataLength, operandsLength, hasKind, among, kindOf}
 use Rattle.fields.specs.Fields.{credential, newKey}
-use Rattle.records.specs.Decode.{decodeCall, nameOf, dataOf, sent, nextOf, decode}
+use Rattle.records.specs.Decode.{withCredential, createWith, keyWith, renewWith, decodeCall, nameOf, dataOf, sent, nextOf, decode}
 use Rattle.records.specs.DecodeLaws as laws
 use Rattle.records.specs.Encode.{credentialBytes, newKeyBytes, body, encode, Fits, FitsCredential, FitsNewKey, FitsCall}
 use Rattle.kinds.specs.declared.Name.{Name}
 use Rattle.kinds.specs.declared.Name.the-variants.{Read as READ, Write as WRITE, Alloc as ALLOC, Create as CREATE, Delete as DELETE, Key as KEY, Renew as RENEW, Force as FORCE, Free as FREE, Tick as TICK, Audit as AUDIT}
 use Rattle.kinds.specs.declared.Kind.the-variants.{Known}
-use Rattle.fields.specs.declared.Presented.the-variants.{Good as Presents}
-use Rattle.fields.specs.declared.Replacing.the-variants.{Good as Replaces}
+use Rattle.fields.specs.declared.ParsedCredential.the-variants.{Valid as ValidCredential}
+use Rattle.fields.specs.declared.ParsedKey.the-variants.{Valid as ValidKey}
 use Rattle.records.specs.declared.Decoding.the-variants.{Decoded}
 
 -- ---- a list that is n elements, then others
@@ -60,13 +60,13 @@ length-credential (KeyCredential high low) = refl
 then-credential : (c : Credential) (ys : List ℕ) → Then 17 (credentialBytes c ++ ys) ys
 then-credential c ys = then-list 17 (credentialBytes c) ys (length-credential c)
 
-credential-back : (c : Credential) (ys : List ℕ) → FitsCredential c → credential (credentialBytes c ++ ys) ≡ Presents c
+credential-back : (c : Credential) (ys : List ℕ) → FitsCredential c → credential (credentialBytes c ++ ys) ≡ ValidCredential c
 unfolding credential credentialBytes FitsCredential bytes zeroed
 credential-back Nothing ys h = refl
-credential-back (Reference r) ys h = ap (λ n. Presents (Reference n)) (number-bytes 2 r (replicate 14 0 ++ ys) h)
+credential-back (Reference r) ys h = ap (λ n. ValidCredential (Reference n)) (number-bytes 2 r (replicate 14 0 ++ ys) h)
 credential-back (KeyCredential high low) ys h =
-    ap (λ n. Presents (KeyCredential n (number 8 (bytes 8 low ++ ys)))) (number-bytes 8 high (bytes 8 low ++ ys) (h .0))
-    ∙ ap (λ n. Presents (KeyCredential high n)) (number-bytes 8 low ys (h .1))
+    ap (λ n. ValidCredential (KeyCredential n (number 8 (bytes 8 low ++ ys)))) (number-bytes 8 high (bytes 8 low ++ ys) (h .0))
+    ∙ ap (λ n. ValidCredential (KeyCredential high n)) (number-bytes 8 low ys (h .1))
 
 length-newKey : (k : NewKey) → length (newKeyBytes k) ≡ 17
 unfolding newKeyBytes bytes
@@ -76,12 +76,12 @@ length-newKey (Present high low) = refl
 then-newKey : (k : NewKey) (ys : List ℕ) → Then 17 (newKeyBytes k ++ ys) ys
 then-newKey k ys = then-list 17 (newKeyBytes k) ys (length-newKey k)
 
-newKey-back : (k : NewKey) (ys : List ℕ) → FitsNewKey k → newKey (newKeyBytes k ++ ys) ≡ Replaces k
+newKey-back : (k : NewKey) (ys : List ℕ) → FitsNewKey k → newKey (newKeyBytes k ++ ys) ≡ ValidKey k
 unfolding newKey newKeyBytes FitsNewKey bytes zeroed
 newKey-back Absent ys h = refl
 newKey-back (Present high low) ys h =
-    ap (λ n. Replaces (Present n (number 8 (bytes 8 low ++ ys)))) (number-bytes 8 high (bytes 8 low ++ ys) (h .0))
-    ∙ ap (λ n. Replaces (Present high n)) (number-bytes 8 low ys (h .1))
+    ap (λ n. ValidKey (Present n (number 8 (bytes 8 low ++ ys)))) (number-bytes 8 high (bytes 8 low ++ ys) (h .0))
+    ∙ ap (λ n. ValidKey (Present high n)) (number-bytes 8 low ys (h .1))
 
 -- ---- where each part of a body starts
 
@@ -120,50 +120,41 @@ behind Audit ys = record { skip = refl; long = omega arith }
 -- ---- each call
 
 decoded : (port : Port) (call : Call) (ys : List ℕ) → FitsCall call → Decoded port call ≡ decodeCall port (nameOf call) (body call ys)
-unfolding FitsCall nameOf body
+unfolding FitsCall nameOf body withCredential createWith keyWith renewWith
 decoded port (Read o) ys h =
     laws.read port _
     (sym (number-bytes 2 (o .block) _ (h .0)))
+    (sym (at credential (then-bytes 2 (o .block) _) (credential-back (o .credential) _ (h .1 .0))))
     (sym (at (number 4) (opened (o .block) (o .credential) _) (number-bytes 4 (o .interval) ys (h .1 .1))))
-    refl
-    (at credential (then-bytes 2 (o .block) _) (credential-back (o .credential) _ (h .1 .0)))
 decoded port (Write o) ys h =
     laws.write port _
     (sym (number-bytes 2 (o .block) _ (h .0)))
+    (sym (at credential (then-bytes 2 (o .block) _) (credential-back (o .credential) _ (h .1 .0))))
     (sym (at (number 4) (opened (o .block) (o .credential) _) (number-bytes 4 (o .interval) ys (h .1 .1))))
-    refl
-    (at credential (then-bytes 2 (o .block) _) (credential-back (o .credential) _ (h .1 .0)))
 decoded port (Alloc o) ys h =
     let hinted = opened (o .reference) (o .credential) (bytes 2 (o .hint) ++ (bytes 1 (o .count) ++ ys)) in
     laws.alloc port _
     (sym (number-bytes 2 (o .reference) _ (h .0)))
+    (sym (at credential (then-bytes 2 (o .reference) _) (credential-back (o .credential) _ (h .1 .0))))
     (sym (at (number 2) hinted (number-bytes 2 (o .hint) _ (h .1 .1 .0))))
     (sym (byte-at 21 _ (o .count) ys (then-more hinted (then-bytes 2 (o .hint) _)) (h .1 .1 .1)))
-    refl
-    (at credential (then-bytes 2 (o .reference) _) (credential-back (o .credential) _ (h .1 .0)))
 decoded port (Create o) ys h =
     laws.create port _
     (sym (number-bytes 2 (o .source) _ (h .0)))
+    (sym (at credential (then-bytes 2 (o .source) _) (credential-back (o .credential) _ (h .1 .0))))
     (sym (at (number 2) (opened (o .source) (o .credential) _) (number-bytes 2 (o .destination) _ (h .1 .1 .0))))
-    refl
-    refl
-    (at credential (then-bytes 2 (o .source) _) (credential-back (o .credential) _ (h .1 .0)))
-    (at credential (then-more (opened (o .source) (o .credential) _) (then-bytes 2 (o .destination) _)) (credential-back (o .second) ys (h .1 .1 .1)))
+    (sym (at credential (then-more (opened (o .source) (o .credential) _) (then-bytes 2 (o .destination) _)) (credential-back (o .second) ys (h .1 .1 .1))))
 decoded port (Delete o) ys h =
     laws.delete port _
     (sym (number-bytes 2 (o .source) _ (h .0)))
+    (sym (at credential (then-bytes 2 (o .source) _) (credential-back (o .credential) _ (h .1 .0))))
     (sym (at (number 2) (opened (o .source) (o .credential) _) (number-bytes 2 (o .destination) ys (h .1 .1))))
-    refl
-    (at credential (then-bytes 2 (o .source) _) (credential-back (o .credential) _ (h .1 .0)))
 decoded port (Key o) ys h =
     laws.key port _
     (sym (number-bytes 2 (o .block) _ (h .0)))
-    refl
-    refl
-    refl
-    (at credential (then-bytes 2 (o .block) _) (credential-back (o .credential) _ (h .1 .0)))
-    (at newKey (opened (o .block) (o .credential) _) (newKey-back (o .read) _ (h .1 .1 .0)))
-    (at newKey (then-more (opened (o .block) (o .credential) _) (then-newKey (o .read) _)) (newKey-back (o .write) ys (h .1 .1 .1)))
+    (sym (at credential (then-bytes 2 (o .block) _) (credential-back (o .credential) _ (h .1 .0))))
+    (sym (at newKey (opened (o .block) (o .credential) _) (newKey-back (o .read) _ (h .1 .1 .0))))
+    (sym (at newKey (then-more (opened (o .block) (o .credential) _) (then-newKey (o .read) _)) (newKey-back (o .write) ys (h .1 .1 .1))))
 decoded port (Renew o) ys h =
     let t1 = then-bytes 1 (o .mode) (bytes 2 (o .block) ++ (bytes 8 (o .high) ++ (bytes 8 (o .low) ++ (bytes 4 (o .interval) ++ ys)))) in
     let t3 = then-more t1 (then-bytes 2 (o .block) _) in

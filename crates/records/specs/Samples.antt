@@ -11,7 +11,7 @@ use Rattle.card.specs.declared.Call.the-variants.{Read, Alloc, Create, Key, Ren
 use Rattle.fields.specs.Bytes.{number, zeroed}
 use Rattle.kinds.specs.Kinds.{row, dataLength, names, kindNumber, lengthOf, operandsLength, among, kindOf}
 use Rattle.fields.specs.Fields.{credential, newKey}
-use Rattle.records.specs.Decode.{withCredential, createWith, keyWith, decodeCall, decodeKnown, decodeBody, nameOf, dataOf, Next, ended, refused, sent, nextOf, decode}
+use Rattle.records.specs.Decode.{withCredential, createWith, keyWith, renewWith, decodeCall, decodeKnown, decodeBody, nameOf, dataOf, Next, ended, refused, sent, nextOf, decode}
 
 infix 20 _gives_
 -- An input, and what it starts with.
@@ -62,5 +62,5 @@ table =
 
 -- Each input starts with just what is expected.
 pub samples : map (λ s. decode (input s)) table ≡ map next table
-unfolding table number zeroed row dataLength names kindNumber lengthOf operandsLength among kindOf credential newKey withCredential createWith keyWith decodeCall decodeKnown decodeBody nameOf dataOf nextOf decode
+unfolding table number zeroed row dataLength names kindNumber lengthOf operandsLength among kindOf credential newKey withCredential createWith keyWith renewWith decodeCall decodeKnown decodeBody nameOf dataOf nextOf decode
 samples = refl

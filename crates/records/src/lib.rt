@@ -3,6 +3,7 @@
 use card::AllocOperands;
 use card::Call;
 use card::CreateOperands;
+use card::Credential;
 use card::DeleteOperands;
 use card::ForceOperands;
 use card::KeyOperands;
@@ -11,15 +12,16 @@ use card::ReadOperands;
 use card::RenewOperands;
 use card::TickOperands;
 use card::WriteOperands;
-use fields::Presented;
-use fields::Replacing;
+use fields::ParsedCredential;
+use fields::ParsedKey;
 use kinds::Kind;
 use kinds::Name;
 ghost use mathlib.Core.Path.{_≡_};
 ghost use Prim.Native.Nat.{_≤_};
 ghost use lib.ListN.{length};
 ghost use Rattle.kinds.specs.Kinds.{lengthOf};
-ghost use Rattle.records.specs.Decode.{decodeCall, decodeBody};
+ghost use Rattle.records.specs.Decode.{readWith, writeWith, allocWith, createWith, deleteWith, keyWith, renewWith, decodeCall};
+ghost use Rattle.records.specs.Parsed.{ParsedIs};
 
 // A call at its port, or refusal 13.
 pub enum Decoding {
@@ -27,17 +29,20 @@ pub enum Decoding {
     Bad,
 }
 
-// Each function for one call looks at a body that is not cut short.
+// What a kind and the bytes behind it hold: the call, and where the bytes beside its operands start and its body ends.
+pub struct Parsed {
+    pub decoding: Decoding,
+    pub payload: usize,
+    pub end: usize,
+}
 
-fn decode_read(port: Port, body: &[u8]) -> Decoding
-    requires { ⌜ 23 ≤ length (now body) ⌝ }
-    ensures { λ r. ⌜ r ≡ decodeCall port Name.Read (now (body .entry)) ⌝ }
+// ---- the calls of their operands, however these are passed
+
+pub fn read_with(port: Port, block: u16, parsed: ParsedCredential, interval: u32) -> Decoding
+    ensures { λ r. ⌜ r ≡ readWith port block parsed interval ⌝ }
 {
-    let block = fields::two(body, 0);
-    let interval = fields::four(body, 19);
-    let presented = fields::credential(body, 2);
-    match presented {
-        Presented::Good(credential) => Decoding::Decoded(
+    match parsed {
+        ParsedCredential::Valid(credential) => Decoding::Decoded(
             port,
             Call::Read(ReadOperands {
                 block,
@@ -45,20 +50,15 @@ fn decode_read(port: Port, body: &[u8]) -> Decoding
                 interval,
             }),
         ),
-        Presented::Bad => Decoding::Bad,
+        ParsedCredential::Invalid => Decoding::Bad,
     }
 }
 
-// The data stay in the body, behind the 23 bytes that are looked at here.
-fn decode_write(port: Port, body: &[u8]) -> Decoding
-    requires { ⌜ 535 ≤ length (now body) ⌝ }
-    ensures { λ r. ⌜ r ≡ decodeCall port Name.Write (now (body .entry)) ⌝ }
+pub fn write_with(port: Port, block: u16, parsed: ParsedCredential, interval: u32) -> Decoding
+    ensures { λ r. ⌜ r ≡ writeWith port block parsed interval ⌝ }
 {
-    let block = fields::two(body, 0);
-    let interval = fields::four(body, 19);
-    let presented = fields::credential(body, 2);
-    match presented {
-        Presented::Good(credential) => Decoding::Decoded(
+    match parsed {
+        ParsedCredential::Valid(credential) => Decoding::Decoded(
             port,
             Call::Write(WriteOperands {
                 block,
@@ -66,20 +66,21 @@ fn decode_write(port: Port, body: &[u8]) -> Decoding
                 interval,
             }),
         ),
-        Presented::Bad => Decoding::Bad,
+        ParsedCredential::Invalid => Decoding::Bad,
     }
 }
 
-fn decode_alloc(port: Port, body: &[u8]) -> Decoding
-    requires { ⌜ 22 ≤ length (now body) ⌝ }
-    ensures { λ r. ⌜ r ≡ decodeCall port Name.Alloc (now (body .entry)) ⌝ }
+pub fn alloc_with(
+    port: Port,
+    reference: u16,
+    parsed: ParsedCredential,
+    hint: u16,
+    count: u8,
+) -> Decoding
+    ensures { λ r. ⌜ r ≡ allocWith port reference parsed hint count ⌝ }
 {
-    let reference = fields::two(body, 0);
-    let hint = fields::two(body, 19);
-    let count = body[21];
-    let presented = fields::credential(body, 2);
-    match presented {
-        Presented::Good(credential) => Decoding::Decoded(
+    match parsed {
+        ParsedCredential::Valid(credential) => Decoding::Decoded(
             port,
             Call::Alloc(AllocOperands {
                 reference,
@@ -88,22 +89,23 @@ fn decode_alloc(port: Port, body: &[u8]) -> Decoding
                 count,
             }),
         ),
-        Presented::Bad => Decoding::Bad,
+        ParsedCredential::Invalid => Decoding::Bad,
     }
 }
 
-fn decode_create(port: Port, body: &[u8]) -> Decoding
-    requires { ⌜ 38 ≤ length (now body) ⌝ }
-    ensures { λ r. ⌜ r ≡ decodeCall port Name.Create (now (body .entry)) ⌝ }
+pub fn create_with(
+    port: Port,
+    source: u16,
+    first: ParsedCredential,
+    destination: u16,
+    other: ParsedCredential,
+) -> Decoding
+    ensures { λ r. ⌜ r ≡ createWith port source first destination other ⌝ }
 {
-    let source = fields::two(body, 0);
-    let destination = fields::two(body, 19);
-    let presented = fields::credential(body, 2);
-    let other = fields::credential(body, 21);
-    let Presented::Good(credential) = presented else {
+    let ParsedCredential::Valid(credential) = first else {
         return Decoding::Bad;
     };
-    let Presented::Good(second) = other else {
+    let ParsedCredential::Valid(second) = other else {
         return Decoding::Bad;
     };
     Decoding::Decoded(
@@ -117,15 +119,11 @@ fn decode_create(port: Port, body: &[u8]) -> Decoding
     )
 }
 
-fn decode_delete(port: Port, body: &[u8]) -> Decoding
-    requires { ⌜ 21 ≤ length (now body) ⌝ }
-    ensures { λ r. ⌜ r ≡ decodeCall port Name.Delete (now (body .entry)) ⌝ }
+pub fn delete_with(port: Port, source: u16, parsed: ParsedCredential, destination: u16) -> Decoding
+    ensures { λ r. ⌜ r ≡ deleteWith port source parsed destination ⌝ }
 {
-    let source = fields::two(body, 0);
-    let destination = fields::two(body, 19);
-    let presented = fields::credential(body, 2);
-    match presented {
-        Presented::Good(credential) => Decoding::Decoded(
+    match parsed {
+        ParsedCredential::Valid(credential) => Decoding::Decoded(
             port,
             Call::Delete(DeleteOperands {
                 source,
@@ -133,25 +131,26 @@ fn decode_delete(port: Port, body: &[u8]) -> Decoding
                 destination,
             }),
         ),
-        Presented::Bad => Decoding::Bad,
+        ParsedCredential::Invalid => Decoding::Bad,
     }
 }
 
-fn decode_key(port: Port, body: &[u8]) -> Decoding
-    requires { ⌜ 53 ≤ length (now body) ⌝ }
-    ensures { λ r. ⌜ r ≡ decodeCall port Name.Key (now (body .entry)) ⌝ }
+pub fn key_with(
+    port: Port,
+    block: u16,
+    parsed: ParsedCredential,
+    reading: ParsedKey,
+    writing: ParsedKey,
+) -> Decoding
+    ensures { λ r. ⌜ r ≡ keyWith port block parsed reading writing ⌝ }
 {
-    let block = fields::two(body, 0);
-    let presented = fields::credential(body, 2);
-    let reading = fields::new_key(body, 19);
-    let writing = fields::new_key(body, 36);
-    let Presented::Good(credential) = presented else {
+    let ParsedCredential::Valid(credential) = parsed else {
         return Decoding::Bad;
     };
-    let Replacing::Good(read) = reading else {
+    let ParsedKey::Valid(read) = reading else {
         return Decoding::Bad;
     };
-    let Replacing::Good(write) = writing else {
+    let ParsedKey::Valid(write) = writing else {
         return Decoding::Bad;
     };
     Decoding::Decoded(
@@ -165,6 +164,104 @@ fn decode_key(port: Port, body: &[u8]) -> Decoding
     )
 }
 
+// RENEW is by a key alone.
+pub fn renew_with(
+    port: Port,
+    mode: u8,
+    block: u16,
+    parsed: ParsedCredential,
+    interval: u32,
+) -> Decoding
+    ensures { λ r. ⌜ r ≡ renewWith port mode block parsed interval ⌝ }
+{
+    let ParsedCredential::Valid(credential) = parsed else {
+        return Decoding::Bad;
+    };
+    match credential {
+        Credential::Nothing => Decoding::Bad,
+        Credential::Reference(_) => Decoding::Bad,
+        Credential::Key(high, low) => Decoding::Decoded(
+            port,
+            Call::Renew(RenewOperands {
+                mode,
+                block,
+                high,
+                low,
+                interval,
+            }),
+        ),
+    }
+}
+
+// ---- bodies
+
+// Each function for one call looks at a body that is not cut short.
+
+fn decode_read(port: Port, body: &[u8]) -> Decoding
+    requires { ⌜ 23 ≤ length (now body) ⌝ }
+    ensures { λ r. ⌜ r ≡ decodeCall port Name.Read (now (body .entry)) ⌝ }
+{
+    let block = fields::two(body, 0);
+    let credential = fields::credential(body, 2);
+    let interval = fields::four(body, 19);
+    read_with(port, block, credential, interval)
+}
+
+// The data stay in the body, behind the bytes that are looked at here.
+fn decode_write(port: Port, body: &[u8]) -> Decoding
+    requires { ⌜ 535 ≤ length (now body) ⌝ }
+    ensures { λ r. ⌜ r ≡ decodeCall port Name.Write (now (body .entry)) ⌝ }
+{
+    let block = fields::two(body, 0);
+    let credential = fields::credential(body, 2);
+    let interval = fields::four(body, 19);
+    write_with(port, block, credential, interval)
+}
+
+fn decode_alloc(port: Port, body: &[u8]) -> Decoding
+    requires { ⌜ 22 ≤ length (now body) ⌝ }
+    ensures { λ r. ⌜ r ≡ decodeCall port Name.Alloc (now (body .entry)) ⌝ }
+{
+    let reference = fields::two(body, 0);
+    let credential = fields::credential(body, 2);
+    let hint = fields::two(body, 19);
+    let count = body[21];
+    alloc_with(port, reference, credential, hint, count)
+}
+
+fn decode_create(port: Port, body: &[u8]) -> Decoding
+    requires { ⌜ 38 ≤ length (now body) ⌝ }
+    ensures { λ r. ⌜ r ≡ decodeCall port Name.Create (now (body .entry)) ⌝ }
+{
+    let source = fields::two(body, 0);
+    let credential = fields::credential(body, 2);
+    let destination = fields::two(body, 19);
+    let second = fields::credential(body, 21);
+    create_with(port, source, credential, destination, second)
+}
+
+fn decode_delete(port: Port, body: &[u8]) -> Decoding
+    requires { ⌜ 21 ≤ length (now body) ⌝ }
+    ensures { λ r. ⌜ r ≡ decodeCall port Name.Delete (now (body .entry)) ⌝ }
+{
+    let source = fields::two(body, 0);
+    let credential = fields::credential(body, 2);
+    let destination = fields::two(body, 19);
+    delete_with(port, source, credential, destination)
+}
+
+fn decode_key(port: Port, body: &[u8]) -> Decoding
+    requires { ⌜ 53 ≤ length (now body) ⌝ }
+    ensures { λ r. ⌜ r ≡ decodeCall port Name.Key (now (body .entry)) ⌝ }
+{
+    let block = fields::two(body, 0);
+    let credential = fields::credential(body, 2);
+    let reading = fields::new_key(body, 19);
+    let writing = fields::new_key(body, 36);
+    key_with(port, block, credential, reading, writing)
+}
+
+// A bare key.
 fn decode_renew(port: Port, body: &[u8]) -> Decoding
     requires { ⌜ 23 ≤ length (now body) ⌝ }
     ensures { λ r. ⌜ r ≡ decodeCall port Name.Renew (now (body .entry)) ⌝ }
@@ -174,16 +271,8 @@ fn decode_renew(port: Port, body: &[u8]) -> Decoding
     let high = fields::eight(body, 3);
     let low = fields::eight(body, 11);
     let interval = fields::four(body, 19);
-    Decoding::Decoded(
-        port,
-        Call::Renew(RenewOperands {
-            mode,
-            block,
-            high,
-            low,
-            interval,
-        }),
-    )
+    let key = ParsedCredential::Valid(Credential::Key(high, low));
+    renew_with(port, mode, block, key, interval)
 }
 
 fn decode_force(port: Port, body: &[u8]) -> Decoding
@@ -222,18 +311,32 @@ fn decode_call(port: Port, name: Name, body: &[u8]) -> Decoding
     }
 }
 
-// The call of a kind and the bytes behind it, of which only the body's are looked at, or refusal 13.
-pub fn decode(kind: u8, body: &[u8]) -> Decoding
-    ensures { λ r. ⌜ r ≡ decodeBody kind (now (body .entry)) ⌝ }
+// What a kind and the bytes behind it hold, of which only the body's are looked at.
+pub fn decode(kind: u8, body: &[u8]) -> Parsed
+    ensures { λ r. ⌜ ParsedIs kind (now (body .entry)) r ⌝ }
 {
     let known = kinds::kind_of(kind);
     match known {
         Kind::Known(port, name) => {
-            if kinds::length_of(name) <= body.len() {
-                return decode_call(port, name, body);
+            let lengths = kinds::lengths_of(name);
+            if body.len() < lengths.body {
+                return Parsed {
+                    decoding: Decoding::Bad,
+                    payload: 0,
+                    end: 0,
+                };
             }
-            Decoding::Bad
+            let decoding = decode_call(port, name, body);
+            Parsed {
+                decoding,
+                payload: lengths.operands,
+                end: lengths.body,
+            }
         }
-        Kind::Unknown => Decoding::Bad,
+        Kind::Unknown => Parsed {
+            decoding: Decoding::Bad,
+            payload: 0,
+            end: 0,
+        },
     }
 }

@@ -1,6 +1,6 @@
 -- `input::find` meets its contract. Assumes nothing.
 use native.Mathlib.Omega.{arith}
-use Rattle.input.specs.FoundLaws.{operands-most, found-ended, found-unknown, found-short, found-bad, found-whole}
+use Rattle.input.specs.FoundLaws.{found-ended, found-unknown, found-short, found-bad, found-whole}
 use borrow.Author.Needs.{needs}
 use Rattle.input.proofs.find.Statement.{statement}
 use Rattle.input.proofs.find.Tie as tie
@@ -33,10 +33,16 @@ enum-told : tie.Need-enum-told
 enum-told c = search needs
 
 returns-2 : tie.Need-returns-2
-returns-2 c = found-unknown (c .before .before .before .before .before .before .before .args .input .now) (c .before .before .before .before .before .before .before .args .from) (omega arith) (c .before .before .body-length .ensures) (c .enum-told .given .1)
+returns-2 c =
+    let at-length = c .before .before in
+    let start = at-length .before .before .before .before .before in
+    found-unknown (start .args .input .now) (start .args .from) (omega arith) (at-length .body-length .ensures) (c .enum-told .given .1)
 
 returns-3 : tie.Need-returns-3
-returns-3 c = found-short (c .before .before .before .before .before .before .before .before .before .args .input .now) (c .before .before .before .before .before .before .before .before .before .args .from) (omega arith) (c .before .before .before .before .body-length .ensures) (c .before .before .length .given .1) (c .if2 .taken)
+returns-3 c =
+    let at-length = c .before .before .before .before in
+    let start = at-length .before .before .before .before .before in
+    found-short (start .args .input .now) (start .args .from) (omega arith) (at-length .body-length .ensures) (c .before .before .length .given .1) (c .if2 .taken)
 
 decode-requires : tie.Need-decode-requires
 decode-requires c κs = search needs
@@ -44,25 +50,28 @@ decode-requires c κs = search needs
 enum-told-2 : tie.Need-enum-told-2
 enum-told-2 c = search needs
 
-enum-known-port : tie.Need-enum-known-port
-enum-known-port c = search needs
-
-operands-requires : tie.Need-operands-requires
-operands-requires c κs = search needs
+enum-known-decoding : tie.Need-enum-known-decoding
+enum-known-decoding c = search needs
 
 add-t23 : tie.Need-add-t23
-add-t23 c = omega (arith, c .operands .ensures, operands-most (c .before .before .before .before .before .before .before .length .given .0 .0), c .before .before .before .before .before .if2 .left)
+add-t23 c = search needs
 
 add-t24 : tie.Need-add-t24
 add-t24 c = search needs
 
 returns-4 : tie.Need-returns-4
-returns-4 c = found-bad (c .before .before .before .before .before .before .before .before .before .before .before .before .args .input .now) (c .before .before .before .before .before .before .before .before .before .before .before .before .args .from) (omega arith) (c .before .before .before .before .before .before .before .body-length .ensures) (c .before .before .before .before .before .length .given .1) (c .before .before .before .if2 .left) (c .before .before .decode .ensures) (c .enum-told2 .given .1)
+returns-4 c =
+    let at-known = c .before .before .before .before .before in
+    let at-length = at-known .before .before in
+    let start = at-length .before .before .before .before .before in
+    found-bad (start .args .input .now) (start .args .from) (omega arith) (at-length .body-length .ensures) (at-known .length .given .1) (c .before .before .before .if2 .left) (c .before .before .decode .ensures) (c .enum-told2 .given .1)
 
 returns-5 : tie.Need-returns-5
 returns-5 c =
-    rw (c .operands .ensures)
-    (found-whole (c .before .before .before .before .before .before .before .before .before .before .before .before .before .before .args .input .now) (c .before .before .before .before .before .before .before .before .before .before .before .before .before .before .args .from) (omega arith) (c .before .before .before .before .before .before .before .before .before .body-length .ensures) (c .before .before .before .before .before .before .before .length .given .1) (c .before .before .before .before .before .if2 .left) (c .before .before .before .before .decode .ensures) (c .before .before .port .given .1))
+    let at-decode = c .before .before .before .before .before in
+    let at-length = at-decode .before .before .before .before .before in
+    let start = at-length .before .before .before .before .before in
+    found-whole (start .args .input .now) (start .args .from) (omega arith) (at-decode .decode .ensures) (c .before .before .before .decoding .given .1)
 
 pub find-spec : {M : Type 1} → statement M
 find-spec =
@@ -81,8 +90,7 @@ find-spec =
     returns-3
     decode-requires
     enum-told-2
-    enum-known-port
-    operands-requires
+    enum-known-decoding
     add-t23
     add-t24
     returns-4

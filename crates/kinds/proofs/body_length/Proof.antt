@@ -11,8 +11,8 @@ kind-of-requires c κs = search needs
 enum-known-known : tie.Need-enum-known-known
 enum-known-known c = search needs
 
-length-of-requires : tie.Need-length-of-requires
-length-of-requires c κs = search needs
+lengths-of-requires : tie.Need-lengths-of-requires
+lengths-of-requires c κs = search needs
 
 enum-told : tie.Need-enum-told
 enum-told c = search needs
@@ -22,7 +22,7 @@ returns c =
     known-length _
     (c .before .before .before .before .kind-of .ensures)
     (c .before .before .known .given .1)
-    (c .length-of .ensures)
+    (c .lengths-of .ensures)
 
 returns-2 : tie.Need-returns-2
 returns-2 c = unknown-length _ (c .before .before .kind-of .ensures) (c .enum-told .given .1)
@@ -30,4 +30,4 @@ returns-2 c = unknown-length _ (c .before .before .kind-of .ensures) (c .enum-to
 pub body-length-spec : {M : Type 1} → statement M
 body-length-spec =
     tie.close
-    (tie.spec kind-of-requires enum-known-known length-of-requires enum-told returns returns-2)
+    (tie.spec kind-of-requires enum-known-known lengths-of-requires enum-told returns returns-2)

@@ -1,49 +1,27 @@
 -- `records::decode_delete` meets its contract.
 -- Assumes nothing.
+use mathlib.Core.Path.{_∙_}
+use Rattle.records.specs.DecodeLaws.{delete}
 use borrow.Author.Needs.{needs}
-use Rattle.records.specs.Decode.{decodeCall}
-use Rattle.records.specs.DecodeLaws.{delete, refused}
 use Rattle.records.proofs.decode_delete.Statement.{statement}
 use Rattle.records.proofs.decode_delete.Tie as tie
 
 two-requires : tie.Need-two-requires
 two-requires c κs = search needs
 
-two-requires-2 : tie.Need-two-requires-2
-two-requires-2 c κs = search needs
-
 credential-requires : tie.Need-credential-requires
 credential-requires c κs = search needs
 
-enum-known-presented : tie.Need-enum-known-presented
-enum-known-presented c = search needs
+two-requires-2 : tie.Need-two-requires-2
+two-requires-2 c κs = search needs
 
-enum-told : tie.Need-enum-told
-enum-told c = search needs
+delete-with-requires : tie.Need-delete-with-requires
+delete-with-requires c κs = search needs
 
 returns : tie.Need-returns
-returns c =
-    let at-credential = c .before .before .before in
-    let at-two2 = at-credential .before in
-    let at-two = at-two2 .before in
-    delete _ _
-    (at-two .two .ensures)
-    (at-two2 .two2 .ensures)
-    (at-credential .credential .ensures)
-    (c .before .presented .given .1)
-
-returns-2 : tie.Need-returns-2
-unfolding decodeCall
-returns-2 c = refused _ _ _ (c .before .before .credential .ensures) (c .enum-told .given .1)
+returns c = c .delete-with .ensures ∙ delete _ _ (c .before .before .before .two .ensures) (c .before .before .credential .ensures) (c .before .two2 .ensures)
 
 pub decode-delete-spec : {M : Type 1} → statement M
 decode-delete-spec =
     tie.close
-    (tie.spec
-    two-requires
-    two-requires-2
-    credential-requires
-    enum-known-presented
-    enum-told
-    returns
-    returns-2)
+    (tie.spec two-requires credential-requires two-requires-2 delete-with-requires returns)

@@ -1,8 +1,8 @@
--- `records::decode_renew` meets its contract.
+-- `records::decode_renew` meets its contract: a bare key.
 -- Assumes nothing.
-use mathlib.Core.Path.{refl}
-use borrow.Author.Needs.{needs}
+use mathlib.Core.Path.{refl, _∙_}
 use Rattle.records.specs.DecodeLaws.{renew}
+use borrow.Author.Needs.{needs}
 use Rattle.records.proofs.decode_renew.Statement.{statement}
 use Rattle.records.proofs.decode_renew.Tie as tie
 
@@ -21,13 +21,11 @@ eight-requires-2 c κs = search needs
 four-requires : tie.Need-four-requires
 four-requires c κs = search needs
 
+renew-with-requires : tie.Need-renew-with-requires
+renew-with-requires c κs = search needs
+
 returns : tie.Need-returns
-returns c =
-    renew _ _ refl
-    (c .before .before .before .two .ensures)
-    (c .before .before .eight .ensures)
-    (c .before .eight2 .ensures)
-    (c .four .ensures)
+returns c = c .renew-with .ensures ∙ renew _ _ refl (c .before .before .before .before .two .ensures) (c .before .before .before .eight .ensures) (c .before .before .eight2 .ensures) (c .before .four .ensures)
 
 pub decode-renew-spec : {M : Type 1} → statement M
 decode-renew-spec =
@@ -38,4 +36,5 @@ decode-renew-spec =
     eight-requires
     eight-requires-2
     four-requires
+    renew-with-requires
     returns)

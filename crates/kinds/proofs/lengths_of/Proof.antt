@@ -1,9 +1,9 @@
--- `kinds::length_of` meets its contract: each arm is one row of the table.
+-- `kinds::lengths_of` meets its contract: each arm is one row of the table.
 -- Assumes nothing.
 use borrow.Author.Needs.{needs}
 use Rattle.kinds.proofs.Table.{table, at-name}
-use Rattle.kinds.proofs.length_of.Statement.{statement}
-use Rattle.kinds.proofs.length_of.Tie as tie
+use Rattle.kinds.proofs.lengths_of.Statement.{statement}
+use Rattle.kinds.proofs.lengths_of.Tie as tie
 
 enum-told : tie.Need-enum-told
 enum-told c = search needs
@@ -82,8 +82,8 @@ returns-11 : tie.Need-returns-11
 unfolding table
 returns-11 c = at-name (c .enum-told11 .given .1)
 
-pub length-of-spec : {M : Type 1} → statement M
-length-of-spec =
+pub lengths-of-spec : {M : Type 1} → statement M
+lengths-of-spec =
     tie.close
     (tie.spec
     enum-told

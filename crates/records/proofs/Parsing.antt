@@ -1,0 +1,71 @@
+-- What the decoder has found of a kind and its body, as it returns it.
+-- Assumes nothing.
+use Prim.Native.Nat.{ℕ, _-_, _≤_}
+use mathlib.Core.Path.{_≡_, sym, ap, _∙_}
+use mathlib.Core.List.{List}
+use native.Mathlib.Omega.{arith}
+use lib.ListN.{length}
+use Rattle.card.specs.declared.Port.{Port}
+use Rattle.card.specs.declared.Call.{Call}
+use Rattle.kinds.specs.Kinds.{lengthOf, dataLength, operandsLength, lengthsOf, kindOf}
+use Rattle.kinds.specs.declared.Name.{Name}
+use Rattle.kinds.specs.declared.Kind.{Kind}
+use Rattle.kinds.specs.declared.Kind.the-variants.{Known}
+use Rattle.kinds.specs.declared.Lengths.{Lengths}
+use Rattle.records.specs.Decode.{decodeCall, nameOf, decodeBody}
+use Rattle.records.specs.DecodeLaws.{whole, decoded-kind}
+use Rattle.records.specs.Parsed.{ParsedIs}
+use Rattle.records.specs.declared.Decoding.{Decoding}
+use Rattle.records.specs.declared.Decoding.the-variants.{Decoded, Bad}
+
+-- ---- the lengths of a call
+
+pub body-is : {l : Lengths} (name : Name) → l ≡ lengthsOf name → l .body ≡ lengthOf name
+unfolding lengthsOf
+body-is name e = ap (λ (l : Lengths). l .body) e
+
+operands-are : {l : Lengths} (name : Name) → l ≡ lengthsOf name → l .operands ≡ operandsLength name
+unfolding lengthsOf
+operands-are name e = ap (λ (l : Lengths). l .operands) e
+
+operands-most : (name : Name) → operandsLength name ≤ lengthOf name
+unfolding operandsLength
+operands-most name = omega arith
+
+pub body-room : {l : Lengths} (name : Name) {n : ℕ} → l ≡ lengthsOf name → l .body ≤ n → lengthOf name ≤ n
+body-room name e h = rw (body-is name e) at h
+
+-- ---- what is returned
+
+pub parsed-bad : (kind : ℕ) (xs : List ℕ) → Bad ≡ decodeBody kind xs → ParsedIs kind xs (record { decoding = Bad; payload = 0; end = 0 })
+parsed-bad kind xs e = record {
+  decodes = e;
+  ordered = omega arith;
+  within = omega arith;
+  payloadAt = λ d. absurd (apart d);
+  endAt = λ d. absurd (apart d);
+}
+  where
+    apart : {port : Port} {call : Call} → Bad ≡ Decoded port call → ⊥
+    apart d = let z : _≡_ {A = ℕ} 0 1 = cc in omega arith
+
+module _ (kind : ℕ) (xs : List ℕ) {known : Kind} {port : Port} {name : Name} {l : Lengths} {d : Decoding} (of-kind : known ≡ kindOf kind) (known-is : known ≡ Known port name)
+    (lengths : l ≡ lengthsOf name) (long : l .body ≤ length xs) (decoded : d ≡ decodeCall port name xs) where
+  decodes : d ≡ decodeBody kind xs
+  decodes = whole kind xs of-kind known-is (body-is name lengths) long decoded
+
+  -- The call that is decoded is the one of the kind.
+  name-is : {p : Port} {call : Call} → d ≡ Decoded p call → name ≡ nameOf call
+  name-is {p} {call} e = same (sym known-is ∙ of-kind ∙ decoded-kind kind xs p call (sym e ∙ decodes) .kind)
+    where
+      same : {a b : Port} {m n : Name} → Known a m ≡ Known b n → m ≡ n
+      same k = cc
+
+  pub parsed-call : ParsedIs kind xs (record { decoding = d; payload = l .operands; end = l .body })
+  parsed-call = record {
+    decodes = decodes;
+    ordered = omega (arith, body-is name lengths, operands-are name lengths, operands-most name);
+    within = long;
+    payloadAt = λ e. operands-are name lengths ∙ ap operandsLength (name-is e);
+    endAt = λ e. body-is name lengths ∙ ap lengthOf (name-is e);
+  }

@@ -1,0 +1,19 @@
+-- What the decoder gives of a kind and the bytes behind it.
+use Prim.Native.Nat.{ℕ, _≤_}
+use mathlib.Core.Path.{_≡_}
+use mathlib.Core.List.{List}
+use lib.ListN.{length}
+use Rattle.card.specs.declared.Port.{Port}
+use Rattle.card.specs.declared.Call.{Call}
+use Rattle.kinds.specs.Kinds.{lengthOf, operandsLength}
+use Rattle.records.specs.Decode.{nameOf, decodeBody}
+use Rattle.records.specs.declared.Decoding.the-variants.{Decoded}
+use Rattle.records.specs.declared.Parsed.{Parsed}
+
+-- A decoded call with the places of its body: its data start behind its operands. Both places lie within the bytes in any case.
+pub record ParsedIs (kind : ℕ) (xs : List ℕ) (r : Parsed) : Type 0 where
+  pub decodes : r .decoding ≡ decodeBody kind xs
+  pub ordered : r .payload ≤ r .end
+  pub within : r .end ≤ length xs
+  pub payloadAt : {port : Port} {call : Call} → r .decoding ≡ Decoded port call → r .payload ≡ operandsLength (nameOf call)
+  pub endAt : {port : Port} {call : Call} → r .decoding ≡ Decoded port call → r .end ≡ lengthOf (nameOf call)
