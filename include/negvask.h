@@ -54,15 +54,16 @@
  * credentials and open no window; their operands are checked as a
  * host's are, and a credential passed there must still be well formed.
  *
- * A credential is four values, `kind`, `ref`, `high` and `low`:
+ * A credential is 17 bytes, in the form that call records have:
  *
- *   NEGVASK_NOTHING    nothing: 0, 0, 0, 0
- *   NEGVASK_REFERENCE  a reference block: 1, the block, 0, 0
- *   NEGVASK_KEY        a key: 2, 0, the key's high and low word
+ *   nothing            0 and 16 zeros
+ *   a reference block  1, the block's number in 2 bytes and 14 zeros
+ *   a key              2 and the key's 16 bytes
  *
- * The macros NEGVASK_BY_NOTHING, NEGVASK_BY_REFERENCE(r) and
- * NEGVASK_BY_KEY(high, low) write the four out. A credential opens block
- * b for reading or for writing thus:
+ * Numbers are big-endian. negvask_by_nothing(), negvask_by_reference()
+ * and negvask_by_key() make the bytes, and NEGVASK_BYTES() passes them
+ * with their length; other bytes, or another number of them, are refused
+ * 13. A credential opens block b for reading or for writing thus:
  *
  *   - if b has a key for that operation, only a key equal to it does;
  *     for reading, b's write key does too, if b has one;
@@ -70,10 +71,9 @@
  *   - otherwise only a reference to an allocated block that points to b
  *     and whose window for the same operation is open.
  *
- * A new key is three values, `present`, `high` and `low`: 1 and the key,
- * or 0, 0, 0 for none. A key is 128 bits of any value, zero included.
- * The macros NEGVASK_NEW_KEY(high, low) and NEGVASK_NO_KEY write the
- * three out.
+ * A new key is 17 bytes too: 1 and the key's 16 bytes, or 0 and 16 zeros
+ * for none. A key is 128 bits of any value, zero included.
+ * negvask_set_key() and negvask_set_no_key() make the bytes.
  *
  * Worked example
  * --------------
@@ -90,6 +90,11 @@
  *   #define CARD info, 5, flags, 16, keys, 64, counts, 16, \
  *                pointers, 32, windows, 32, contents, 8192
  *
+ *   negvask_credential nothing = negvask_by_nothing();
+ *   negvask_credential reader = negvask_by_key(1, 2);
+ *   negvask_credential writer = negvask_by_key(3, 4);
+ *   negvask_new_key read_key = negvask_set_key(1, 2);
+ *   negvask_new_key write_key = negvask_set_key(3, 4);
  *   uint16_t place[1];
  *   uint8_t data[512] = { 42 }, out[512];
  *   uint32_t answer;
@@ -97,20 +102,20 @@
  *   negvask_format(CARD, 16, 1, 512);
  *
  *   // The operator allots a block below root 0 and gives it two keys.
- *   negvask_alloc(CARD, NEGVASK_SERVICE, 0, NEGVASK_BY_NOTHING,
+ *   negvask_alloc(CARD, NEGVASK_SERVICE, 0, NEGVASK_BYTES(nothing),
  *                 NEGVASK_NO_HINT, 1, place, 1);
- *   negvask_key(CARD, NEGVASK_SERVICE, place[0], NEGVASK_BY_NOTHING,
- *               NEGVASK_NEW_KEY(1, 2), NEGVASK_NEW_KEY(3, 4));
+ *   negvask_key(CARD, NEGVASK_SERVICE, place[0], NEGVASK_BYTES(nothing),
+ *               NEGVASK_BYTES(read_key), NEGVASK_BYTES(write_key));
  *
  *   // A host writes by the write key and reads by the read key.
- *   negvask_write(CARD, NEGVASK_HOST, place[0], NEGVASK_BY_KEY(3, 4),
+ *   negvask_write(CARD, NEGVASK_HOST, place[0], NEGVASK_BYTES(writer),
  *                 0, data, sizeof data);
- *   negvask_read(CARD, NEGVASK_HOST, place[0], NEGVASK_BY_KEY(1, 2),
+ *   negvask_read(CARD, NEGVASK_HOST, place[0], NEGVASK_BYTES(reader),
  *                0, out, sizeof out);
  *
  *   // Without a key it is refused, and `out` is left as it was.
  *   answer = negvask_read(CARD, NEGVASK_HOST, place[0],
- *                         NEGVASK_BY_NOTHING, 0, out, sizeof out);
+ *                         NEGVASK_BYTES(nothing), 0, out, sizeof out);
  *   // answer == NEGVASK_NOT_OPENED
  *
  * examples/host.c is a whole program of this kind.
@@ -155,31 +160,28 @@ extern "C" {
 #define NEGVASK_NO_PLACE        11
 /** The time would reach 2^40. */
 #define NEGVASK_CLOCK           12
-/** A record, credential, new key or port is ill formed. */
+/** A record, credential, new key or port is ill formed, or a credential
+    has not its length. */
 #define NEGVASK_MALFORMED       13
 
-/* Where negvask_batch() stops, beside 0, 1 and 13. */
+/* Where negvask_batch() stops, beside 0, 1 and 13: no refusal has these
+   numbers. */
 
 /** The input ends within a record. */
-#define NEGVASK_CUT             14
+#define NEGVASK_CUT            256
 /** There is no room for the next answer. */
-#define NEGVASK_FULL            15
+#define NEGVASK_FULL           257
 
 /* Operands. */
 
 #define NEGVASK_HOST             0
 #define NEGVASK_SERVICE          1
 
-#define NEGVASK_NOTHING          0
-#define NEGVASK_REFERENCE        1
-#define NEGVASK_KEY              2
+/** The number of bytes in a credential or a new key. */
+#define NEGVASK_CREDENTIAL_LEN  17
 
-#define NEGVASK_BY_NOTHING              NEGVASK_NOTHING, 0, 0, 0
-#define NEGVASK_BY_REFERENCE(ref)       NEGVASK_REFERENCE, (ref), 0, 0
-#define NEGVASK_BY_KEY(high, low)       NEGVASK_KEY, 0, (high), (low)
-
-#define NEGVASK_NO_KEY                  0, 0, 0
-#define NEGVASK_NEW_KEY(high, low)      1, (high), (low)
+/** The number of numbers in the record. */
+#define NEGVASK_INFO_LEN         5
 
 /** No hint: ALLOC takes the lowest unallocated block. */
 #define NEGVASK_NO_HINT      65535
@@ -203,19 +205,79 @@ extern "C" {
 	uint64_t *windows, size_t windows_len, \
 	uint8_t *contents, size_t contents_len
 
-/* The same, for the functions that leave all of them unmodified. */
-#define NEGVASK_CONST_TABLES \
-	const uint64_t *info, size_t info_len, \
-	const uint8_t *flags, size_t flags_len, \
-	const uint64_t *keys, size_t keys_len, \
-	const uint16_t *counts, size_t counts_len, \
-	const uint32_t *pointers, size_t pointers_len, \
-	const uint64_t *windows, size_t windows_len, \
-	const uint8_t *contents, size_t contents_len
-
-/* A credential, as parameters. */
+/* A credential, as parameters: bytes and how many. */
 #define NEGVASK_CREDENTIAL \
-	uint8_t kind, uint16_t ref, uint64_t high, uint64_t low
+	const uint8_t *credential, size_t credential_len
+
+/** A credential, as a caller keeps it. */
+typedef struct {
+	uint8_t bytes[NEGVASK_CREDENTIAL_LEN];
+} negvask_credential;
+
+/** A key to be set, or none, as a caller keeps it. */
+typedef struct {
+	uint8_t bytes[NEGVASK_CREDENTIAL_LEN];
+} negvask_new_key;
+
+/** The two arguments for a credential or a new key in a variable. */
+#define NEGVASK_BYTES(x)  (x).bytes, sizeof (x).bytes
+
+/* A first byte and a key's 16 bytes. */
+static inline void negvask_put_key(uint8_t *to, uint8_t first, uint64_t high, uint64_t low)
+{
+	int i;
+
+	to[0] = first;
+	for (i = 0; i < 8; i++) {
+		to[1 + i] = (uint8_t)(high >> (56 - 8 * i));
+		to[9 + i] = (uint8_t)(low >> (56 - 8 * i));
+	}
+}
+
+/** The credential that is nothing. */
+static inline negvask_credential negvask_by_nothing(void)
+{
+	negvask_credential made;
+
+	negvask_put_key(made.bytes, 0, 0, 0);
+	return made;
+}
+
+/** The credential that is a reference block. */
+static inline negvask_credential negvask_by_reference(uint16_t block)
+{
+	negvask_credential made;
+
+	negvask_put_key(made.bytes, 1, (uint64_t)block << 48, 0);
+	return made;
+}
+
+/** The credential that is a key, by its high and low word. */
+static inline negvask_credential negvask_by_key(uint64_t high, uint64_t low)
+{
+	negvask_credential made;
+
+	negvask_put_key(made.bytes, 2, high, low);
+	return made;
+}
+
+/** A new key, by its high and low word. */
+static inline negvask_new_key negvask_set_key(uint64_t high, uint64_t low)
+{
+	negvask_new_key made;
+
+	negvask_put_key(made.bytes, 1, high, low);
+	return made;
+}
+
+/** No new key: the block is to have none. */
+static inline negvask_new_key negvask_set_no_key(void)
+{
+	negvask_new_key made;
+
+	negvask_put_key(made.bytes, 0, 0, 0);
+	return made;
+}
 
 /**
  * \brief Format a card: the maker's call, never a host's.
@@ -254,7 +316,7 @@ uint32_t negvask_format(NEGVASK_TABLES,
  *
  * \return  0 or a refusal.
  */
-uint32_t negvask_audit(NEGVASK_CONST_TABLES);
+uint32_t negvask_audit(NEGVASK_TABLES);
 
 /**
  * \brief Read a block.
@@ -274,12 +336,13 @@ uint32_t negvask_audit(NEGVASK_CONST_TABLES);
  *   3   `block` is not below N or not allocated
  *   5   a host's credential does not open the block for reading
  *
- * \param port      NEGVASK_HOST or NEGVASK_SERVICE.
- * \param block     the block's number.
- * \param kind      the credential, with `ref`, `high` and `low`.
- * \param interval  seconds to open the read window for, 0 to 86,400.
- * \param out       receives the block.
- * \param out_len   B.
+ * \param port            NEGVASK_HOST or NEGVASK_SERVICE.
+ * \param block           the block's number.
+ * \param credential      17 bytes that open the block.
+ * \param credential_len  17.
+ * \param interval        seconds to open the read window for, 0 to 86,400.
+ * \param out             receives the block.
+ * \param out_len         B.
  * \return  0 or a refusal.
  */
 uint32_t negvask_read(NEGVASK_TABLES,
@@ -303,12 +366,13 @@ uint32_t negvask_read(NEGVASK_TABLES,
  *   3   `block` is not below N or not allocated
  *   5   a host's credential does not open the block for writing
  *
- * \param port      NEGVASK_HOST or NEGVASK_SERVICE.
- * \param block     the block's number.
- * \param kind      the credential, with `ref`, `high` and `low`.
- * \param interval  seconds to open the write window for, 0 to 86,400.
- * \param data      the bytes to write.
- * \param data_len  B.
+ * \param port            NEGVASK_HOST or NEGVASK_SERVICE.
+ * \param block           the block's number.
+ * \param credential      17 bytes that open the block.
+ * \param credential_len  17.
+ * \param interval        seconds to open the write window for, 0 to 86,400.
+ * \param data            the bytes to write.
+ * \param data_len        B.
  * \return  0 or a refusal.
  */
 uint32_t negvask_write(NEGVASK_TABLES,
@@ -338,13 +402,14 @@ uint32_t negvask_write(NEGVASK_TABLES,
  *   10  fewer than `count` blocks are unallocated
  *   11  M + `count` is above P
  *
- * \param port        NEGVASK_HOST or NEGVASK_SERVICE.
- * \param reference   the block that is to point to the new ones.
- * \param kind        the credential, with `ref`, `high` and `low`.
- * \param hint        a block number, or NEGVASK_NO_HINT.
- * \param count       how many, 1 to 64.
- * \param places      receives the numbers in the order taken.
- * \param places_len  the number of places.
+ * \param port            NEGVASK_HOST or NEGVASK_SERVICE.
+ * \param reference       the block that is to point to the new ones.
+ * \param credential      17 bytes that open the block.
+ * \param credential_len  17.
+ * \param hint            a block number, or NEGVASK_NO_HINT.
+ * \param count           how many, 1 to 64.
+ * \param places          receives the numbers in the order taken.
+ * \param places_len      the number of places.
  * \return  0 or a refusal.
  */
 uint32_t negvask_alloc(NEGVASK_TABLES,
@@ -369,18 +434,18 @@ uint32_t negvask_alloc(NEGVASK_TABLES,
  *   7   `source` equals `destination`, or the pointer exists
  *   11  M equals P
  *
- * \param port         NEGVASK_HOST or NEGVASK_SERVICE.
- * \param source       the block that is to point.
- * \param kind         its credential, with `ref`, `high` and `low`.
- * \param destination  the block to point to.
- * \param dest_kind    its credential, with `dest_ref`, `dest_high` and
- *                     `dest_low`.
+ * \param port            NEGVASK_HOST or NEGVASK_SERVICE.
+ * \param source          the block that is to point.
+ * \param credential      17 bytes that open it.
+ * \param credential_len  17.
+ * \param destination     the block to point to.
+ * \param second          17 bytes that open the destination.
+ * \param second_len      17.
  * \return  0 or a refusal.
  */
 uint32_t negvask_create(NEGVASK_TABLES,
 	uint8_t port, uint16_t source, NEGVASK_CREDENTIAL,
-	uint16_t destination, uint8_t dest_kind, uint16_t dest_ref,
-	uint64_t dest_high, uint64_t dest_low);
+	uint16_t destination, const uint8_t *second, size_t second_len);
 
 /**
  * \brief Take a pointer away, and free the block it led to if it was the
@@ -401,11 +466,12 @@ uint32_t negvask_create(NEGVASK_TABLES,
  *   8   there is no such pointer
  *   9   the destination's count is 1 and it has pointers of its own
  *
- * \param port         NEGVASK_HOST or NEGVASK_SERVICE.
- * \param source       the block that points.
- * \param kind         its credential, with `ref`, `high` and `low`.
- * \param destination  the block pointed to.
- * \param value        receives 1 or 0; unmodified when refused.
+ * \param port            NEGVASK_HOST or NEGVASK_SERVICE.
+ * \param source          the block that points.
+ * \param credential      17 bytes that open it.
+ * \param credential_len  17.
+ * \param destination     the block pointed to.
+ * \param value           receives 1 or 0; unmodified when refused.
  * \return  0 or a refusal.
  */
 uint32_t negvask_delete(NEGVASK_TABLES,
@@ -428,21 +494,20 @@ uint32_t negvask_delete(NEGVASK_TABLES,
  *   6   `block` is a root and the call is a host's
  *   5   a host's credential does not open `block` for writing
  *
- * \param port        NEGVASK_HOST or NEGVASK_SERVICE.
- * \param block       the block's number.
- * \param kind        the credential, with `ref`, `high` and `low`.
- * \param read        1 if there is to be a read key, else 0.
- * \param read_high   its high word, else 0.
- * \param read_low    its low word, else 0.
- * \param write       1 if there is to be a write key, else 0.
- * \param write_high  its high word, else 0.
- * \param write_low   its low word, else 0.
+ * \param port            NEGVASK_HOST or NEGVASK_SERVICE.
+ * \param block           the block's number.
+ * \param credential      17 bytes that open the block.
+ * \param credential_len  17.
+ * \param read            17 bytes, the new read key or none.
+ * \param read_len        17.
+ * \param write           17 bytes, the new write key or none.
+ * \param write_len       17.
  * \return  0 or a refusal.
  */
 uint32_t negvask_key(NEGVASK_TABLES,
 	uint8_t port, uint16_t block, NEGVASK_CREDENTIAL,
-	uint8_t read, uint64_t read_high, uint64_t read_low,
-	uint8_t write, uint64_t write_high, uint64_t write_low);
+	const uint8_t *read, size_t read_len,
+	const uint8_t *write, size_t write_len);
 
 /**
  * \brief Renew a window by a key, without reading or writing: a host's
@@ -452,6 +517,7 @@ uint32_t negvask_key(NEGVASK_TABLES,
  * sooner than before. Unmodified: all else.
  *
  * Refusals, in order:
+ *   13  the credential is ill formed or no key
  *   1   out of shape
  *   2   unsound
  *   4   `mode` is neither 0 nor 1; `interval` is 0 or above 86,400
@@ -460,13 +526,13 @@ uint32_t negvask_key(NEGVASK_TABLES,
  *
  * \param mode      NEGVASK_RENEW_READ or NEGVASK_RENEW_WRITE.
  * \param block     the block's number.
- * \param high      the key's high word.
- * \param low       the key's low word.
+ * \param key       a credential of 17 bytes that is a key.
+ * \param key_len   17.
  * \param interval  seconds, 1 to 86,400.
  * \return  0 or a refusal.
  */
 uint32_t negvask_renew(NEGVASK_TABLES,
-	uint8_t mode, uint16_t block, uint64_t high, uint64_t low,
+	uint8_t mode, uint16_t block, const uint8_t *key, size_t key_len,
 	uint32_t interval);
 
 /**
@@ -497,7 +563,7 @@ uint32_t negvask_force(NEGVASK_TABLES, uint16_t block);
  * \param value  receives the number; unmodified when refused.
  * \return  0 or a refusal.
  */
-uint32_t negvask_free(NEGVASK_CONST_TABLES, uint64_t *value);
+uint32_t negvask_free(NEGVASK_TABLES, uint64_t *value);
 
 /**
  * \brief Let time pass.

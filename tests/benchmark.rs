@@ -12,7 +12,7 @@ mod library;
 #[allow(dead_code)]
 mod model;
 
-use library::{Direct, LentBatch, LentBuffers, RawCredential, RawNewKey, Tables};
+use library::{credential_bytes, new_key_bytes, Direct, LentBatch, LentBuffers, Tables};
 use model::{
     ends, word, Buffers, Call, Card, Credential, Key, Port, Progress, ALLOCATED, DAY, READ_KEY, TIME_END, WRITE_KEY,
 };
@@ -481,27 +481,32 @@ fn load(side: &mut Side, calls: impl Iterator<Item = Direct>) -> Load {
 /// READs by key, of one block after the other.
 fn reads(card: &Card, count: usize) -> impl Iterator<Item = Direct> {
     let keyed: Vec<u16> = (2..card.blocks()).filter(|&b| card.flags[b] & READ_KEY != 0).map(|b| b as u16).collect();
-    let credential = RawCredential::from(Credential::Key(READER));
-    (0..count).map(move |i| Direct::Read { port: 0, block: keyed[i % keyed.len()], credential, interval: 0 })
+    let credential = credential_bytes(Credential::Key(READER));
+    (0..count).map(move |i| Direct::Read {
+        port: 0,
+        block: keyed[i % keyed.len()],
+        credential: credential.clone(),
+        interval: 0,
+    })
 }
 
 /// Of every eight records four READ, two WRITE what stands there, one CREATE and one DELETE that undoes it.
 fn mixed(card: &Card, count: usize) -> impl Iterator<Item = Direct> {
-    let key = RawCredential::from(Credential::Key(WRITER));
+    let key = credential_bytes(Credential::Key(WRITER));
     let data = card.contents[..512].to_vec();
     let mut blocks = reads(card, count);
     let mut pointed = 0;
     (0..count).map(move |i| {
         let Some(Direct::Read { block, .. }) = blocks.next() else { unreachable!() };
         match i % 8 {
-            1 | 5 => Direct::Write { port: 0, block, credential: key, interval: 0, data: data.clone() },
+            1 | 5 => Direct::Write { port: 0, block, credential: key.clone(), interval: 0, data: data.clone() },
             3 => {
                 pointed = block;
                 let (source, destination) = (1, block);
-                Direct::Create { port: 0, source, source_credential: key, destination, destination_credential: key }
+                Direct::Create { port: 0, source, source_credential: key.clone(), destination, destination_credential: key.clone() }
             }
-            7 => Direct::Delete { port: 0, source: 1, credential: key, destination: pointed },
-            _ => Direct::Read { port: 0, block, credential: key, interval: 0 },
+            7 => Direct::Delete { port: 0, source: 1, credential: key.clone(), destination: pointed },
+            _ => Direct::Read { port: 0, block, credential: key.clone(), interval: 0 },
         }
     })
 }
@@ -606,22 +611,22 @@ fn stack_of(work: &mut dyn FnMut()) -> usize {
 
 /// The call that takes most stack, at full size.
 fn deepest() -> (&'static str, usize) {
-    let key = RawCredential::from(Credential::Key(WRITER));
+    let key = credential_bytes(Credential::Key(WRITER));
     let size = SIZES[2];
     let mut s = side(size, 64);
-    let new = RawNewKey::from(Some(WRITER));
+    let new = new_key_bytes(Some(WRITER));
     let calls = [
         ("AUDIT", Direct::Audit),
-        ("READ", Direct::Read { port: 0, block: 2, credential: key, interval: 10 }),
-        ("WRITE", Direct::Write { port: 0, block: 2, credential: key, interval: 10, data: vec![3; 512] }),
-        ("ALLOC 63", Direct::Alloc { port: 0, reference: 1, credential: key, hint: 2_048, count: 63 }),
+        ("READ", Direct::Read { port: 0, block: 2, credential: key.clone(), interval: 10 }),
+        ("WRITE", Direct::Write { port: 0, block: 2, credential: key.clone(), interval: 10, data: vec![3; 512] }),
+        ("ALLOC 63", Direct::Alloc { port: 0, reference: 1, credential: key.clone(), hint: 2_048, count: 63 }),
         (
             "CREATE",
-            Direct::Create { port: 0, source: 1, source_credential: key, destination: 2, destination_credential: key },
+            Direct::Create { port: 0, source: 1, source_credential: key.clone(), destination: 2, destination_credential: key.clone() },
         ),
-        ("DELETE", Direct::Delete { port: 0, source: 1, credential: key, destination: 2 }),
-        ("KEY", Direct::Key { port: 0, block: 2, credential: key, read: new, write: new }),
-        ("RENEW", Direct::Renew { mode: 1, block: 2, key: WRITER, interval: 10 }),
+        ("DELETE", Direct::Delete { port: 0, source: 1, credential: key.clone(), destination: 2 }),
+        ("KEY", Direct::Key { port: 0, block: 2, credential: key.clone(), read: new.clone(), write: new }),
+        ("RENEW", Direct::Renew { mode: 1, block: 2, key: credential_bytes(Credential::Key(WRITER)), interval: 10 }),
         ("FORCE", Direct::Force { block: 2 }),
         ("FREE", Direct::Free),
         ("TICK", Direct::Tick { seconds: 1 }),
@@ -660,7 +665,7 @@ struct Row {
 }
 
 fn rows(size: Size) -> Vec<Row> {
-    let key = |k: Key| RawCredential::from(Credential::Key(k));
+    let key = |k: Key| credential_bytes(Credential::Key(k));
     let calls = if size.blocks == 16 { 64 } else { 4 };
     let mut side_full = side(size, 0);
     let s = &mut side_full;
@@ -684,7 +689,7 @@ fn rows(size: Size) -> Vec<Row> {
     let read = repeated(s, calls, &read_call, |c, out| done(plain::read(c, 2, READER, 10, black_box(out))));
     let write_call = Direct::Write { port: 0, block: 2, credential: key(WRITER), interval: 10, data: data.clone() };
     let write = repeated(s, calls, &write_call, |c, _| done(plain::write(c, 2, WRITER, 10, black_box(&data))));
-    let new = |k| RawNewKey::from(Some(k));
+    let new = |k| new_key_bytes(Some(k));
     let key_call = Direct::Key { port: 0, block: 2, credential: key(WRITER), read: new(READER), write: new(WRITER) };
     let keys = repeated(s, calls, &key_call, |c, _| done(plain::set_keys(c, 2, WRITER, READER, WRITER)));
     let tick_call = Direct::Tick { seconds: 0 };
@@ -743,7 +748,7 @@ fn rows(size: Size) -> Vec<Row> {
                         let undo = Direct::Delete {
                             port: 1,
                             source: 1,
-                            credential: RawCredential::from(Credential::Nothing),
+                            credential: credential_bytes(Credential::Nothing),
                             destination,
                         };
                         done(s.tables.call(&undo, &mut s.buffers));

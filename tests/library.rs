@@ -1,6 +1,6 @@
 //! The library's C interface as Rust sees it: lent tables with guards around them, and every call with raw operands.
 
-use crate::model::{Buffers, Call, Card, Credential, Key, Port, Progress};
+use crate::model::{credential_of, new_key_of, Buffers, Call, Card, Credential, Key, Port, Progress};
 
 /// Declares functions that all begin with the record and the six tables.
 macro_rules! library {
@@ -23,19 +23,19 @@ macro_rules! library {
 library! {
     negvask_format(blocks: u64, roots: u64, bytes: u64);
     negvask_audit();
-    negvask_read(port: u8, block: u16, kind: u8, reference: u16, high: u64, low: u64, interval: u32,
+    negvask_read(port: u8, block: u16, credential: *const u8, credential_len: usize, interval: u32,
                  out: *mut u8, out_len: usize);
-    negvask_write(port: u8, block: u16, kind: u8, reference: u16, high: u64, low: u64, interval: u32,
+    negvask_write(port: u8, block: u16, credential: *const u8, credential_len: usize, interval: u32,
                   data: *const u8, data_len: usize);
-    negvask_alloc(port: u8, block: u16, kind: u8, reference: u16, high: u64, low: u64, hint: u16, count: u8,
+    negvask_alloc(port: u8, block: u16, credential: *const u8, credential_len: usize, hint: u16, count: u8,
                   places: *mut u16, places_len: usize);
-    negvask_create(port: u8, source: u16, kind: u8, reference: u16, high: u64, low: u64,
-                   destination: u16, kind2: u8, reference2: u16, high2: u64, low2: u64);
-    negvask_delete(port: u8, source: u16, kind: u8, reference: u16, high: u64, low: u64, destination: u16,
+    negvask_create(port: u8, source: u16, credential: *const u8, credential_len: usize,
+                   destination: u16, second: *const u8, second_len: usize);
+    negvask_delete(port: u8, source: u16, credential: *const u8, credential_len: usize, destination: u16,
                    value: *mut u64);
-    negvask_key(port: u8, block: u16, kind: u8, reference: u16, high: u64, low: u64,
-                read: u8, read_high: u64, read_low: u64, write: u8, write_high: u64, write_low: u64);
-    negvask_renew(mode: u8, block: u16, high: u64, low: u64, interval: u32);
+    negvask_key(port: u8, block: u16, credential: *const u8, credential_len: usize,
+                read: *const u8, read_len: usize, write: *const u8, write_len: usize);
+    negvask_renew(mode: u8, block: u16, key: *const u8, key_len: usize, interval: u32);
     negvask_force(block: u16);
     negvask_free(value: *mut u64);
     negvask_tick(seconds: u64, value: *mut u64);
@@ -110,22 +110,8 @@ macro_rules! with_tables {
     };
 }
 
-/// A credential as the C interface passes it; it need not be well formed.
-#[derive(Clone, Copy, Debug, PartialEq)]
-pub struct RawCredential {
-    pub kind: u8,
-    pub block: u16,
-    pub high: u64,
-    pub low: u64,
-}
-
-/// A new key or none as the C interface passes it.
-#[derive(Clone, Copy, Debug, PartialEq)]
-pub struct RawNewKey {
-    pub present: u8,
-    pub high: u64,
-    pub low: u64,
-}
+/// A credential or a new key as the C interface passes it: bytes, which need not be well formed nor 17.
+pub type Raw = Vec<u8>;
 
 /// A call of the C interface.
 #[derive(Clone, Debug, PartialEq)]
@@ -138,47 +124,47 @@ pub enum Direct {
     Read {
         port: u8,
         block: u16,
-        credential: RawCredential,
+        credential: Raw,
         interval: u32,
     },
     Write {
         port: u8,
         block: u16,
-        credential: RawCredential,
+        credential: Raw,
         interval: u32,
         data: Vec<u8>,
     },
     Alloc {
         port: u8,
         reference: u16,
-        credential: RawCredential,
+        credential: Raw,
         hint: u16,
         count: u8,
     },
     Create {
         port: u8,
         source: u16,
-        source_credential: RawCredential,
+        source_credential: Raw,
         destination: u16,
-        destination_credential: RawCredential,
+        destination_credential: Raw,
     },
     Delete {
         port: u8,
         source: u16,
-        credential: RawCredential,
+        credential: Raw,
         destination: u16,
     },
     Key {
         port: u8,
         block: u16,
-        credential: RawCredential,
-        read: RawNewKey,
-        write: RawNewKey,
+        credential: Raw,
+        read: Raw,
+        write: Raw,
     },
     Renew {
         mode: u8,
         block: u16,
-        key: Key,
+        key: Raw,
         interval: u32,
     },
     Force {
@@ -304,10 +290,8 @@ impl Tables {
                 self,
                 *port,
                 *block,
-                c.kind,
-                c.block,
-                c.high,
-                c.low,
+                c.as_ptr(),
+                c.len(),
                 *interval,
                 lent.out.pointer(),
                 lent.out.length()
@@ -317,10 +301,8 @@ impl Tables {
                 self,
                 *port,
                 *block,
-                c.kind,
-                c.block,
-                c.high,
-                c.low,
+                c.as_ptr(),
+                c.len(),
                 *interval,
                 data.as_ptr(),
                 data.len()
@@ -330,10 +312,8 @@ impl Tables {
                 self,
                 *port,
                 *reference,
-                c.kind,
-                c.block,
-                c.high,
-                c.low,
+                c.as_ptr(),
+                c.len(),
                 *hint,
                 *count,
                 lent.places.pointer(),
@@ -345,15 +325,11 @@ impl Tables {
                     self,
                     *port,
                     *source,
-                    c.kind,
-                    c.block,
-                    c.high,
-                    c.low,
+                    c.as_ptr(),
+                    c.len(),
                     *destination,
-                    d.kind,
-                    d.block,
-                    d.high,
-                    d.low
+                    d.as_ptr(),
+                    d.len()
                 )
             }
             Direct::Delete { port, source, credential: c, destination } => with_tables!(
@@ -361,10 +337,8 @@ impl Tables {
                 self,
                 *port,
                 *source,
-                c.kind,
-                c.block,
-                c.high,
-                c.low,
+                c.as_ptr(),
+                c.len(),
                 *destination,
                 lent.value.pointer()
             ),
@@ -373,19 +347,15 @@ impl Tables {
                 self,
                 *port,
                 *block,
-                c.kind,
-                c.block,
-                c.high,
-                c.low,
-                read.present,
-                read.high,
-                read.low,
-                write.present,
-                write.high,
-                write.low
+                c.as_ptr(),
+                c.len(),
+                read.as_ptr(),
+                read.len(),
+                write.as_ptr(),
+                write.len()
             ),
             Direct::Renew { mode, block, key, interval } => {
-                with_tables!(negvask_renew, self, *mode, *block, key.high, key.low, *interval)
+                with_tables!(negvask_renew, self, *mode, *block, key.as_ptr(), key.len(), *interval)
             }
             Direct::Force { block } => with_tables!(negvask_force, self, *block),
             Direct::Free => with_tables!(negvask_free, self, lent.value.pointer()),
@@ -428,40 +398,30 @@ impl Tables {
 
 // ---- Raw operands and what they mean ----
 
-impl RawCredential {
-    pub fn from(credential: Credential) -> Self {
-        match credential {
-            Credential::Nothing => RawCredential { kind: 0, block: 0, high: 0, low: 0 },
-            Credential::Reference(block) => RawCredential { kind: 1, block, high: 0, low: 0 },
-            Credential::Key(k) => RawCredential { kind: 2, block: 0, high: k.high, low: k.low },
-        }
-    }
-
-    /// The credential, unless its kind is none of the three or a part that the kind does not use is not 0.
-    pub fn plain(&self) -> Option<Credential> {
-        match *self {
-            RawCredential { kind: 0, block: 0, high: 0, low: 0 } => Some(Credential::Nothing),
-            RawCredential { kind: 1, block, high: 0, low: 0 } => Some(Credential::Reference(block)),
-            RawCredential { kind: 2, block: 0, high, low } => Some(Credential::Key(Key { high, low })),
-            _ => None,
-        }
+pub fn credential_bytes(credential: Credential) -> Raw {
+    match credential {
+        Credential::Nothing => bytes_of(0, 0, 0),
+        Credential::Reference(block) => bytes_of(1, (block as u64) << 48, 0),
+        Credential::Key(k) => bytes_of(2, k.high, k.low),
     }
 }
 
-impl RawNewKey {
-    pub fn from(key: Option<Key>) -> Self {
-        match key {
-            None => RawNewKey { present: 0, high: 0, low: 0 },
-            Some(k) => RawNewKey { present: 1, high: k.high, low: k.low },
-        }
+pub fn new_key_bytes(key: Option<Key>) -> Raw {
+    match key {
+        None => bytes_of(0, 0, 0),
+        Some(k) => bytes_of(1, k.high, k.low),
     }
+}
 
-    pub fn plain(&self) -> Option<Option<Key>> {
-        match *self {
-            RawNewKey { present: 0, high: 0, low: 0 } => Some(None),
-            RawNewKey { present: 1, high, low } => Some(Some(Key { high, low })),
-            _ => None,
-        }
+fn bytes_of(first: u8, high: u64, low: u64) -> Raw {
+    [&[first][..], &high.to_be_bytes(), &low.to_be_bytes()].concat()
+}
+
+/// RENEW takes a credential that is a key.
+fn plain_key(raw: &Raw) -> Option<Key> {
+    match credential_of(raw)? {
+        Credential::Key(key) => Some(key),
+        _ => None,
     }
 }
 
@@ -478,32 +438,37 @@ impl Direct {
         let port = port as u8;
         match call.clone() {
             Call::Read { block, credential, interval } => {
-                Direct::Read { port, block, credential: RawCredential::from(credential), interval }
+                Direct::Read { port, block, credential: credential_bytes(credential), interval }
             }
             Call::Write { block, credential, interval, data } => {
-                Direct::Write { port, block, credential: RawCredential::from(credential), interval, data }
+                Direct::Write { port, block, credential: credential_bytes(credential), interval, data }
             }
             Call::Alloc { reference, credential, hint, count } => {
-                Direct::Alloc { port, reference, credential: RawCredential::from(credential), hint, count }
+                Direct::Alloc { port, reference, credential: credential_bytes(credential), hint, count }
             }
             Call::Create { source, source_credential, destination, destination_credential } => Direct::Create {
                 port,
                 source,
-                source_credential: RawCredential::from(source_credential),
+                source_credential: credential_bytes(source_credential),
                 destination,
-                destination_credential: RawCredential::from(destination_credential),
+                destination_credential: credential_bytes(destination_credential),
             },
             Call::Delete { source, credential, destination } => {
-                Direct::Delete { port, source, credential: RawCredential::from(credential), destination }
+                Direct::Delete { port, source, credential: credential_bytes(credential), destination }
             }
             Call::Key { block, credential, read, write } => Direct::Key {
                 port,
                 block,
-                credential: RawCredential::from(credential),
-                read: RawNewKey::from(read),
-                write: RawNewKey::from(write),
+                credential: credential_bytes(credential),
+                read: new_key_bytes(read),
+                write: new_key_bytes(write),
             },
-            Call::Renew { mode, block, key, interval } => Direct::Renew { mode, block, key, interval },
+            Call::Renew { mode, block, key, interval } => Direct::Renew {
+                mode,
+                block,
+                key: credential_bytes(Credential::Key(key)),
+                interval,
+            },
             Call::Force { block } => Direct::Force { block },
             Call::Free => Direct::Free,
             Call::Tick { seconds } => Direct::Tick { seconds },
@@ -516,40 +481,40 @@ impl Direct {
         Some(match self {
             Direct::Format { .. } => return None,
             Direct::Read { port, block, credential, interval } => {
-                (plain_port(*port)?, Call::Read { block: *block, credential: credential.plain()?, interval: *interval })
+                (plain_port(*port)?, Call::Read { block: *block, credential: credential_of(credential)?, interval: *interval })
             }
             Direct::Write { port, block, credential, interval, data } => (
                 plain_port(*port)?,
-                Call::Write { block: *block, credential: credential.plain()?, interval: *interval, data: data.clone() },
+                Call::Write { block: *block, credential: credential_of(credential)?, interval: *interval, data: data.clone() },
             ),
             Direct::Alloc { port, reference, credential, hint, count } => (
                 plain_port(*port)?,
-                Call::Alloc { reference: *reference, credential: credential.plain()?, hint: *hint, count: *count },
+                Call::Alloc { reference: *reference, credential: credential_of(credential)?, hint: *hint, count: *count },
             ),
             Direct::Create { port, source, source_credential, destination, destination_credential } => (
                 plain_port(*port)?,
                 Call::Create {
                     source: *source,
-                    source_credential: source_credential.plain()?,
+                    source_credential: credential_of(source_credential)?,
                     destination: *destination,
-                    destination_credential: destination_credential.plain()?,
+                    destination_credential: credential_of(destination_credential)?,
                 },
             ),
             Direct::Delete { port, source, credential, destination } => (
                 plain_port(*port)?,
-                Call::Delete { source: *source, credential: credential.plain()?, destination: *destination },
+                Call::Delete { source: *source, credential: credential_of(credential)?, destination: *destination },
             ),
             Direct::Key { port, block, credential, read, write } => (
                 plain_port(*port)?,
                 Call::Key {
                     block: *block,
-                    credential: credential.plain()?,
-                    read: read.plain()?,
-                    write: write.plain()?,
+                    credential: credential_of(credential)?,
+                    read: new_key_of(read)?,
+                    write: new_key_of(write)?,
                 },
             ),
             Direct::Renew { mode, block, key, interval } => {
-                (Port::Host, Call::Renew { mode: *mode, block: *block, key: *key, interval: *interval })
+                (Port::Host, Call::Renew { mode: *mode, block: *block, key: plain_key(key)?, interval: *interval })
             }
             Direct::Force { block } => (Port::Host, Call::Force { block: *block }),
             Direct::Free => (Port::Host, Call::Free),
@@ -565,7 +530,7 @@ impl Direct {
             Direct::Format { .. } => return None,
             Direct::Read { port, block, credential, interval } => {
                 body.extend(block.to_be_bytes());
-                put_credential(&mut body, credential);
+                put_bytes(&mut body, credential)?;
                 body.extend(interval.to_be_bytes());
                 (*port, 1)
             }
@@ -574,46 +539,43 @@ impl Direct {
                     return None;
                 }
                 body.extend(block.to_be_bytes());
-                put_credential(&mut body, credential);
+                put_bytes(&mut body, credential)?;
                 body.extend(interval.to_be_bytes());
                 body.extend(data);
                 (*port, 2)
             }
             Direct::Alloc { port, reference, credential, hint, count } => {
                 body.extend(reference.to_be_bytes());
-                put_credential(&mut body, credential);
+                put_bytes(&mut body, credential)?;
                 body.extend(hint.to_be_bytes());
                 body.push(*count);
                 (*port, 3)
             }
             Direct::Create { port, source, source_credential, destination, destination_credential } => {
                 body.extend(source.to_be_bytes());
-                put_credential(&mut body, source_credential);
+                put_bytes(&mut body, source_credential)?;
                 body.extend(destination.to_be_bytes());
-                put_credential(&mut body, destination_credential);
+                put_bytes(&mut body, destination_credential)?;
                 (*port, 4)
             }
             Direct::Delete { port, source, credential, destination } => {
                 body.extend(source.to_be_bytes());
-                put_credential(&mut body, credential);
+                put_bytes(&mut body, credential)?;
                 body.extend(destination.to_be_bytes());
                 (*port, 5)
             }
             Direct::Key { port, block, credential, read, write } => {
                 body.extend(block.to_be_bytes());
-                put_credential(&mut body, credential);
-                for new in [read, write] {
-                    body.push(new.present);
-                    body.extend(new.high.to_be_bytes());
-                    body.extend(new.low.to_be_bytes());
-                }
+                put_bytes(&mut body, credential)?;
+                put_bytes(&mut body, read)?;
+                put_bytes(&mut body, write)?;
                 (*port, 6)
             }
             Direct::Renew { mode, block, key, interval } => {
                 body.push(*mode);
                 body.extend(block.to_be_bytes());
-                body.extend(key.high.to_be_bytes());
-                body.extend(key.low.to_be_bytes());
+                plain_key(key)?;
+                body.extend(&key[1..]);
                 body.extend(interval.to_be_bytes());
                 (0, 7)
             }
@@ -636,13 +598,8 @@ impl Direct {
     }
 }
 
-fn put_credential(body: &mut Vec<u8>, credential: &RawCredential) {
-    body.push(credential.kind);
-    if credential.kind != 2 {
-        body.extend(credential.block.to_be_bytes());
-        body.extend(&credential.high.to_be_bytes()[2..]);
-    } else {
-        body.extend(credential.high.to_be_bytes());
-    }
-    body.extend(credential.low.to_be_bytes());
+/// Other bytes than 17 would move all that follows.
+fn put_bytes(body: &mut Vec<u8>, raw: &Raw) -> Option<()> {
+    body.extend(raw);
+    (raw.len() == 17).then_some(())
 }

@@ -26,8 +26,8 @@ pub const CLOCK: u32 = 12;
 pub const MALFORMED: u32 = 13;
 
 /// Why a batch stops, besides its end and a malformed record.
-pub const CUT_SHORT: u32 = 14;
-pub const NO_ROOM: u32 = 15;
+pub const CUT_SHORT: u32 = 256;
+pub const NO_ROOM: u32 = 257;
 
 /// What a call answers: done, or the refusal's number.
 pub type Answer = Result<(), u32>;
@@ -613,6 +613,16 @@ impl<'a> Body<'a> {
             _ => None,
         }
     }
+}
+
+/// The credential of 17 bytes that are passed by themselves.
+pub fn credential_of(bytes: &[u8]) -> Option<Credential> {
+    (bytes.len() == 17).then(|| Body(bytes).credential())?
+}
+
+/// The new key or none of 17 bytes that are passed by themselves.
+pub fn new_key_of(bytes: &[u8]) -> Option<Option<Key>> {
+    (bytes.len() == 17).then(|| Body(bytes).new_key())?
 }
 
 /// The call of a record and its port; None is refusal 13. Bytes past the body are not looked at.

@@ -1,6 +1,6 @@
 //! Random calls with operands that fit the card, or nearly, and the buffers to lend to them.
 
-use crate::library::{Direct, RawCredential, RawNewKey};
+use crate::library::{credential_bytes, new_key_bytes, Direct, Raw};
 use crate::model::{ends, Buffers, Card, Credential, Key, Operation, DAY, NO_HINT, READ_KEY, TIME_END, WRITE_KEY};
 use crate::random_card::{Random, KEYS};
 
@@ -104,30 +104,28 @@ impl Chooser {
         Credential::Reference(open.or(self.source_of(rnd, card, b, None)).unwrap_or(0))
     }
 
-    pub fn raw(&self, rnd: &mut Random, card: &Card, block: u16, operation: Operation) -> RawCredential {
-        let mut raw = RawCredential::from(self.credential(rnd, card, block, operation));
-        if !self.host_only && rnd.percent(1) {
-            match rnd.below(6) {
-                0 => raw.kind = rnd.of(&[3, 4, 128, 255]),
-                1 => raw.kind = rnd.of(&[0, 1, 2]),
-                2 => raw.block = rnd.of(&[1, 256, 65_535]),
-                3 => raw.high = rnd.of(&[1, 1 << 47, 1 << 63]),
-                4 => raw.low = rnd.of(&[1, 1 << 8, 1 << 63]),
-                _ => raw.kind = rnd.next() as u8,
-            }
-        }
-        raw
+    /// The bytes of a credential that mostly fits; now and then not well formed.
+    pub fn raw(&self, rnd: &mut Random, card: &Card, block: u16, operation: Operation) -> Raw {
+        let raw = credential_bytes(self.credential(rnd, card, block, operation));
+        self.perhaps_wrong(rnd, raw, &[3, 4, 128, 255])
     }
 
-    pub fn new_key(&self, rnd: &mut Random) -> RawNewKey {
+    pub fn new_key(&self, rnd: &mut Random) -> Raw {
         let key = if rnd.percent(45) { None } else { Some(rnd.of(&KEYS)) };
-        let mut raw = RawNewKey::from(key);
+        self.perhaps_wrong(rnd, new_key_bytes(key), &[2, 3, 128, 255])
+    }
+
+    fn perhaps_wrong(&self, rnd: &mut Random, mut raw: Raw, others: &[u8]) -> Raw {
         if !self.host_only && rnd.percent(1) {
-            match rnd.below(4) {
-                0 => raw.present = rnd.of(&[2, 3, 128, 255]),
-                1 => raw.present ^= 1,
-                2 => raw.high = 1,
-                _ => raw.low = 1 << 63,
+            match rnd.below(8) {
+                0 => raw[0] = rnd.of(others),
+                1 => raw[0] = rnd.of(&[0, 1, 2]),
+                2 => raw[0] = rnd.next() as u8,
+                3 => raw[rnd.of(&[1, 2, 3, 4])] ^= rnd.of(&[1, 128]),
+                4 => raw[rnd.of(&[9, 15, 16])] ^= rnd.of(&[1, 128]),
+                5 => raw.truncate(rnd.of(&[0, 1, 3, 16])),
+                6 => raw.push(rnd.of(&[0, 1])),
+                _ => raw.resize(42, 0),
             }
         }
         raw
@@ -235,11 +233,13 @@ impl Chooser {
                     _ => self.block(rnd, card),
                 };
                 let operation = if mode == 0 { Operation::Reading } else { Operation::Writing };
-                let key = match self.credential(rnd, card, block, operation) {
-                    Credential::Key(k) => k,
-                    _ if self.known.is_empty() => rnd.of(&KEYS),
-                    _ => rnd.of(&self.known),
+                let credential = match self.credential(rnd, card, block, operation) {
+                    Credential::Key(k) => Credential::Key(k),
+                    other if !self.host_only && rnd.percent(5) => other,
+                    _ if self.known.is_empty() => Credential::Key(rnd.of(&KEYS)),
+                    _ => Credential::Key(rnd.of(&self.known)),
                 };
+                let key = self.perhaps_wrong(rnd, credential_bytes(credential), &[3, 4, 128, 255]);
                 Direct::Renew { mode, block, key, interval: self.interval(rnd) }
             }
             89..=91 => Direct::Force { block: self.block(rnd, card) },

@@ -6,16 +6,17 @@ use mathlib.Core.List.{List, []}
 use lib.Dec.{eqb}
 use lib.ListN.{length}
 use Rattle.card.specs.Card.{Card}
+use denote.Ref.{now}
+use Rattle.card.specs.Lent.{Lent, LentNumber, atEntry, atExit}
 use Rattle.card.specs.Plan.{Result}
 use Rattle.card.specs.Calls.{answerNumber, format}
 use Rattle.card.specs.Session.{request, perform}
 use Rattle.card.specs.declared.Answer.{Answer}
 use Rattle.card.specs.declared.Answer.the-variants.{Refused, Done, Value}
-use Rattle.kinds.specs.Kinds.{dataLength}
 use Rattle.records.specs.Decode.{nameOf, dataOf, decodeBody}
 use Rattle.records.specs.declared.Decoding.{Decoding}
 use Rattle.records.specs.declared.Decoding.the-variants.{Decoded, Bad}
-use Rattle.operands.specs.Operands.{numbersOf}
+use Rattle.adapter.specs.Numbers.{recordLength, recordOf, numbersOf}
 
 pub record Effect : Type 0 where
   pub number : ℕ
@@ -42,35 +43,30 @@ effectOf r value = record {
   places = r .places;
 }
 
--- A call, if the operands or the bytes hold one, else 13; and 1 where the record has not five numbers. A refusal changes nothing.
-unfoldable pub effect : Decoding → List ℕ → Card → List ℕ → List ℕ → List ℕ → ℕ → Effect
-effect (Decoded port call) info c input out places value =
-    cond (eqb (length info) 5) (effectOf (perform port c (request call input out places)) value)
-    (record { number = 1; value = value; info = info; after = c; out = out; places = places })
-effect Bad info c input out places value = record { number = 13; value = value; info = info; after = c; out = out; places = places }
+-- A refusal changes nothing.
+abbrev pub refusedEffect : ℕ → List ℕ → List ℕ → ℕ → List ℕ → Card → Effect
+refusedEffect number out places value info c = record { number = number; value = value; info = info; after = c; out = out; places = places }
+
+-- A call, if the operands or the bytes hold one, else 13; and 1 where the record has not its five numbers.
+unfoldable pub effect : Decoding → List ℕ → List ℕ → List ℕ → ℕ → List ℕ → Card → Effect
+effect (Decoded port call) input out places value info c =
+    cond (eqb (length info) recordLength) (effectOf (perform port c (request call input out places)) value) (refusedEffect 1 out places value info c)
+effect Bad input out places value info c = refusedEffect 13 out places value info c
 
 -- FORMAT, which has no record to be sound.
 unfoldable pub formatEffect : ℕ → ℕ → ℕ → List ℕ → Card → Effect
 formatEffect blocks roots bytes info c =
-    cond (eqb (length info) 5) (effectOf (format blocks roots bytes c) 0)
-    (record { number = 1; value = 0; info = info; after = c; out = []; places = [] })
+    cond (eqb (length info) recordLength) (effectOf (format blocks roots bytes c) 0) (refusedEffect 1 [] [] 0 info c)
 
 -- ---- a call record
 
--- How many bytes a record has beside its operands, where they start in its body, and the bytes.
-unfoldable pub dataSize : Decoding → ℕ
-dataSize (Decoded port call) = dataLength (nameOf call)
-dataSize Bad = 0
-
-abbrev pub dataFrom : ℕ → ℕ
-dataFrom size = cond (eqb size 512) 23 0
-
+-- The bytes that a record has beside its operands.
 unfoldable pub dataIn : Decoding → List ℕ → List ℕ
 dataIn (Decoded port call) body = dataOf (nameOf call) body
 dataIn Bad body = []
 
-unfoldable pub recordEffect : ℕ → List ℕ → List ℕ → Card → List ℕ → List ℕ → ℕ → Effect
-recordEffect kind body info c out places value = let d = decodeBody kind body in effect d info c (dataIn d body) out places value
+unfoldable pub recordEffect : ℕ → List ℕ → List ℕ → List ℕ → ℕ → List ℕ → Card → Effect
+recordEffect kind body out places value info c = let d = decodeBody kind body in effect d (dataIn d body) out places value info c
 
 -- ---- what the contracts cite
 
@@ -86,3 +82,36 @@ pub record Does (want : Effect) (number : ℕ) (info : List ℕ) (after : Card) 
 pub record Gives (want : Effect) (number value : ℕ) (info : List ℕ) (after : Card) (out places : List ℕ) : Type 0 where
   pub does : Does want number info after out places
   pub gives : value ≡ want .value
+
+-- What a function returns and leaves is the effect of the rule on the record and the card at its entry.
+abbrev pub Effects : (List ℕ → Card → Effect) → Lent → Lent → Lent → Lent → Lent → Lent → Lent → ℕ → List ℕ → List ℕ → Type 0
+Effects rule info flags keys counts pointers windows contents r out places =
+    Does (rule (now (info .entry)) (atEntry (recordOf (now (info .entry))) flags keys counts pointers windows contents))
+    r
+    (now (info .exit))
+    (atExit (recordOf (now (info .exit))) flags keys counts pointers windows contents)
+    out
+    places
+
+-- The same of a function that may have a result.
+abbrev pub EffectsGiving : (ℕ → List ℕ → Card → Effect) → Lent → Lent → Lent → Lent → Lent → Lent → Lent → LentNumber → ℕ → Type 0
+EffectsGiving rule info flags keys counts pointers windows contents value r =
+    Gives (rule (now (value .entry)) (now (info .entry)) (atEntry (recordOf (now (info .entry))) flags keys counts pointers windows contents))
+    r
+    (now (value .exit))
+    (now (info .exit))
+    (atExit (recordOf (now (info .exit))) flags keys counts pointers windows contents)
+    []
+    []
+
+-- The same of a function that any call may be given to, so that it is lent READ's buffer and ALLOC's places.
+abbrev pub EffectsLent : (List ℕ → List ℕ → ℕ → List ℕ → Card → Effect) → Lent → Lent → Lent → Lent → Lent → Lent → Lent → Lent → Lent → LentNumber → ℕ → Type 0
+EffectsLent rule info flags keys counts pointers windows contents out places value r =
+    Gives
+    (rule (now (out .entry)) (now (places .entry)) (now (value .entry)) (now (info .entry)) (atEntry (recordOf (now (info .entry))) flags keys counts pointers windows contents))
+    r
+    (now (value .exit))
+    (now (info .exit))
+    (atExit (recordOf (now (info .exit))) flags keys counts pointers windows contents)
+    (now (out .exit))
+    (now (places .exit))

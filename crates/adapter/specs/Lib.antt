@@ -1,2 +1,4 @@
+pub mod Numbers
+pub mod NumbersLaws
 pub mod Effects
 pub mod EffectsLaws

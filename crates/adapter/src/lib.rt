@@ -1,19 +1,91 @@
-// A decoded call on the card's record as five lent numbers, and the bytes of a record beside its operands.
+// What C passes and gets: the card's record as lent numbers, a port as a number, credentials and new keys as the bytes
+// that records have, and a call performed on them.
 use card::Answer;
-use card::Call;
+use card::Info;
 use card::Outcome;
+use card::Port;
+use fields::ParsedCredential;
+use fields::ParsedKey;
 use records::Decoding;
 ghost use mathlib.Core.Path.{_≡_};
+ghost use mathlib.Core.List.{[]};
 ghost use lib.ListN.{length};
-ghost use Rattle.card.specs.Lent.{atEntry, atExit};
 ghost use Rattle.card.specs.Calls.{answerNumber};
-ghost use Rattle.operands.specs.Operands.{recordOf, numbersOf};
-ghost use Rattle.adapter.specs.Effects.{valueAfter, effect, dataSize, dataFrom, Gives};
+ghost use Rattle.adapter.specs.Numbers.{recordLength, recordOf, numbersOf, credentialOf, newKeyOf, atPort};
+ghost use Rattle.adapter.specs.Effects.{valueAfter, effect, EffectsGiving, EffectsLent};
+
+// How many numbers the record has: N, R, B, M and T.
+pub const RECORD_LENGTH: usize = 5;
+
+// How many bytes a credential has, and a new key.
+const CREDENTIAL_LENGTH: usize = 17;
+
+// ---- the record
+
+pub fn load(numbers: &[u64]) -> Info
+    requires { ⌜ length (now numbers) ≡ recordLength ⌝ }
+    ensures { λ r. ⌜ r ≡ recordOf (now (numbers .entry)) ⌝ }
+{
+    Info {
+        blocks: numbers[0] as usize,
+        roots: numbers[1] as usize,
+        bytes: numbers[2] as usize,
+        used: numbers[3] as usize,
+        time: numbers[4],
+    }
+}
+
+pub fn store(numbers: &mut [u64], info: Info)
+    requires { ⌜ length (now numbers) ≡ recordLength ⌝ }
+    ensures { λ _. ⌜ now (numbers .exit) ≡ numbersOf info ⌝ }
+{
+    numbers[0] = info.blocks as u64;
+    numbers[1] = info.roots as u64;
+    numbers[2] = info.bytes as u64;
+    numbers[3] = info.used as u64;
+    numbers[4] = info.time;
+}
+
+// ---- operands
+
+pub fn credential_of(bytes: &[u8]) -> ParsedCredential
+    ensures { λ r. ⌜ r ≡ credentialOf (now (bytes .entry)) ⌝ }
+{
+    if bytes.len() != CREDENTIAL_LENGTH {
+        return ParsedCredential::Invalid;
+    }
+    fields::credential(bytes, 0)
+}
+
+pub fn new_key_of(bytes: &[u8]) -> ParsedKey
+    ensures { λ r. ⌜ r ≡ newKeyOf (now (bytes .entry)) ⌝ }
+{
+    if bytes.len() != CREDENTIAL_LENGTH {
+        return ParsedKey::Invalid;
+    }
+    fields::new_key(bytes, 0)
+}
+
+// The call at the port of a number: 0 is the host's, 1 the service port.
+pub fn at_port(port: u8, made: Decoding) -> Decoding
+    ensures { λ r. ⌜ r ≡ atPort port made ⌝ }
+{
+    let Decoding::Decoded(_, call) = made else {
+        return Decoding::Bad;
+    };
+    if port == 0 {
+        return Decoding::Decoded(Port::Host, call);
+    }
+    if port == 1 {
+        return Decoding::Decoded(Port::Service, call);
+    }
+    Decoding::Bad
+}
 
 // ---- calls
 
 // The number of an answer; a result is put where the caller asks for it.
-pub fn report(answer: Answer, value: &mut u64) -> u32
+fn report(answer: Answer, value: &mut u64) -> u32
     ensures number { λ r. ⌜ r ≡ answerNumber answer ⌝ }
     ensures result { λ _. ⌜ now (value .exit) ≡ valueAfter answer (now (value .entry)) ⌝ }
 {
@@ -29,18 +101,18 @@ pub fn report(answer: Answer, value: &mut u64) -> u32
 
 // What a call leaves of the record is stored, and its answer reported.
 pub fn settle(info: &mut [u64], outcome: Outcome, value: &mut u64) -> u32
-    requires { ⌜ length (now info) ≡ 5 ⌝ }
+    requires { ⌜ length (now info) ≡ recordLength ⌝ }
     ensures stored { λ _. ⌜ now (info .exit) ≡ numbersOf (outcome .info) ⌝ }
     ensures number { λ r. ⌜ r ≡ answerNumber (outcome .answer) ⌝ }
     ensures result { λ _. ⌜ now (value .exit) ≡ valueAfter (outcome .answer) (now (value .entry)) ⌝ }
 {
     let left = outcome.info;
     let answer = outcome.answer;
-    operands::store(info, left);
+    store(info, left);
     report(answer, value)
 }
 
-// A call on the lent record and tables: refused 13 where there is none, and 1 where the record has not five numbers.
+// A call on the lent record and tables: refused 13 where there is none, and 1 where the record has not its numbers.
 pub fn perform(
     info: &mut [u64],
     flags: &mut [u8],
@@ -55,16 +127,16 @@ pub fn perform(
     places: &mut [u16],
     value: &mut u64,
 ) -> u32
-    ensures { λ r. ⌜ Gives (effect (decoding) (now (info .entry)) (atEntry (recordOf (now (info .entry))) flags keys counts pointers windows contents) (now (input .entry)) (now (out .entry)) (now (places .entry)) (now (value .entry))) r (now (value .exit)) (now (info .exit)) (atExit (recordOf (now (info .exit))) flags keys counts pointers windows contents) (now (out .exit)) (now (places .exit)) ⌝ }
+    ensures { λ r. ⌜ EffectsLent (effect decoding (now (input .entry))) info flags keys counts pointers windows contents out places value r ⌝ }
 {
     let Decoding::Decoded(port, call) = decoding else {
         return 13;
     };
-    if info.len() != 5 {
+    if info.len() != RECORD_LENGTH {
         return 1;
     }
     let outcome = controller::perform(
-        operands::load(info),
+        load(info),
         flags,
         keys,
         counts,
@@ -80,33 +152,33 @@ pub fn perform(
     settle(info, outcome, value)
 }
 
-// ---- the bytes of a record
-
-// How many bytes a record has beside its operands: WRITE's 512.
-pub fn data_size(decoding: Decoding) -> usize
-    ensures { λ r. ⌜ r ≡ dataSize decoding ⌝ }
+// The same of a call that fills no buffer.
+pub fn perform_without_buffers(
+    info: &mut [u64],
+    flags: &mut [u8],
+    keys: &mut [u64],
+    counts: &mut [u16],
+    pointers: &mut [u32],
+    windows: &mut [u64],
+    contents: &mut [u8],
+    decoding: Decoding,
+    input: &[u8],
+    value: &mut u64,
+) -> u32
+    ensures { λ r. ⌜ EffectsGiving (effect decoding (now (input .entry)) [] []) info flags keys counts pointers windows contents value r ⌝ }
 {
-    let Decoding::Decoded(_, call) = decoding else {
-        return 0;
-    };
-    match call {
-        Call::Read(_) => 0,
-        Call::Write(_) => 512,
-        Call::Alloc(_) => 0,
-        Call::Create(_) => 0,
-        Call::Delete(_) => 0,
-        Call::Key(_) => 0,
-        Call::Renew(_) => 0,
-        Call::Force(_) => 0,
-        Call::Free => 0,
-        Call::Tick(_) => 0,
-        Call::Audit => 0,
-    }
-}
-
-// Where they start: behind 23 bytes of operands.
-pub fn data_from(size: usize) -> usize
-    ensures { λ r. ⌜ r ≡ dataFrom size ⌝ }
-{
-    if size == 512 { 23 } else { 0 }
+    perform(
+        info,
+        flags,
+        keys,
+        counts,
+        pointers,
+        windows,
+        contents,
+        decoding,
+        input,
+        &mut [],
+        &mut [],
+        value,
+    )
 }

@@ -13,6 +13,9 @@ use Rattle.card.specs.declared.Outcome.{Outcome}
 abbrev pub Lent : Type 0
 Lent = Both (RefT (List ℕ)) (RefT (List ℕ))
 
+abbrev pub LentNumber : Type 0
+LentNumber = Both (RefT ℕ) (RefT ℕ)
+
 -- The card that a `requires` speaks of.
 abbrev pub lent : Info → RefT (List ℕ) → RefT (List ℕ) → RefT (List ℕ) → RefT (List ℕ) → RefT (List ℕ) → RefT (List ℕ) → Card
 lent info flags keys counts pointers windows contents = card info (now flags) (now keys) (now counts) (now pointers) (now windows) (now contents)

@@ -11,11 +11,11 @@ use lib.Seq.{take-all, drop-cons, drop-drop, drop-length}
 use borrow.Author.Tests.{lt-ltb, le-ltb, lt-leb}
 use Rattle.card.specs.declared.Port.{Port}
 use Rattle.card.specs.declared.Call.{Call}
-use Rattle.kinds.specs.Kinds.{row, lengthOf, dataLength, operandsLength, kindOf, kindLength, bodyLength}
+use Rattle.kinds.specs.Kinds.{lengthOf, dataLength, operandsLength, kindOf, kindLength, bodyLength}
 use Rattle.records.specs.Decode.{ended, sent, decodeKnown, decodeBody, nameOf, dataOf, nextOf, decode}
+use Rattle.kinds.specs.KindsLaws.{data-right}
 use Rattle.records.specs.Parsed.{ParsedIs}
 use Rattle.kinds.specs.declared.Name.{Name}
-use Rattle.kinds.specs.declared.Name.the-variants.{Read as READ, Write as WRITE, Alloc as ALLOC, Create as CREATE, Delete as DELETE, Key as KEY, Renew as RENEW, Force as FORCE, Free as FREE, Tick as TICK, Audit as AUDIT}
 use Rattle.kinds.specs.declared.Kind.{Kind}
 use Rattle.kinds.specs.declared.Kind.the-variants.{Known, Unknown}
 use Rattle.kinds.specs.declared.Length.{Length}
@@ -29,27 +29,6 @@ use Rattle.input.specs.declared.Stop.the-variants.{Short, Refused}
 use Rattle.input.specs.declared.Record.{Record}
 use Rattle.input.specs.declared.Found.{Found}
 use Rattle.input.specs.declared.Found.the-variants.{Whole}
-
--- ---- a body's operands and data
-
-data-most : (name : Name) → dataLength name ≤ lengthOf name
-unfolding lengthOf dataLength row
-data-most READ = omega arith
-data-most WRITE = omega arith
-data-most ALLOC = omega arith
-data-most CREATE = omega arith
-data-most DELETE = omega arith
-data-most KEY = omega arith
-data-most RENEW = omega arith
-data-most FORCE = omega arith
-data-most FREE = omega arith
-data-most TICK = omega arith
-data-most AUDIT = omega arith
-
--- The data are what is left of a body behind its operands.
-data-right : (name : Name) → dataLength name ≡ lengthOf name - operandsLength name
-unfolding operandsLength
-data-right name = omega (arith, data-most name)
 
 -- ---- where the input is at its end
 

@@ -4,24 +4,26 @@ use Prim.Native.Nat.{ℕ}
 use mathlib.Core.Path.{_≡_, refl, subst}
 use mathlib.Core.List.{List}
 use lib.ListN.{length}
+use denote.Ref.{now}
 use Rattle.card.specs.Card.{Card, card}
+use Rattle.card.specs.Lent.{Lent, LentNumber}
 use Rattle.card.specs.declared.Info.{Info}
 use Rattle.input.specs.Played.{PlayedIs}
 use Rattle.input.specs.declared.Stop.{Stop}
 use Rattle.input.specs.declared.Stop.the-variants.{Went, Ended, Short, Refused, Full}
-use Rattle.operands.specs.Operands.{recordOf, numbersOf}
+use Rattle.adapter.specs.Numbers.{recordLength, recordOf, numbersOf}
 use Rattle.batch.specs.Serve.{serve}
 
--- Why a batch stopped: 0 at the end of its input, 13 at a record refused 13, 14 at one cut short, 15 where its answer has no room.
+-- Why a batch stopped: 0 at the end of its input, 13 at a record refused 13, 256 at one cut short, 257 where its answer has no room.
 abbrev pub stopNumber : Stop → ℕ
 stopNumber Went = 0
 stopNumber Ended = 0
-stopNumber Short = 14
+stopNumber Short = 256
 stopNumber Refused = 13
-stopNumber Full = 15
+stopNumber Full = 257
 
 -- What the lent record, tables, answers and numbers hold.
-pub record Left : Type 0 where
+pub record BatchState : Type 0 where
   pub info : List ℕ
   pub card : Card
   pub answers : List ℕ
@@ -30,19 +32,19 @@ pub record Left : Type 0 where
   pub written : ℕ
 
 -- The batch was served: its number says why it stopped.
-pub record Served (before : Left) (input : List ℕ) (number : ℕ) (after : Left) : Type 0 where
+pub record BatchServed (before : BatchState) (input : List ℕ) (number : ℕ) (after : BatchState) : Type 0 where
   pub stop : Stop
   pub answers : number ≡ stopNumber stop
   pub stores : after .info ≡ numbersOf (after .card .public .info)
   pub plays : PlayedIs (serve (before .card) input (length (before .answers))) stop (after .records) (after .card) input (after .read) (before .answers) (after .answers) (after .written)
 
--- Refused 1 with nothing changed where the record has not five numbers; else the batch, every call with its own audit.
-pub record BatchIs (before : Left) (input : List ℕ) (number : ℕ) (after : Left) : Type 0 where
-  pub refuses : (length (before .info) ≡ 5 → ⊥) → (number ≡ 1) × (after ≡ before)
-  pub serves : length (before .info) ≡ 5 → Served before input number after
+-- Refused 1 with nothing changed where the record has not its five numbers; else the batch, every call with its own audit.
+pub record BatchIs (before : BatchState) (input : List ℕ) (number : ℕ) (after : BatchState) : Type 0 where
+  pub refuses : (length (before .info) ≡ recordLength → ⊥) → (number ≡ 1) × (after ≡ before)
+  pub serves : length (before .info) ≡ recordLength → BatchServed before input number after
 
-abbrev pub left : List ℕ → List ℕ → List ℕ → List ℕ → List ℕ → List ℕ → List ℕ → List ℕ → ℕ → ℕ → ℕ → Left
-left info flags keys counts pointers windows contents answers records read written = record {
+abbrev pub batchState : List ℕ → List ℕ → List ℕ → List ℕ → List ℕ → List ℕ → List ℕ → List ℕ → ℕ → ℕ → ℕ → BatchState
+batchState info flags keys counts pointers windows contents answers records read written = record {
   info = info;
   card = card (recordOf info) flags keys counts pointers windows contents;
   answers = answers;
@@ -51,15 +53,24 @@ left info flags keys counts pointers windows contents answers records read writt
   written = written;
 }
 
-pub batch-refused : (before : Left) (input : List ℕ) → (length (before .info) ≡ 5 → ⊥) → BatchIs before input 1 before
+-- What the function returns and leaves is the batch of the input on what it was lent.
+abbrev pub Batches : Lent → Lent → Lent → Lent → Lent → Lent → Lent → Lent → Lent → LentNumber → LentNumber → LentNumber → ℕ → Type 0
+Batches info flags keys counts pointers windows contents input answers records read written r =
+    BatchIs
+    (batchState (now (info .entry)) (now (flags .entry)) (now (keys .entry)) (now (counts .entry)) (now (pointers .entry)) (now (windows .entry)) (now (contents .entry)) (now (answers .entry)) (now (records .entry)) (now (read .entry)) (now (written .entry)))
+    (now (input .entry))
+    r
+    (batchState (now (info .exit)) (now (flags .exit)) (now (keys .exit)) (now (counts .exit)) (now (pointers .exit)) (now (windows .exit)) (now (contents .exit)) (now (answers .exit)) (now (records .exit)) (now (read .exit)) (now (written .exit)))
+
+pub batch-refused : (before : BatchState) (input : List ℕ) → (length (before .info) ≡ recordLength → ⊥) → BatchIs before input 1 before
 batch-refused before input n = record { refuses = λ h. (refl, refl); serves = λ e. absurd (n e) }
 
 pub batch-served : (info flags keys counts pointers windows contents answers : List ℕ) (records read written : ℕ) (input : List ℕ)
     {loaded : Info} (after : Info) (flags' keys' counts' pointers' windows' contents' : List ℕ) {info' answers' : List ℕ} {stop : Stop} {number records' read' written' : ℕ}
-    → length info ≡ 5 → loaded ≡ recordOf info
+    → length info ≡ recordLength → loaded ≡ recordOf info
     → PlayedIs (serve (card loaded flags keys counts pointers windows contents) input (length answers)) stop records' (card after flags' keys' counts' pointers' windows' contents') input read' answers answers' written'
     → info' ≡ numbersOf after → number ≡ stopNumber stop
-    → BatchIs (left info flags keys counts pointers windows contents answers records read written) input number (left info' flags' keys' counts' pointers' windows' contents' answers' records' read' written')
+    → BatchIs (batchState info flags keys counts pointers windows contents answers records read written) input number (batchState info' flags' keys' counts' pointers' windows' contents' answers' records' read' written')
 batch-served info flags keys counts pointers windows contents answers records read written input after flags' keys' counts' pointers' windows' contents' {info'} {answers'} {stop} {number} {records'} {read'} {written'} n l p s a =
     record {
       refuses = λ h. absurd (h n);

@@ -1,27 +1,20 @@
 // The functions that C links: the card's record as a lent slice of five numbers, tables and buffers as slices,
-// enums as numbers. include/negvask.h describes them.
-use card::AllocOperands;
+// enums as numbers, credentials and new keys as bytes. Each makes a call of its operands and performs it, as a call record is.
+// include/negvask.h describes them.
 use card::Call;
-use card::CreateOperands;
-use card::DeleteOperands;
 use card::ForceOperands;
 use card::Port;
-use card::ReadOperands;
-use card::RenewOperands;
 use card::TickOperands;
-use card::WriteOperands;
-use fields::Presented;
 use input::Stop;
-use operands::Caller;
-use operands::Keying;
 use records::Decoding;
 ghost use mathlib.Core.Path.{_≡_};
 ghost use mathlib.Core.List.{[]};
-ghost use Rattle.card.specs.Lent.{atEntry, atExit};
-ghost use Rattle.card.specs.Card.{card};
-ghost use Rattle.operands.specs.Operands.{recordOf, credentialOf, newKeyOf, atPort, readOf, writeOf, allocOf, createOf, deleteOf, keyOf};
-ghost use Rattle.interface.specs.Batch.{stopNumber, left, BatchIs};
-ghost use Rattle.adapter.specs.Effects.{effect, formatEffect, recordEffect, Does, Gives};
+ghost use Rattle.card.specs.declared.Port.the-variants.{Host};
+ghost use Rattle.records.specs.Decode.{readWith, writeWith, allocWith, createWith, deleteWith, keyWith, renewWith};
+ghost use Rattle.records.specs.declared.Decoding.the-variants.{Decoded};
+ghost use Rattle.adapter.specs.Numbers.{credentialAt, newKeyAt, atPort};
+ghost use Rattle.adapter.specs.Effects.{effect, formatEffect, recordEffect, Effects, EffectsGiving, EffectsLent};
+ghost use Rattle.interface.specs.Batch.{stopNumber, Batches};
 
 // ---- the calls, by their operands
 
@@ -29,96 +22,74 @@ ghost use Rattle.adapter.specs.Effects.{effect, formatEffect, recordEffect, Doe
 #[no_mangle]
 pub extern "C" fn negvask_read(
     info: &mut [u64],
-    flags: &[u8],
-    keys: &[u64],
-    counts: &[u16],
-    pointers: &[u32],
-    windows: &mut [u64],
-    contents: &[u8],
-    port: u8,
-    block: u16,
-    kind: u8,
-    reference: u16,
-    high: u64,
-    low: u64,
-    interval: u32,
-    out: &mut [u8],
-) -> u32
-    ensures { λ r. ⌜ Does (effect (atPort port (readOf block interval (credentialOf kind reference high low))) (now (info .entry)) (atEntry (recordOf (now (info .entry))) flags keys counts pointers windows contents) [] (now (out .entry)) [] 0) r (now (info .exit)) (atExit (recordOf (now (info .exit))) flags keys counts pointers windows contents) (now (out .exit)) [] ⌝ }
-{
-    let caller = operands::caller_of(port, kind, reference, high, low);
-    let Caller::Good(at, credential) = caller else {
-        return 13;
-    };
-    if info.len() != 5 {
-        return 1;
-    }
-    let outcome = calls::read(
-        operands::load(info),
-        flags,
-        keys,
-        counts,
-        pointers,
-        windows,
-        contents,
-        at,
-        ReadOperands {
-            block,
-            credential,
-            interval,
-        },
-        out,
-    );
-    let mut value = 0;
-    adapter::settle(info, outcome, &mut value)
-}
-
-// WRITE: `data` into the block.
-#[no_mangle]
-pub extern "C" fn negvask_write(
-    info: &mut [u64],
-    flags: &[u8],
-    keys: &[u64],
-    counts: &[u16],
-    pointers: &[u32],
+    flags: &mut [u8],
+    keys: &mut [u64],
+    counts: &mut [u16],
+    pointers: &mut [u32],
     windows: &mut [u64],
     contents: &mut [u8],
     port: u8,
     block: u16,
-    kind: u8,
-    reference: u16,
-    high: u64,
-    low: u64,
+    credential: &[u8],
     interval: u32,
-    bytes: &[u8],
+    out: &mut [u8],
 ) -> u32
-    ensures { λ r. ⌜ Does (effect (atPort port (writeOf block interval (credentialOf kind reference high low))) (now (info .entry)) (atEntry (recordOf (now (info .entry))) flags keys counts pointers windows contents) (now (bytes .entry)) [] [] 0) r (now (info .exit)) (atExit (recordOf (now (info .exit))) flags keys counts pointers windows contents) [] [] ⌝ }
+    ensures { λ r. ⌜ Effects (effect (atPort port (readWith Host block (credentialAt credential) interval)) [] (now (out .entry)) [] 0) info flags keys counts pointers windows contents r (now (out .exit)) [] ⌝ }
 {
-    let caller = operands::caller_of(port, kind, reference, high, low);
-    let Caller::Good(at, credential) = caller else {
-        return 13;
-    };
-    if info.len() != 5 {
-        return 1;
-    }
-    let outcome = calls::write(
-        operands::load(info),
+    let parsed = adapter::credential_of(credential);
+    let made = records::read_with(Port::Host, block, parsed, interval);
+    let decoding = adapter::at_port(port, made);
+    let mut value = 0;
+    adapter::perform(
+        info,
         flags,
         keys,
         counts,
         pointers,
         windows,
         contents,
-        at,
-        WriteOperands {
-            block,
-            credential,
-            interval,
-        },
-        bytes,
-    );
+        decoding,
+        &[],
+        out,
+        &mut [],
+        &mut value,
+    )
+}
+
+// WRITE: `bytes` into the block.
+#[no_mangle]
+pub extern "C" fn negvask_write(
+    info: &mut [u64],
+    flags: &mut [u8],
+    keys: &mut [u64],
+    counts: &mut [u16],
+    pointers: &mut [u32],
+    windows: &mut [u64],
+    contents: &mut [u8],
+    port: u8,
+    block: u16,
+    credential: &[u8],
+    interval: u32,
+    bytes: &[u8],
+) -> u32
+    ensures { λ r. ⌜ Effects (effect (atPort port (writeWith Host block (credentialAt credential) interval)) (now (bytes .entry)) [] [] 0) info flags keys counts pointers windows contents r [] [] ⌝ }
+{
+    let parsed = adapter::credential_of(credential);
+    let made = records::write_with(Port::Host, block, parsed, interval);
+    let decoding = adapter::at_port(port, made);
     let mut value = 0;
-    adapter::settle(info, outcome, &mut value)
+    adapter::perform_without_buffers(
+        info,
+        flags,
+        keys,
+        counts,
+        pointers,
+        windows,
+        contents,
+        decoding,
+        bytes,
+        &mut value,
+    )
 }
 
 // ALLOC: `count` blocks below the block, their numbers into `places`.
@@ -126,104 +97,75 @@ pub extern "C" fn negvask_write(
 pub extern "C" fn negvask_alloc(
     info: &mut [u64],
     flags: &mut [u8],
-    keys: &[u64],
+    keys: &mut [u64],
     counts: &mut [u16],
     pointers: &mut [u32],
-    windows: &[u64],
+    windows: &mut [u64],
     contents: &mut [u8],
     port: u8,
     block: u16,
-    kind: u8,
-    reference: u16,
-    high: u64,
-    low: u64,
+    credential: &[u8],
     hint: u16,
     count: u8,
     places: &mut [u16],
 ) -> u32
-    ensures { λ r. ⌜ Does (effect (atPort port (allocOf block hint count (credentialOf kind reference high low))) (now (info .entry)) (atEntry (recordOf (now (info .entry))) flags keys counts pointers windows contents) [] [] (now (places .entry)) 0) r (now (info .exit)) (atExit (recordOf (now (info .exit))) flags keys counts pointers windows contents) [] (now (places .exit)) ⌝ }
+    ensures { λ r. ⌜ Effects (effect (atPort port (allocWith Host block (credentialAt credential) hint count)) [] [] (now (places .entry)) 0) info flags keys counts pointers windows contents r [] (now (places .exit)) ⌝ }
 {
-    let caller = operands::caller_of(port, kind, reference, high, low);
-    let Caller::Good(at, credential) = caller else {
-        return 13;
-    };
-    if info.len() != 5 {
-        return 1;
-    }
-    let outcome = calls::alloc(
-        operands::load(info),
+    let parsed = adapter::credential_of(credential);
+    let made = records::alloc_with(Port::Host, block, parsed, hint, count);
+    let decoding = adapter::at_port(port, made);
+    let mut value = 0;
+    adapter::perform(
+        info,
         flags,
         keys,
         counts,
         pointers,
         windows,
         contents,
-        at,
-        AllocOperands {
-            reference: block,
-            credential,
-            hint,
-            count,
-        },
+        decoding,
+        &[],
+        &mut [],
         places,
-    );
-    let mut value = 0;
-    adapter::settle(info, outcome, &mut value)
+        &mut value,
+    )
 }
 
 // CREATE: a pointer from the source to the destination, each with its credential.
 #[no_mangle]
 pub extern "C" fn negvask_create(
     info: &mut [u64],
-    flags: &[u8],
-    keys: &[u64],
+    flags: &mut [u8],
+    keys: &mut [u64],
     counts: &mut [u16],
     pointers: &mut [u32],
-    windows: &[u64],
-    contents: &[u8],
+    windows: &mut [u64],
+    contents: &mut [u8],
     port: u8,
     source: u16,
-    kind: u8,
-    reference: u16,
-    high: u64,
-    low: u64,
+    credential: &[u8],
     destination: u16,
-    kind2: u8,
-    reference2: u16,
-    high2: u64,
-    low2: u64,
+    second: &[u8],
 ) -> u32
-    ensures { λ r. ⌜ Does (effect (atPort port (createOf source destination (credentialOf kind reference high low) (credentialOf kind2 reference2 high2 low2))) (now (info .entry)) (atEntry (recordOf (now (info .entry))) flags keys counts pointers windows contents) [] [] [] 0) r (now (info .exit)) (atExit (recordOf (now (info .exit))) flags keys counts pointers windows contents) [] [] ⌝ }
+    ensures { λ r. ⌜ Effects (effect (atPort port (createWith Host source (credentialAt credential) destination (credentialAt second))) [] [] [] 0) info flags keys counts pointers windows contents r [] [] ⌝ }
 {
-    let caller = operands::caller_of(port, kind, reference, high, low);
-    let Caller::Good(at, credential) = caller else {
-        return 13;
-    };
-    let presented = operands::credential_of(kind2, reference2, high2, low2);
-    let Presented::Good(second) = presented else {
-        return 13;
-    };
-    if info.len() != 5 {
-        return 1;
-    }
-    let outcome = calls::create(
-        operands::load(info),
+    let first = adapter::credential_of(credential);
+    let other = adapter::credential_of(second);
+    let made = records::create_with(Port::Host, source, first, destination, other);
+    let decoding = adapter::at_port(port, made);
+    let mut value = 0;
+    adapter::perform_without_buffers(
+        info,
         flags,
         keys,
         counts,
         pointers,
         windows,
         contents,
-        at,
-        CreateOperands {
-            source,
-            credential,
-            destination,
-            second,
-        },
-    );
-    let mut value = 0;
-    adapter::settle(info, outcome, &mut value)
+        decoding,
+        &[],
+        &mut value,
+    )
 }
 
 // DELETE: the pointer from the source to the destination; `value` 1 if that freed the destination, else 0.
@@ -235,41 +177,30 @@ pub extern "C" fn negvask_delete(
     counts: &mut [u16],
     pointers: &mut [u32],
     windows: &mut [u64],
-    contents: &[u8],
+    contents: &mut [u8],
     port: u8,
     source: u16,
-    kind: u8,
-    reference: u16,
-    high: u64,
-    low: u64,
+    credential: &[u8],
     destination: u16,
     value: &mut u64,
 ) -> u32
-    ensures { λ r. ⌜ Gives (effect (atPort port (deleteOf source destination (credentialOf kind reference high low))) (now (info .entry)) (atEntry (recordOf (now (info .entry))) flags keys counts pointers windows contents) [] [] [] (now (value .entry))) r (now (value .exit)) (now (info .exit)) (atExit (recordOf (now (info .exit))) flags keys counts pointers windows contents) [] [] ⌝ }
+    ensures { λ r. ⌜ EffectsGiving (effect (atPort port (deleteWith Host source (credentialAt credential) destination)) [] [] []) info flags keys counts pointers windows contents value r ⌝ }
 {
-    let caller = operands::caller_of(port, kind, reference, high, low);
-    let Caller::Good(at, credential) = caller else {
-        return 13;
-    };
-    if info.len() != 5 {
-        return 1;
-    }
-    let outcome = calls::delete(
-        operands::load(info),
+    let parsed = adapter::credential_of(credential);
+    let made = records::delete_with(Port::Host, source, parsed, destination);
+    let decoding = adapter::at_port(port, made);
+    adapter::perform_without_buffers(
+        info,
         flags,
         keys,
         counts,
         pointers,
         windows,
         contents,
-        at,
-        DeleteOperands {
-            source,
-            credential,
-            destination,
-        },
-    );
-    adapter::settle(info, outcome, value)
+        decoding,
+        &[],
+        value,
+    )
 }
 
 // KEY: both keys of the block replaced.
@@ -278,214 +209,188 @@ pub extern "C" fn negvask_key(
     info: &mut [u64],
     flags: &mut [u8],
     keys: &mut [u64],
-    counts: &[u16],
-    pointers: &[u32],
+    counts: &mut [u16],
+    pointers: &mut [u32],
     windows: &mut [u64],
-    contents: &[u8],
+    contents: &mut [u8],
     port: u8,
     block: u16,
-    kind: u8,
-    reference: u16,
-    high: u64,
-    low: u64,
-    read: u8,
-    readhigh: u64,
-    readlow: u64,
-    write: u8,
-    writehigh: u64,
-    writelow: u64,
+    credential: &[u8],
+    read: &[u8],
+    write: &[u8],
 ) -> u32
-    ensures { λ r. ⌜ Does (effect (atPort port (keyOf block (credentialOf kind reference high low) (newKeyOf read readhigh readlow) (newKeyOf write writehigh writelow))) (now (info .entry)) (atEntry (recordOf (now (info .entry))) flags keys counts pointers windows contents) [] [] [] 0) r (now (info .exit)) (atExit (recordOf (now (info .exit))) flags keys counts pointers windows contents) [] [] ⌝ }
+    ensures { λ r. ⌜ Effects (effect (atPort port (keyWith Host block (credentialAt credential) (newKeyAt read) (newKeyAt write))) [] [] [] 0) info flags keys counts pointers windows contents r [] [] ⌝ }
 {
-    let caller = operands::caller_of(port, kind, reference, high, low);
-    let Caller::Good(at, credential) = caller else {
-        return 13;
-    };
-    let first = operands::new_key_of(read, readhigh, readlow);
-    let second = operands::new_key_of(write, writehigh, writelow);
-    let keying = operands::keying_of(block, credential, first, second);
-    let Keying::Good(made) = keying else {
-        return 13;
-    };
-    if info.len() != 5 {
-        return 1;
-    }
-    let outcome = calls::key(
-        operands::load(info),
+    let parsed = adapter::credential_of(credential);
+    let reading = adapter::new_key_of(read);
+    let writing = adapter::new_key_of(write);
+    let made = records::key_with(Port::Host, block, parsed, reading, writing);
+    let decoding = adapter::at_port(port, made);
+    let mut value = 0;
+    adapter::perform_without_buffers(
+        info,
         flags,
         keys,
         counts,
         pointers,
         windows,
         contents,
-        at,
-        made,
-    );
-    let mut value = 0;
-    adapter::settle(info, outcome, &mut value)
+        decoding,
+        &[],
+        &mut value,
+    )
 }
 
 // RENEW: the window for the mode, by a key.
 #[no_mangle]
 pub extern "C" fn negvask_renew(
     info: &mut [u64],
-    flags: &[u8],
-    keys: &[u64],
-    counts: &[u16],
-    pointers: &[u32],
+    flags: &mut [u8],
+    keys: &mut [u64],
+    counts: &mut [u16],
+    pointers: &mut [u32],
     windows: &mut [u64],
-    contents: &[u8],
+    contents: &mut [u8],
     mode: u8,
     block: u16,
-    high: u64,
-    low: u64,
+    key: &[u8],
     interval: u32,
 ) -> u32
-    ensures { λ r. ⌜ Does (effect (Decoding.Decoded Port.Host (Call.Renew (record { mode = mode; block = block; high = high; low = low; interval = interval }))) (now (info .entry)) (atEntry (recordOf (now (info .entry))) flags keys counts pointers windows contents) [] [] [] 0) r (now (info .exit)) (atExit (recordOf (now (info .exit))) flags keys counts pointers windows contents) [] [] ⌝ }
+    ensures { λ r. ⌜ Effects (effect (renewWith Host mode block (credentialAt key) interval) [] [] [] 0) info flags keys counts pointers windows contents r [] [] ⌝ }
 {
-    if info.len() != 5 {
-        return 1;
-    }
-    let outcome = calls::renew(
-        operands::load(info),
+    let parsed = adapter::credential_of(key);
+    let decoding = records::renew_with(Port::Host, mode, block, parsed, interval);
+    let mut value = 0;
+    adapter::perform_without_buffers(
+        info,
         flags,
         keys,
         counts,
         pointers,
         windows,
         contents,
-        RenewOperands {
-            mode,
-            block,
-            high,
-            low,
-            interval,
-        },
-    );
-    let mut value = 0;
-    adapter::settle(info, outcome, &mut value)
+        decoding,
+        &[],
+        &mut value,
+    )
 }
 
 // FORCE: both windows of the block closed.
 #[no_mangle]
 pub extern "C" fn negvask_force(
     info: &mut [u64],
-    flags: &[u8],
-    keys: &[u64],
-    counts: &[u16],
-    pointers: &[u32],
+    flags: &mut [u8],
+    keys: &mut [u64],
+    counts: &mut [u16],
+    pointers: &mut [u32],
     windows: &mut [u64],
-    contents: &[u8],
+    contents: &mut [u8],
     block: u16,
 ) -> u32
-    ensures { λ r. ⌜ Does (effect (Decoding.Decoded Port.Host (Call.Force (record { block = block }))) (now (info .entry)) (atEntry (recordOf (now (info .entry))) flags keys counts pointers windows contents) [] [] [] 0) r (now (info .exit)) (atExit (recordOf (now (info .exit))) flags keys counts pointers windows contents) [] [] ⌝ }
+    ensures { λ r. ⌜ Effects (effect (Decoded Host (Call.Force (record { block = block }))) [] [] [] 0) info flags keys counts pointers windows contents r [] [] ⌝ }
 {
-    if info.len() != 5 {
-        return 1;
-    }
-    let outcome = calls::force(
-        operands::load(info),
+    let decoding = Decoding::Decoded(Port::Host, Call::Force(ForceOperands { block }));
+    let mut value = 0;
+    adapter::perform_without_buffers(
+        info,
         flags,
         keys,
         counts,
         pointers,
         windows,
         contents,
-        ForceOperands { block },
-    );
-    let mut value = 0;
-    adapter::settle(info, outcome, &mut value)
+        decoding,
+        &[],
+        &mut value,
+    )
 }
 
 // TICK: `value` the new time.
 #[no_mangle]
 pub extern "C" fn negvask_tick(
     info: &mut [u64],
-    flags: &[u8],
-    keys: &[u64],
-    counts: &[u16],
-    pointers: &[u32],
-    windows: &[u64],
-    contents: &[u8],
+    flags: &mut [u8],
+    keys: &mut [u64],
+    counts: &mut [u16],
+    pointers: &mut [u32],
+    windows: &mut [u64],
+    contents: &mut [u8],
     seconds: u64,
     value: &mut u64,
 ) -> u32
-    ensures { λ r. ⌜ Gives (effect (Decoding.Decoded Port.Host (Call.Tick (record { seconds = seconds }))) (now (info .entry)) (atEntry (recordOf (now (info .entry))) flags keys counts pointers windows contents) [] [] [] (now (value .entry))) r (now (value .exit)) (now (info .exit)) (atExit (recordOf (now (info .exit))) flags keys counts pointers windows contents) [] [] ⌝ }
+    ensures { λ r. ⌜ EffectsGiving (effect (Decoded Host (Call.Tick (record { seconds = seconds }))) [] [] []) info flags keys counts pointers windows contents value r ⌝ }
 {
-    if info.len() != 5 {
-        return 1;
-    }
-    let outcome = calls::tick(
-        operands::load(info),
+    let decoding = Decoding::Decoded(Port::Host, Call::Tick(TickOperands { seconds }));
+    adapter::perform_without_buffers(
+        info,
         flags,
         keys,
         counts,
         pointers,
         windows,
         contents,
-        TickOperands { seconds },
-    );
-    adapter::settle(info, outcome, value)
+        decoding,
+        &[],
+        value,
+    )
 }
 
 // FREE: `value` the number of unallocated blocks.
 #[no_mangle]
 pub extern "C" fn negvask_free(
-    info: &[u64],
-    flags: &[u8],
-    keys: &[u64],
-    counts: &[u16],
-    pointers: &[u32],
-    windows: &[u64],
-    contents: &[u8],
+    info: &mut [u64],
+    flags: &mut [u8],
+    keys: &mut [u64],
+    counts: &mut [u16],
+    pointers: &mut [u32],
+    windows: &mut [u64],
+    contents: &mut [u8],
     value: &mut u64,
 ) -> u32
-    ensures { λ r. ⌜ Gives (effect (Decoding.Decoded Port.Host Call.Free) (now (info .entry)) (atEntry (recordOf (now (info .entry))) flags keys counts pointers windows contents) [] [] [] (now (value .entry))) r (now (value .exit)) (now (info .entry)) (atEntry (recordOf (now (info .entry))) flags keys counts pointers windows contents) [] [] ⌝ }
+    ensures { λ r. ⌜ EffectsGiving (effect (Decoded Host Call.Free) [] [] []) info flags keys counts pointers windows contents value r ⌝ }
 {
-    if info.len() != 5 {
-        return 1;
-    }
-    let outcome = calls::free(
-        operands::load(info),
+    let decoding = Decoding::Decoded(Port::Host, Call::Free);
+    adapter::perform_without_buffers(
+        info,
         flags,
         keys,
         counts,
         pointers,
         windows,
         contents,
-    );
-    let answer = outcome.answer;
-    adapter::report(answer, value)
+        decoding,
+        &[],
+        value,
+    )
 }
 
 // AUDIT: 0, or the refusal 1 or 2.
 #[no_mangle]
 pub extern "C" fn negvask_audit(
-    info: &[u64],
-    flags: &[u8],
-    keys: &[u64],
-    counts: &[u16],
-    pointers: &[u32],
-    windows: &[u64],
-    contents: &[u8],
+    info: &mut [u64],
+    flags: &mut [u8],
+    keys: &mut [u64],
+    counts: &mut [u16],
+    pointers: &mut [u32],
+    windows: &mut [u64],
+    contents: &mut [u8],
 ) -> u32
-    ensures { λ r. ⌜ Does (effect (Decoding.Decoded Port.Host Call.Audit) (now (info .entry)) (atEntry (recordOf (now (info .entry))) flags keys counts pointers windows contents) [] [] [] 0) r (now (info .entry)) (atEntry (recordOf (now (info .entry))) flags keys counts pointers windows contents) [] [] ⌝ }
+    ensures { λ r. ⌜ Effects (effect (Decoded Host Call.Audit) [] [] [] 0) info flags keys counts pointers windows contents r [] [] ⌝ }
 {
-    if info.len() != 5 {
-        return 1;
-    }
-    let outcome = calls::audit(
-        operands::load(info),
+    let decoding = Decoding::Decoded(Port::Host, Call::Audit);
+    let mut value = 0;
+    adapter::perform_without_buffers(
+        info,
         flags,
         keys,
         counts,
         pointers,
         windows,
         contents,
-    );
-    let answer = outcome.answer;
-    let mut value = 0;
-    adapter::report(answer, &mut value)
+        decoding,
+        &[],
+        &mut value,
+    )
 }
 
 // ---- FORMAT
@@ -504,13 +409,13 @@ pub extern "C" fn negvask_format(
     roots: u64,
     bytes: u64,
 ) -> u32
-    ensures { λ r. ⌜ Does (formatEffect blocks roots bytes (now (info .entry)) (atEntry (recordOf (now (info .entry))) flags keys counts pointers windows contents)) r (now (info .exit)) (atExit (recordOf (now (info .exit))) flags keys counts pointers windows contents) [] [] ⌝ }
+    ensures { λ r. ⌜ Effects (formatEffect blocks roots bytes) info flags keys counts pointers windows contents r [] [] ⌝ }
 {
-    if info.len() != 5 {
+    if info.len() != adapter::RECORD_LENGTH {
         return 1;
     }
     let outcome = format::format(
-        operands::load(info),
+        adapter::load(info),
         blocks as usize,
         roots as usize,
         bytes as usize,
@@ -543,12 +448,12 @@ pub extern "C" fn negvask_serve(
     places: &mut [u16],
     value: &mut u64,
 ) -> u32
-    ensures { λ r. ⌜ Gives (recordEffect kind (now (body .entry)) (now (info .entry)) (atEntry (recordOf (now (info .entry))) flags keys counts pointers windows contents) (now (out .entry)) (now (places .entry)) (now (value .entry))) r (now (value .exit)) (now (info .exit)) (atExit (recordOf (now (info .exit))) flags keys counts pointers windows contents) (now (out .exit)) (now (places .exit)) ⌝ }
+    ensures { λ r. ⌜ EffectsLent (recordEffect kind (now (body .entry))) info flags keys counts pointers windows contents out places value r ⌝ }
 {
-    let decoding = records::decode(kind, body);
-    let size = adapter::data_size(decoding);
-    let from = adapter::data_from(size);
-    let end = from + size;
+    let parsed = records::decode(kind, body);
+    let decoding = parsed.decoding;
+    let from = parsed.payload;
+    let end = parsed.end;
     adapter::perform(
         info,
         flags,
@@ -567,16 +472,16 @@ pub extern "C" fn negvask_serve(
 
 // ---- a batch of call records
 
-// Why a batch stopped.
+// Why a batch stopped: 13, or numbers that no refusal has.
 fn stop_number(stop: Stop) -> u32
     ensures { λ r. ⌜ r ≡ stopNumber stop ⌝ }
 {
     match stop {
         Stop::Went => 0,
         Stop::Ended => 0,
-        Stop::Short => 14,
+        Stop::Short => 256,
         Stop::Refused => 13,
-        Stop::Full => 15,
+        Stop::Full => 257,
     }
 }
 
@@ -596,13 +501,13 @@ pub extern "C" fn negvask_batch(
     read: &mut u64,
     written: &mut u64,
 ) -> u32
-    ensures { λ r. ⌜ BatchIs (left (now (info .entry)) (now (flags .entry)) (now (keys .entry)) (now (counts .entry)) (now (pointers .entry)) (now (windows .entry)) (now (contents .entry)) (now (answers .entry)) (now (records .entry)) (now (read .entry)) (now (written .entry))) (now (input .entry)) r (left (now (info .exit)) (now (flags .exit)) (now (keys .exit)) (now (counts .exit)) (now (pointers .exit)) (now (windows .exit)) (now (contents .exit)) (now (answers .exit)) (now (records .exit)) (now (read .exit)) (now (written .exit))) ⌝ }
+    ensures { λ r. ⌜ Batches info flags keys counts pointers windows contents input answers records read written r ⌝ }
 {
-    if info.len() != 5 {
+    if info.len() != adapter::RECORD_LENGTH {
         return 1;
     }
     let part = batch::serve(
-        operands::load(info),
+        adapter::load(info),
         flags,
         keys,
         counts,
@@ -614,7 +519,7 @@ pub extern "C" fn negvask_batch(
     );
     let after = part.info;
     let stop = part.stop;
-    operands::store(info, after);
+    adapter::store(info, after);
     *records = part.records;
     *read = part.read as u64;
     *written = part.written as u64;

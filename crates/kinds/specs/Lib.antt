@@ -1,2 +1,3 @@
 pub mod Kinds
+pub mod KindsLaws
 pub mod AllKinds

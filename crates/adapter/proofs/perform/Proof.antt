@@ -13,13 +13,13 @@ enum-told c = search needs
 returns : tie.Need-returns
 returns c =
     let start = c .before .before .before .before .before .before .before .before .before .before .before .before in
-    effect-bad (start .args .info .now) _ (start .args .input .now) (start .args .out .now) (start .args .places .now) (start .args .value .now) (c .enum-told .given .1)
+    effect-bad (start .args .input .now) (start .args .out .now) (start .args .places .now) (start .args .value .now) (start .args .info .now) _ (c .enum-told .given .1)
 
 returns-2 : tie.Need-returns-2
 returns-2 c =
     let at-decoding = c .before .before in
     let start = at-decoding .before .before .before .before .before .before .before .before .before .before .before .before in
-    effect-record (start .args .info .now) _ (start .args .input .now) (start .args .out .now) (start .args .places .now) (start .args .value .now) (at-decoding .decoding .given .1) (c .if1 .taken)
+    effect-record (start .args .input .now) (start .args .out .now) (start .args .places .now) (start .args .value .now) (start .args .info .now) _ (at-decoding .decoding .given .1) (c .if1 .taken)
 
 load-requires : tie.Need-load-requires
 load-requires c κs = search needs
@@ -65,7 +65,7 @@ returns-3 c =
     let at-if1 = at-load .before .before in
     let at-decoding = at-if1 .before .before in
     let start = at-decoding .before .before .before .before .before .before .before .before .before .before .before .before in
-    effect-called (start .args .info .now) _ _ _ _ _ _ (start .args .input .now) (start .args .out .now) (start .args .places .now) (start .args .value .now) _ _ _ _ _ _ _ (at-decoding .decoding .given .1) (at-if1 .if1 .left) (at-load .load .ensures) (at-perform .perform .ensures) (at-settle .settle .ensures .0) (at-settle .settle .ensures .1 .0) (at-settle .settle .ensures .1 .1)
+    effect-called (start .args .input .now) (start .args .out .now) (start .args .places .now) (start .args .value .now) (start .args .info .now) _ _ _ _ _ _ _ _ _ _ _ _ _ (at-decoding .decoding .given .1) (at-if1 .if1 .left) (at-load .load .ensures) (at-perform .perform .ensures) (at-settle .settle .ensures .0) (at-settle .settle .ensures .1 .0) (at-settle .settle .ensures .1 .1)
 
 pub perform-spec : {M : Type 1} → statement M
 perform-spec =

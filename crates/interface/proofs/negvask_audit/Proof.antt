@@ -1,32 +1,51 @@
 -- `interface::negvask_audit` meets its contract. Assumes nothing.
-use mathlib.Core.Path.{refl}
-use Rattle.card.specs.declared.Port.the-variants.{Host}
-use mathlib.Core.List.{[]}
-use Rattle.adapter.specs.EffectsLaws.{effect-record, audit-changes-nothing, effect-kept}
 use borrow.Author.Needs.{needs}
 use Rattle.interface.proofs.negvask_audit.Statement.{statement}
 use Rattle.interface.proofs.negvask_audit.Tie as tie
 
+slice-aggregate-perform-without-buffers : tie.Need-slice-aggregate-perform-without-buffers
+slice-aggregate-perform-without-buffers c = search needs
+
+perform-without-buffers-requires : tie.Need-perform-without-buffers-requires
+perform-without-buffers-requires c κs = search needs
+
+same-length : tie.Need-same-length
+same-length c = search needs
+
+same-length-2 : tie.Need-same-length-2
+same-length-2 c = search needs
+
+same-length-3 : tie.Need-same-length-3
+same-length-3 c = search needs
+
+same-length-4 : tie.Need-same-length-4
+same-length-4 c = search needs
+
+same-length-5 : tie.Need-same-length-5
+same-length-5 c = search needs
+
+same-length-6 : tie.Need-same-length-6
+same-length-6 c = search needs
+
+same-length-7 : tie.Need-same-length-7
+same-length-7 c = search needs
+
 returns : tie.Need-returns
-returns c = effect-record (c .before .before .before .before .before .before .before .before .args .info .now) _ [] [] [] 0 refl (c .if1 .taken) .does
-
-load-requires : tie.Need-load-requires
-load-requires c κs = search needs
-
-audit-requires : tie.Need-audit-requires
-audit-requires c κs = tt
-
-report-requires : tie.Need-report-requires
-report-requires c κs = tt
-
-returns-2 : tie.Need-returns-2
-returns-2 c =
-    let at-audit = c .before .before in
-    let at-load = at-audit .before in
-    let at-if1 = at-load .before in
-    let start = at-if1 .before .before .before .before .before .before .before .before in
-    effect-kept (start .args .info .now) _ _ _ _ _ _ 0 _ (audit-changes-nothing _ _) (at-if1 .if1 .left) (at-load .load .ensures) (at-audit .audit .ensures Host) (c .report .ensures .0) (c .report .ensures .1) .does
+returns c =
+    let at-perform = c .before .before .before .before .before .before .before .before .before .before .before .before .before .before in
+    at-perform .perform-without-buffers .ensures .does
 
 pub negvask-audit-spec : {M : Type 1} → statement M
 negvask-audit-spec =
-    tie.close (tie.spec returns load-requires audit-requires report-requires returns-2)
+    tie.close
+    (tie.spec
+    slice-aggregate-perform-without-buffers
+    perform-without-buffers-requires
+    same-length
+    same-length-2
+    same-length-3
+    same-length-4
+    same-length-5
+    same-length-6
+    same-length-7
+    returns)

@@ -1,87 +1,66 @@
 -- `interface::negvask_delete` meets its contract. Assumes nothing.
-use mathlib.Core.List.{[]}
-use Rattle.operands.specs.OperandsLaws.{not-called, called}
-use Rattle.adapter.specs.EffectsLaws.{effect-bad, effect-record, effect-called}
 use borrow.Author.Needs.{needs}
 use Rattle.interface.proofs.negvask_delete.Statement.{statement}
 use Rattle.interface.proofs.negvask_delete.Tie as tie
 
-caller-of-requires : tie.Need-caller-of-requires
-caller-of-requires c κs = tt
+credential-of-requires : tie.Need-credential-of-requires
+credential-of-requires c κs = search needs
 
-enum-known-caller : tie.Need-enum-known-caller
-enum-known-caller c = search needs
+delete-with-requires : tie.Need-delete-with-requires
+delete-with-requires c κs = search needs
 
-enum-told : tie.Need-enum-told
-enum-told c = search needs
+at-port-requires : tie.Need-at-port-requires
+at-port-requires c κs = search needs
+
+slice-aggregate-perform-without-buffers : tie.Need-slice-aggregate-perform-without-buffers
+slice-aggregate-perform-without-buffers c = search needs
+
+perform-without-buffers-requires : tie.Need-perform-without-buffers-requires
+perform-without-buffers-requires c κs = search needs
+
+same-length : tie.Need-same-length
+same-length c = search needs
+
+same-length-2 : tie.Need-same-length-2
+same-length-2 c = search needs
+
+same-length-3 : tie.Need-same-length-3
+same-length-3 c = search needs
+
+same-length-4 : tie.Need-same-length-4
+same-length-4 c = search needs
+
+same-length-5 : tie.Need-same-length-5
+same-length-5 c = search needs
+
+same-length-6 : tie.Need-same-length-6
+same-length-6 c = search needs
+
+same-length-7 : tie.Need-same-length-7
+same-length-7 c = search needs
 
 returns : tie.Need-returns
 returns c =
-    let at-caller-of = c .before .before in
-    let start = at-caller-of .before .before .before .before .before .before .before .before in
-    effect-bad (start .args .info .now) _ [] [] [] (start .args .value .now) (not-called _ _ (at-caller-of .caller-of .ensures) _ (c .enum-told .given .1))
-
-returns-2 : tie.Need-returns-2
-returns-2 c =
-    let at-caller = c .before .before in
-    let at-caller-of = at-caller .before .before in
-    let start = at-caller-of .before .before .before .before .before .before .before .before in
-    effect-record (start .args .info .now) _ [] [] [] (start .args .value .now) (called _ _ (at-caller-of .caller-of .ensures) _ (at-caller .caller .given .1)) (c .if1 .taken)
-
-load-requires : tie.Need-load-requires
-load-requires c κs = search needs
-
-delete-requires : tie.Need-delete-requires
-delete-requires c κs = tt
-
-settle-requires : tie.Need-settle-requires
-settle-requires c κs = search needs
-
-same-length : tie.Need-same-length
-same-length c = c .before .before .settle .kept .0
-
-same-length-2 : tie.Need-same-length-2
-same-length-2 c = c .before .before .before .before .before .before .before .before .before .before .before .before .before .before .before .delete .kept .1 .0
-
-same-length-3 : tie.Need-same-length-3
-same-length-3 c = c .before .before .before .before .before .before .before .before .before .before .before .before .before .before .before .delete .kept .1 .1 .0
-
-same-length-4 : tie.Need-same-length-4
-same-length-4 c = c .before .before .before .before .before .before .before .before .before .before .before .before .before .before .before .delete .kept .1 .1 .1 .0
-
-same-length-5 : tie.Need-same-length-5
-same-length-5 c = c .before .before .before .before .before .before .before .before .before .before .before .before .before .before .before .delete .kept .1 .1 .1 .1 .0
-
-same-length-6 : tie.Need-same-length-6
-same-length-6 c = c .before .before .before .before .before .before .before .before .before .before .before .before .before .before .before .delete .kept .1 .1 .1 .1 .1 .0
-
-returns-3 : tie.Need-returns-3
-returns-3 c =
-    let at-settle = c .before .before in
-    let at-delete = at-settle .before .before .before .before .before .before .before .before .before .before .before .before .before in
-    let at-load = at-delete .before .before .before .before .before .before in
-    let at-if1 = at-load .before .before in
-    let at-caller = at-if1 .before .before in
-    let at-caller-of = at-caller .before .before in
-    let start = at-caller-of .before .before .before .before .before .before .before .before in
-    effect-called (start .args .info .now) _ _ _ _ _ _ [] [] [] (start .args .value .now) _ _ _ _ _ _ _ (called _ _ (at-caller-of .caller-of .ensures) _ (at-caller .caller .given .1)) (at-if1 .if1 .left) (at-load .load .ensures) (at-delete .delete .ensures) (at-settle .settle .ensures .0) (at-settle .settle .ensures .1 .0) (at-settle .settle .ensures .1 .1)
+    let at-perform = c .before .before .before .before .before .before .before .before .before .before .before .before .before .before in
+    let at-arrival = at-perform .before .before .before .before .before .before .before .before .before .before in
+    let at-made = at-arrival .before in
+    let at-credential = at-made .before in
+    rw (← at-credential .credential-of .ensures, ← at-made .delete-with .ensures, ← at-arrival .at-port .ensures) (at-perform .perform-without-buffers .ensures)
 
 pub negvask-delete-spec : {M : Type 1} → statement M
 negvask-delete-spec =
     tie.close
     (tie.spec
-    caller-of-requires
-    enum-known-caller
-    enum-told
-    returns
-    returns-2
-    load-requires
-    delete-requires
-    settle-requires
+    credential-of-requires
+    delete-with-requires
+    at-port-requires
+    slice-aggregate-perform-without-buffers
+    perform-without-buffers-requires
     same-length
     same-length-2
     same-length-3
     same-length-4
     same-length-5
     same-length-6
-    returns-3)
+    same-length-7
+    returns)

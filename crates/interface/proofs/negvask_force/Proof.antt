@@ -1,47 +1,51 @@
 -- `interface::negvask_force` meets its contract. Assumes nothing.
-use mathlib.Core.Path.{refl}
-use mathlib.Core.List.{[]}
-use Rattle.card.specs.declared.Port.the-variants.{Host}
-use Rattle.adapter.specs.EffectsLaws.{effect-record, effect-called}
 use borrow.Author.Needs.{needs}
 use Rattle.interface.proofs.negvask_force.Statement.{statement}
 use Rattle.interface.proofs.negvask_force.Tie as tie
 
-returns : tie.Need-returns
-returns c = effect-record (c .before .before .before .before .before .before .before .before .args .info .now) _ [] [] [] 0 refl (c .if1 .taken) .does
+slice-aggregate-perform-without-buffers : tie.Need-slice-aggregate-perform-without-buffers
+slice-aggregate-perform-without-buffers c = search needs
 
-load-requires : tie.Need-load-requires
-load-requires c κs = search needs
-
-force-requires : tie.Need-force-requires
-force-requires c κs = tt
-
-settle-requires : tie.Need-settle-requires
-settle-requires c κs = search needs
+perform-without-buffers-requires : tie.Need-perform-without-buffers-requires
+perform-without-buffers-requires c κs = search needs
 
 same-length : tie.Need-same-length
-same-length c = c .before .before .settle .kept .0
+same-length c = search needs
 
 same-length-2 : tie.Need-same-length-2
-same-length-2 c = c .before .before .before .before .before .before .before .force .kept .1 .1 .1 .1 .1 .0
+same-length-2 c = search needs
 
-returns-2 : tie.Need-returns-2
-returns-2 c =
-    let at-settle = c .before .before in
-    let at-force = at-settle .before .before .before .before .before in
-    let at-load = at-force .before .before in
-    let at-if1 = at-load .before .before in
-    let start = at-if1 .before .before .before .before .before .before .before .before in
-    effect-called (start .args .info .now) _ _ _ _ _ _ [] [] [] 0 _ _ _ _ _ _ _ refl (at-if1 .if1 .left) (at-load .load .ensures) (at-force .force .ensures Host) (at-settle .settle .ensures .0) (at-settle .settle .ensures .1 .0) (at-settle .settle .ensures .1 .1) .does
+same-length-3 : tie.Need-same-length-3
+same-length-3 c = search needs
+
+same-length-4 : tie.Need-same-length-4
+same-length-4 c = search needs
+
+same-length-5 : tie.Need-same-length-5
+same-length-5 c = search needs
+
+same-length-6 : tie.Need-same-length-6
+same-length-6 c = search needs
+
+same-length-7 : tie.Need-same-length-7
+same-length-7 c = search needs
+
+returns : tie.Need-returns
+returns c =
+    let at-perform = c .before .before .before .before .before .before .before .before .before .before .before .before .before .before in
+    at-perform .perform-without-buffers .ensures .does
 
 pub negvask-force-spec : {M : Type 1} → statement M
 negvask-force-spec =
     tie.close
     (tie.spec
-    returns
-    load-requires
-    force-requires
-    settle-requires
+    slice-aggregate-perform-without-buffers
+    perform-without-buffers-requires
     same-length
     same-length-2
-    returns-2)
+    same-length-3
+    same-length-4
+    same-length-5
+    same-length-6
+    same-length-7
+    returns)

@@ -1,8 +1,8 @@
--- `operands::store` meets its contract. Assumes nothing.
-use Rattle.operands.specs.OperandsLaws.{still-five, stored}
+-- `adapter::store` meets its contract. Assumes nothing.
+use Rattle.adapter.specs.NumbersLaws.{still-five, stored}
 use borrow.Author.Needs.{needs}
-use Rattle.operands.proofs.store.Statement.{statement}
-use Rattle.operands.proofs.store.Tie as tie
+use Rattle.adapter.proofs.store.Statement.{statement}
+use Rattle.adapter.proofs.store.Tie as tie
 
 slice-write-numbers : tie.Need-slice-write-numbers
 slice-write-numbers c = search needs

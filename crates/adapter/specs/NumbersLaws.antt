@@ -1,0 +1,22 @@
+-- Laws of the record as numbers.
+-- Assumes nothing.
+use Prim.Native.Nat.{ℕ, _<_}
+use mathlib.Core.Path.{_≡_, refl}
+use mathlib.Core.List.{List, [], _∷_}
+use native.Mathlib.Omega.{arith}
+use lib.ListN.{length, set, length-set}
+use Rattle.card.specs.declared.Info.{Info}
+use Rattle.adapter.specs.Numbers.{recordLength, numbersOf}
+
+-- There is a fifth place behind the four that were stored to.
+pub still-five : (xs : List ℕ) (a b c d : ℕ) → length xs ≡ recordLength → 4 < length (set (set (set (set xs 0 a) 1 b) 2 c) 3 d)
+still-five xs a b c d h = rw (length-set, length-set, length-set, length-set, h) (omega arith)
+
+pub stored : (xs : List ℕ) (i : Info) → length xs ≡ recordLength → set (set (set (set (set xs 0 (i .blocks)) 1 (i .roots)) 2 (i .bytes)) 3 (i .used)) 4 (i .time) ≡ numbersOf i
+stored (a ∷ b ∷ c ∷ d ∷ e ∷ []) i h = refl
+stored [] i h = absurd (omega arith)
+stored (a ∷ []) i h = absurd (omega arith)
+stored (a ∷ b ∷ []) i h = absurd (omega arith)
+stored (a ∷ b ∷ c ∷ []) i h = absurd (omega arith)
+stored (a ∷ b ∷ c ∷ d ∷ []) i h = absurd (omega arith)
+stored (a ∷ b ∷ c ∷ d ∷ e ∷ f ∷ xs) i h = absurd (omega arith)
