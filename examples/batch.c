@@ -12,7 +12,7 @@
 #define BYTES  512
 #define PLACES 32
 
-static uint64_t info[5];
+static uint64_t info[NEGVASK_INFO_LEN];
 static uint8_t flags[BLOCKS];
 static uint64_t keys[4 * BLOCKS];
 static uint16_t counts[BLOCKS];
@@ -20,7 +20,7 @@ static uint32_t pointers[PLACES];
 static uint64_t windows[2 * BLOCKS];
 static uint8_t contents[BLOCKS * BYTES];
 
-#define CARD info, 5, flags, BLOCKS, keys, 4 * BLOCKS, counts, BLOCKS, \
+#define CARD info, NEGVASK_INFO_LEN, flags, BLOCKS, keys, 4 * BLOCKS, counts, BLOCKS, \
 	pointers, PLACES, windows, 2 * BLOCKS, contents, BLOCKS * BYTES
 
 #define ZEROS_8  0, 0, 0, 0, 0, 0, 0, 0

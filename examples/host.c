@@ -14,7 +14,7 @@
 #define BYTES  512
 #define PLACES 32
 
-static uint64_t info[5];
+static uint64_t info[NEGVASK_INFO_LEN];
 static uint8_t flags[BLOCKS];
 static uint64_t keys[4 * BLOCKS];
 static uint16_t counts[BLOCKS];
@@ -22,7 +22,7 @@ static uint32_t pointers[PLACES];
 static uint64_t windows[2 * BLOCKS];
 static uint8_t contents[BLOCKS * BYTES];
 
-#define CARD info, 5, flags, BLOCKS, keys, 4 * BLOCKS, counts, BLOCKS, \
+#define CARD info, NEGVASK_INFO_LEN, flags, BLOCKS, keys, 4 * BLOCKS, counts, BLOCKS, \
 	pointers, PLACES, windows, 2 * BLOCKS, contents, BLOCKS * BYTES
 
 /* The two keys of the observatory. */
@@ -39,6 +39,12 @@ static void show(const char *what, uint32_t answer)
 int main(void)
 {
 	uint16_t places[2] = { 0, 0 };
+	const negvask_credential nothing = negvask_by_nothing();
+	const negvask_credential root = negvask_by_reference(0);
+	const negvask_credential reader = negvask_by_key(READ_HIGH, READ_LOW);
+	const negvask_credential writer = negvask_by_key(WRITE_HIGH, WRITE_LOW);
+	const negvask_new_key read_key = negvask_set_key(READ_HIGH, READ_LOW);
+	const negvask_new_key write_key = negvask_set_key(WRITE_HIGH, WRITE_LOW);
 	uint8_t data[BYTES] = { 0 }, out[BYTES] = { 0 };
 	uint64_t value = 0;
 	uint32_t answer;
@@ -47,45 +53,45 @@ int main(void)
 
 	/* The service port allots two blocks below the root and gives the first both keys. */
 	show("service: allot 2 blocks below root 0",
-		negvask_alloc(CARD, NEGVASK_SERVICE, 0, NEGVASK_BY_NOTHING, NEGVASK_NO_HINT, 2, places, 2));
+		negvask_alloc(CARD, NEGVASK_SERVICE, 0, NEGVASK_BYTES(nothing), NEGVASK_NO_HINT, 2, places, 2));
 	printf("  blocks %u and %u\n", (unsigned)places[0], (unsigned)places[1]);
 	show("service: set both keys of the first",
-		negvask_key(CARD, NEGVASK_SERVICE, places[0], NEGVASK_BY_NOTHING,
-			NEGVASK_NEW_KEY(READ_HIGH, READ_LOW), NEGVASK_NEW_KEY(WRITE_HIGH, WRITE_LOW)));
+		negvask_key(CARD, NEGVASK_SERVICE, places[0], NEGVASK_BYTES(nothing),
+			NEGVASK_BYTES(read_key), NEGVASK_BYTES(write_key)));
 	memcpy(data, "listing of the second block", 28);
 	show("service: write the second block",
-		negvask_write(CARD, NEGVASK_SERVICE, places[1], NEGVASK_BY_NOTHING, 0, data, BYTES));
+		negvask_write(CARD, NEGVASK_SERVICE, places[1], NEGVASK_BYTES(nothing), 0, data, BYTES));
 
 	/* The host writes and reads the first block by its keys. */
 	memset(data, 0, sizeof data);
 	memcpy(data, "waveform 17", 12);
 	show("host: write the first by its write key",
-		negvask_write(CARD, NEGVASK_HOST, places[0], NEGVASK_BY_KEY(WRITE_HIGH, WRITE_LOW), 0, data, BYTES));
+		negvask_write(CARD, NEGVASK_HOST, places[0], NEGVASK_BYTES(writer), 0, data, BYTES));
 	show("host: read it by its read key",
-		negvask_read(CARD, NEGVASK_HOST, places[0], NEGVASK_BY_KEY(READ_HIGH, READ_LOW), 0, out, BYTES));
+		negvask_read(CARD, NEGVASK_HOST, places[0], NEGVASK_BYTES(reader), 0, out, BYTES));
 	printf("  \"%s\"\n", (const char *)out);
 	show("host: write it by its read key",
-		negvask_write(CARD, NEGVASK_HOST, places[0], NEGVASK_BY_KEY(READ_HIGH, READ_LOW), 0, data, BYTES));
+		negvask_write(CARD, NEGVASK_HOST, places[0], NEGVASK_BYTES(reader), 0, data, BYTES));
 
 	/* The second block has no key: it is read by reference to the root, while the root's read window is open. */
 	show("host: read the second by reference to root 0",
-		negvask_read(CARD, NEGVASK_HOST, places[1], NEGVASK_BY_REFERENCE(0), 0, out, BYTES));
+		negvask_read(CARD, NEGVASK_HOST, places[1], NEGVASK_BYTES(root), 0, out, BYTES));
 	show("host: read root 0, window of 10 seconds",
-		negvask_read(CARD, NEGVASK_HOST, 0, NEGVASK_BY_NOTHING, 10, out, BYTES));
+		negvask_read(CARD, NEGVASK_HOST, 0, NEGVASK_BYTES(nothing), 10, out, BYTES));
 	answer = negvask_tick(CARD, 9, &value);
 	show("9 seconds pass", answer);
 	show("host: read the second by reference again",
-		negvask_read(CARD, NEGVASK_HOST, places[1], NEGVASK_BY_REFERENCE(0), 0, out, BYTES));
+		negvask_read(CARD, NEGVASK_HOST, places[1], NEGVASK_BYTES(root), 0, out, BYTES));
 	printf("  \"%s\" at time %lu\n", (const char *)out, (unsigned long)value);
 	answer = negvask_tick(CARD, 1, &value);
 	show("1 second passes", answer);
 	memset(out, 0, sizeof out);
 	show("host: read the second by reference again",
-		negvask_read(CARD, NEGVASK_HOST, places[1], NEGVASK_BY_REFERENCE(0), 0, out, BYTES));
+		negvask_read(CARD, NEGVASK_HOST, places[1], NEGVASK_BYTES(root), 0, out, BYTES));
 	printf("  refused and \"%s\" read at time %lu\n", (const char *)out, (unsigned long)value);
 
 	/* The last pointer to a block goes, and the block with it. */
-	answer = negvask_delete(CARD, NEGVASK_SERVICE, 0, NEGVASK_BY_NOTHING, places[1], &value);
+	answer = negvask_delete(CARD, NEGVASK_SERVICE, 0, NEGVASK_BYTES(nothing), places[1], &value);
 	show("service: delete the pointer to the second", answer);
 	printf("  freed: %lu\n", (unsigned long)value);
 	answer = negvask_free(CARD, &value);

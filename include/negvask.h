@@ -223,7 +223,8 @@ typedef struct {
 #define NEGVASK_BYTES(x)  (x).bytes, sizeof (x).bytes
 
 /* A first byte and a key's 16 bytes. */
-static inline void negvask_put_key(uint8_t *to, uint8_t first, uint64_t high, uint64_t low)
+static inline void negvask_put_key(uint8_t *to, uint8_t first,
+	uint64_t high, uint64_t low)
 {
 	int i;
 
