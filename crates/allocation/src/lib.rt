@@ -1,7 +1,9 @@
 // ALLOC: blocks are taken on one walk outward from the wanted one, and pointed to.
 use card::AllocOperands;
 use card::Info;
+use card::MOST_BLOCKS;
 use card::Mode;
+use card::NO_HINT;
 use card::Outcome;
 use card::Port;
 use card::Refusal;
@@ -87,7 +89,7 @@ fn take_all(
     let blocks = info.blocks;
     let bytes = info.bytes;
     // The pointers to the blocks taken, ascending.
-    let mut added = [0u32; 64];
+    let mut added = [0u32; MOST_BLOCKS as usize];
     let mut low = want;
     let mut high = want;
     let mut taken = 0;
@@ -116,14 +118,17 @@ fn bad_operands(info: Info, hint: u16, count: u8, places: usize) -> bool
 {
     let near = hint as usize;
     let number = count as usize;
-    (count == 0) | (64 < count) | (!(near < info.blocks) & !(hint == 65535)) | (places < number)
+    (count == 0)
+        | (MOST_BLOCKS < count)
+        | (!(near < info.blocks) & !(hint == NO_HINT))
+        | (places < number)
 }
 
 // Without a hint the lowest block is wanted.
 fn wanted(hint: u16) -> usize
     ensures { λ r. ⌜ r ≡ wanted hint ⌝ }
 {
-    if hint == 65535 { 0 } else { hint as usize }
+    if hint == NO_HINT { 0 } else { hint as usize }
 }
 
 // The checks of ALLOC.

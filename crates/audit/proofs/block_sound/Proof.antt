@@ -47,6 +47,9 @@ add-zero-words c = search needs
 zero-words-requires-2 : tie.Need-zero-words-requires-2
 zero-words-requires-2 c κs = search needs
 
+cast-latest : tie.Need-cast-latest
+cast-latest c = search needs
+
 add-latest : tie.Need-add-latest
 add-latest c = search needs
 
@@ -71,5 +74,6 @@ block-sound-spec =
     mul-zero-words-2
     add-zero-words
     zero-words-requires-2
+    cast-latest
     add-latest
     returns)
