@@ -1,6 +1,6 @@
 -- The outward walk takes ALLOC's picks in order, over plain values.
 -- Assumes nothing.
-use Prim.Native.Nat.{ℕ, suc, _+_, _-_, _%_, _≤_, _<_}
+use Prim.Native.Nat.{ℕ, suc, _+_, _-_, _≤_, _<_}
 use mathlib.Core.Path.{_≡_, refl, sym, ap, _∙_, subst}
 use mathlib.Core.Logic.{_⊎_, inl, inr, ⊎-elim}
 use mathlib.Core.Bool.{true, false, not}
@@ -10,7 +10,7 @@ use native.Mathlib.Omega.{arith}
 use lib.Dec.{eqb}
 use lib.ListN.{length, drop, getD, set, length-append, length-set}
 use lib.Seq.{drop-cons, set-append-seam, append-snoc, getD-set-same}
-use borrow.Author.Tests.{lt-ltb, le-ltb, eq-eqb, ne-eqb, not-true}
+use borrow.Author.Tests.{lt-ltb, le-ltb, eq-eqb, not-true}
 use Rattle.card.specs.Lists.{any}
 use Rattle.card.specs.ListsLaws.{or-left, absurd-test, false-unless, below-or-not, same-or-other}
 use Rattle.card.specs.Pointers.{pointer, contains, remove}
@@ -266,8 +266,18 @@ module _ {c₀ : Card} {reference want count : ℕ} {places₀ : List ℕ} {c : 
     pub walked-fewer : {l h : ℕ} → l ≡ lowAfter low b → h ≡ highAfter high b → l + (c₀ .public .info .blocks - h) < low + (c₀ .public .info .blocks - high)
     walked-fewer d e = fewer n (w .lowest) (w .highest) (w .within) d e
 
-    passed-by : flag (c .public) b % 2 ≡ 1 → Walked c₀ reference want count places₀ c places (lowAfter low b) (highAfter high b) taken
-    passed-by odd =
+    pub takeable : Takeable (c .public .info .bytes) (c .public .flags) (c .public .counts) (c .contents) b
+    takeable =
+        let s = w .ready .sound in
+        record {
+          inFlags = omega (arith, here .below, s .shaped .hasLengths .flags);
+          inCounts = omega (arith, here .below, s .shaped .hasLengths .counts);
+          countLow = omega (arith, count-low s b (here .below), s .shaped .usedHigh, s .shaped .hasLengths .placesHigh);
+          inContents = block-within c b (s .shaped .hasLengths .contents) (here .below);
+        }
+
+    passed-by : allocatedFlag (flag (c .public) b) ≡ true → Walked c₀ reference want count places₀ c places (lowAfter low b) (highAfter high b) taken
+    passed-by held =
         let ends = around n (w .lowest) (w .highest) (w .within) in
         record {
           ready = w .ready;
@@ -277,7 +287,7 @@ module _ {c₀ : Card} {reference want count : ℕ} {places₀ : List ℕ} {c : 
           within = ends .1 .1;
           passed = λ y l u.
               ⊎-elim
-              (λ (e : y ≡ b). subst (λ (k : ℕ). allocated (c .public) k ≡ true) (sym e) (flag-allocated (c .public) b (here .below) (eq-eqb _ _ odd)))
+              (λ (e : y ≡ b). subst (λ (k : ℕ). allocated (c .public) k ≡ true) (sym e) (flag-allocated (c .public) b (here .below) held))
               (λ r. w .passed y (r .0) (r .1))
               (between n (omega (arith, w .lowest, w .highest)) y l u);
           numbers = w .numbers;
@@ -292,25 +302,12 @@ module _ {c₀ : Card} {reference want count : ℕ} {places₀ : List ℕ} {c : 
         }
 
     -- An allocated block is passed.
-    pub walked-passed : flag (c .public) b % 2 ≡ 1 → {l h : ℕ} → l ≡ lowAfter low b → h ≡ highAfter high b → Walked c₀ reference want count places₀ c places l h taken
-    walked-passed odd d e = rw (d, e) (passed-by odd)
+    pub walked-passed : allocatedFlag (flag (c .public) b) ≡ true → {l h : ℕ} → l ≡ lowAfter low b → h ≡ highAfter high b → Walked c₀ reference want count places₀ c places l h taken
+    walked-passed held d e = rw (d, e) (passed-by held)
 
-    module _ (l : taken < count) (odd : flag (c .public) b % 2 ≡ 1 → ⊥) where
-      even : allocatedFlag (flag (c .public) b) ≡ false
-      even = ne-eqb _ _ odd
-
+    module _ (l : taken < count) (even : allocatedFlag (flag (c .public) b) ≡ false) where
       room : c .public .info .used < length (c .public .pointers)
       room = omega (arith, w .ready .room)
-
-      pub takeable : Takeable (c .public .info .bytes) (c .public .flags) (c .public .counts) (c .contents) b
-      takeable =
-          let s = w .ready .sound in
-          record {
-            inFlags = omega (arith, here .below, s .shaped .hasLengths .flags);
-            inCounts = omega (arith, here .below, s .shaped .hasLengths .counts);
-            countLow = omega (arith, count-low s b (here .below), s .shaped .usedHigh, s .shaped .hasLengths .placesHigh);
-            inContents = block-within c b (s .shaped .hasLengths .contents) (here .below);
-          }
 
       pub unpointed : pointsTo (c .public) reference b ≡ false
       unpointed = no-pointer reference b (w .ready .sound) (here .below) even

@@ -97,7 +97,7 @@ fn take_all(
         let block = next(want, blocks, low, high);
         low = low_after(low, block);
         high = high_after(high, block);
-        if flags[block] % 2 != 1 {
+        if !flags::allocated(flags[block]) {
             let number = block as u16;
             let pointer = (reference as u32) * 65536 + (number as u32);
             take(bytes, flags, counts, contents, block);

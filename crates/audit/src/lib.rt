@@ -13,6 +13,7 @@ ghost use Rattle.audit.specs.Walks.{pointing, rowed, blockSound, Pointer
 use card::BLOCK_LIMIT;
 use card::Info;
 use card::LONGEST_INTERVAL;
+use card::Mode;
 use card::Verdict;
 
 // ---- pointers
@@ -22,7 +23,7 @@ fn is_allocated(info: Info, flags: &[u8], b: usize) -> bool
     ensures { λ r. ⌜ r ≡ allocated (pointing info (now (flags .entry)) []) b ⌝ }
 {
     if b < info.blocks {
-        flags[b] % 2 == 1
+        flags::allocated(flags[b])
     } else {
         false
     }
@@ -109,7 +110,9 @@ fn block_sound(
     let reading = windows[window];
     let writing = windows[window + 1];
     let root = b < info.roots;
-    let held = flag % 2 == 1;
+    let held = flags::allocated(flag);
+    let read_key = flags::has_key(flag, Mode::Reading);
+    let write_key = flags::has_key(flag, Mode::Writing);
     let zero_read = zero_words(keys, 4 * b);
     let zero_write = zero_words(keys, 4 * b + 2);
     let empty = (flag == 0)
@@ -122,8 +125,8 @@ fn block_sound(
     (flag < 8)
         & (!root | held)
         & (held | empty)
-        & ((flag / 2 % 2 == 1) | zero_read)
-        & ((flag / 4 % 2 == 1) | zero_write)
+        & (read_key | zero_read)
+        & (write_key | zero_write)
         & (count == tallied)
         & (root | !held | (1 <= count))
         & (reading <= latest)

@@ -62,7 +62,7 @@ pub fn count_free(flags: &[u8]) -> usize
     let mut free: usize = 0;
     let mut block = 0;
     while block < flags.len() {
-        if flags[block] % 2 != 1 {
+        if !flags::allocated(flags[block]) {
             free += 1;
         }
         block += 1;
