@@ -7,6 +7,7 @@ use lib.ListN.{set}
 use Rattle.card.specs.Card.{Card, card, windowAt}
 use Rattle.card.specs.Plan.{setWindow, setKeys, keyBit, replaceKeys, changes, change, changePublic, changeKeys, changeContents}
 use Rattle.card.specs.Calls.{windowAfter, closeWindows, modeOf}
+use Rattle.windows.proofs.Windows.{windowed, after-whole}
 use Rattle.card.specs.declared.Mode.{Mode}
 use Rattle.card.specs.declared.Mode.the-variants.{Reading, Writing}
 use Rattle.card.specs.declared.NewKey.{NewKey}
@@ -29,8 +30,8 @@ module _ (c : Card) (b : ℕ) where
 
   -- One window set.
   pub renewed : (number interval : ℕ) {mode : Mode} {windows : List ℕ} → mode ≡ modeOf number
-      → windows ≡ set (c .public .windows) (windowAt mode b) (c .public .info .time + interval)
+      → windows ≡ set (c .public .windows) (windowAt mode b) (windowAfter (windowed (c .public .info) (c .public .windows) .public) mode b interval)
       → card (c .public .info) (c .public .flags) (c .keys) (c .public .counts) (c .public .pointers) windows (c .contents)
       ≡ changes c (setWindow (modeOf number) b (windowAfter (c .public) (modeOf number) b interval) ∷ [])
-  unfolding changes change changePublic changeKeys changeContents windowAfter
-  renewed number interval m w = rw (w, m)
+  unfolding changes change changePublic changeKeys changeContents
+  renewed number interval {mode} m w = rw (w, after-whole (c .public) mode b interval, m)

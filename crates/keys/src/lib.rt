@@ -159,7 +159,7 @@ pub fn renew_sound(
     if !opened {
         return outcomes::refused(info, Refusal::NotOpened);
     }
-    windows::set_window(windows, mode, block, info.time + (o.interval as u64));
+    windows::set_window(info, windows, mode, block, o.interval);
     outcomes::done(info)
 }
 
