@@ -51,12 +51,6 @@ pub fn tick_sound(
     let time = info.time + o.seconds;
     Outcome {
         answer: Answer::Value(time),
-        info: Info {
-            blocks: info.blocks,
-            roots: info.roots,
-            bytes: info.bytes,
-            used: info.used,
-            time,
-        },
+        info: tables::with_time(info, time),
     }
 }
