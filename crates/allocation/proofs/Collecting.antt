@@ -21,8 +21,8 @@ use Rattle.tables.specs.Merge.{insertAll}
 use Rattle.tables.specs.MergeLaws.{insertAll-length, insertAll-insert, insertAll-contains}
 use Rattle.tables.specs.InUse.{Sorted, Addable, Mergeable}
 use Rattle.tables.specs.InUseLaws.{sound-sorted}
-use Rattle.allocation.specs.Walk.{Next, lowAfter, highAfter, Taken, Ready, Took}
-use Rattle.allocation.proofs.Walking.{Walked, walked-start, walked-passed, unpointed, walked-taken, walked-whole}
+use Rattle.allocation.specs.Walk.{NextBlock, lowAfter, highAfter, BlockTaken, CanTakeAll, BlocksTaken}
+use Rattle.allocation.proofs.Outward.{Walked, walked-start, walked-passed, unpointed, walked-taken, walked-whole}
 
 -- ---- the table that the rule has
 
@@ -75,7 +75,7 @@ pub record Collected (c₀ : Card) (reference want count : ℕ) (places₀ flags
   pub few : count ≤ 64
   pub room : c₀ .public .info .used + count ≤ length (c₀ .public .pointers)
 
-pub collected-start : {c₀ : Card} {reference want count : ℕ} (places₀ added : List ℕ) → Ready c₀ reference want count → count ≤ length places₀ → length added ≡ 64 → count ≤ 64
+pub collected-start : {c₀ : Card} {reference want count : ℕ} (places₀ added : List ℕ) → CanTakeAll c₀ reference want count → count ≤ length places₀ → length added ≡ 64 → count ≤ 64
     → Collected c₀ reference want count places₀ (c₀ .public .flags) (c₀ .public .counts) (c₀ .contents) added places₀ want want 0
 unfolding ascending
 collected-start {c₀} {reference} {want} {count} places₀ added r f e g =
@@ -99,12 +99,12 @@ module _ {c₀ : Card} {reference want count : ℕ} {places₀ flags counts cont
   fits = omega (arith, r .room, r .walked .most)
 
   -- An allocated block is passed.
-  pub collected-passed : {b : ℕ} → Next want (c₀ .public .info .blocks) low high b → {held : Bool} → held ≡ allocatedFlag (flag (present .public) b) → not held ≡ false
+  pub collected-passed : {b : ℕ} → NextBlock want (c₀ .public .info .blocks) low high b → {held : Bool} → held ≡ allocatedFlag (flag (present .public) b) → not held ≡ false
       → {m h : ℕ} → m ≡ lowAfter low b → h ≡ highAfter high b → Collected c₀ reference want count places₀ flags counts contents added places m h taken
   collected-passed n told h e f = record { walked = walked-passed (r .walked) n (sym told ∙ not-false _ h) e f; sorted = r .sorted; size = r .size; few = r .few; room = r .room }
 
   -- A free block is taken.
-  module _ {b : ℕ} (n : Next want (c₀ .public .info .blocks) low high b) (l : taken < count)
+  module _ {b : ℕ} (n : NextBlock want (c₀ .public .info .blocks) low high b) (l : taken < count)
       {held : Bool} (told : held ≡ allocatedFlag (flag (present .public) b)) (h : not held ≡ true) where
     even : allocatedFlag (flag (present .public) b) ≡ false
     even = sym told ∙ not-true _ h
@@ -125,7 +125,7 @@ module _ {c₀ : Card} {reference want count : ℕ} {places₀ flags counts cont
     }
 
     module _ {flagsAfter countsAfter contentsAfter addedAfter : List ℕ}
-        (t : Taken (c₀ .public .info .bytes) b flags counts contents flagsAfter countsAfter contentsAfter)
+        (t : BlockTaken (c₀ .public .info .bytes) b flags counts contents flagsAfter countsAfter contentsAfter)
         (e : addedAfter ≡ insert (pointer reference b) (take taken added) ++ drop (taken + 1) added) where
       stepped : during c₀ flagsAfter countsAfter contentsAfter addedAfter (taken + 1) ≡ changes present (takeAll reference (b ∷ []))
       unfolding takeAll changes change changePublic changeKeys changeContents
@@ -167,9 +167,9 @@ module _ {c₀ : Card} {reference want count : ℕ} {places₀ flags counts cont
 
     pub collected-whole : {info : Info} {pointers : List ℕ} → info ≡ withUsed (c₀ .public .info) (c₀ .public .info .used + count)
         → pointers ≡ insertAll (take count added) (inUse (c₀ .public)) ++ drop (c₀ .public .info .used + count) (c₀ .public .pointers)
-        → Took c₀ reference (picks want count (freeBlocks (c₀ .public))) places₀ (card info flags (c₀ .keys) counts pointers (c₀ .public .windows) contents) places
+        → BlocksTaken c₀ reference (picks want count (freeBlocks (c₀ .public))) places₀ (card info flags (c₀ .keys) counts pointers (c₀ .public .windows) contents) places
     unfolding merged
     collected-whole e f =
         rw (e, f)
-        (subst (λ (k : ℕ). Took c₀ reference (picks want count (freeBlocks (c₀ .public))) places₀ (during c₀ flags counts contents added k) places) all-taken
+        (subst (λ (k : ℕ). BlocksTaken c₀ reference (picks want count (freeBlocks (c₀ .public))) places₀ (during c₀ flags counts contents added k) places) all-taken
         (walked-whole (r .walked) l))

@@ -4,7 +4,7 @@ use Prim.Native.Nat.{_+_, _-_}
 use mathlib.Core.Path.{refl, sym}
 use native.Mathlib.Omega.{arith}
 use Rattle.card.specs.Card.{card}
-use Rattle.allocation.proofs.Walking.{ready-low, walked-spread, next-below, next-narrow, walked-fewer, takeable, flags-same, counts-same, contents-same}
+use Rattle.allocation.proofs.Outward.{few-taken, walked-spread, next-below, next-narrow, walked-fewer, can-take, flags-same, counts-same, contents-same}
 use Rattle.allocation.proofs.Collecting.{Collected, collected-start, collected-passed, addable, collected-taken, mergeable, collected-whole}
 use Rattle.allocation.proofs.take_all.Statement.{statement}
 use Rattle.allocation.proofs.take_all.Tie as tie
@@ -54,7 +54,7 @@ take-requires c κs =
     let at-if1 = c .before .before .before in
     let at-next = at-if1 .before .before .before .before .before in
     let at-loop = at-next .before .before in
-    takeable (at-loop .loop .inv .walked) (at-next .next .ensures)
+    can-take (at-loop .loop .inv .walked) (at-next .next .ensures)
 
 slice-aggregate-insert : tie.Need-slice-aggregate-insert Inv-loop μ-loop
 slice-aggregate-insert c = sym (c .before .before .before .before .before .before .before .before .before .before .before .before .before .before .before .before .before .before .loop .inv .size)
@@ -68,13 +68,13 @@ insert-requires c κs =
     addable (at-loop .loop .inv) (at-next .next .ensures) (at-loop-test .loop-test .taken) (at-if1 .before .allocated .ensures) (at-if1 .if1 .taken)
 
 mul-places : tie.Need-mul-places Inv-loop μ-loop
-mul-places c = omega (arith, c .before .before .before .before .before .before .before .before .before .before .before .before .before .before .before .before .before .before .before .loop-test .taken, ready-low (c .before .before .before .before .before .before .before .before .before .before .before .before .before .before .before .before .before .before .before .before .before .before .before .before .before .before .before .before .pre .0))
+mul-places c = omega (arith, c .before .before .before .before .before .before .before .before .before .before .before .before .before .before .before .before .before .before .before .loop-test .taken, few-taken (c .before .before .before .before .before .before .before .before .before .before .before .before .before .before .before .before .before .before .before .before .before .before .before .before .before .before .before .before .pre .0))
 
 slice-write-places : tie.Need-slice-write-places Inv-loop μ-loop
 slice-write-places c = omega (arith, c .before .before .before .before .before .before .before .before .before .before .before .before .before .before .before .before .before .before .before .loop-test .taken, c .before .before .before .before .before .before .before .before .before .before .before .before .before .before .before .before .before .before .before .before .loop .inv .walked .fits, c .before .before .before .before .before .before .before .before .before .before .before .before .before .before .before .before .before .before .before .before .loop .inv .walked .samePlaces)
 
 add-taken : tie.Need-add-taken Inv-loop μ-loop
-add-taken c = omega (arith, c .before .before .before .before .before .before .before .before .before .before .before .before .before .before .before .before .before .before .before .loop-test .taken, ready-low (c .before .before .before .before .before .before .before .before .before .before .before .before .before .before .before .before .before .before .before .before .before .before .before .before .before .before .before .before .pre .0))
+add-taken c = omega (arith, c .before .before .before .before .before .before .before .before .before .before .before .before .before .before .before .before .before .before .before .loop-test .taken, few-taken (c .before .before .before .before .before .before .before .before .before .before .before .before .before .before .before .before .before .before .before .before .before .before .before .before .before .before .before .before .pre .0))
 
 loop-less : tie.Need-loop-less Inv-loop μ-loop
 loop-less c =

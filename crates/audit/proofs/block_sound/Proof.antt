@@ -1,7 +1,7 @@
 -- `audit::block_sound` is the clauses of one block. Assumes nothing.
 use borrow.Author.Needs.{needs}
 use Rattle.audit.specs.Walks.{rowed}
-use Rattle.audit.proofs.Forms.{sound-block}
+use Rattle.audit.proofs.BlockTests.{sound-block}
 use Rattle.audit.proofs.block_sound.Statement.{statement}
 use Rattle.audit.proofs.block_sound.Tie as tie
 

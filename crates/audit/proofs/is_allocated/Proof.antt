@@ -2,7 +2,7 @@
 use borrow.Author.Needs.{needs}
 use Rattle.audit.specs.Walks.{pointing}
 use mathlib.Core.List.{[]}
-use Rattle.audit.proofs.Forms.{allocated-inside, allocated-outside}
+use Rattle.audit.proofs.BlockTests.{allocated-inside, allocated-outside}
 use Rattle.audit.proofs.is_allocated.Statement.{statement}
 use Rattle.audit.proofs.is_allocated.Tie as tie
 

@@ -4,7 +4,7 @@ use Prim.Native.Nat.{_*_}
 use native.Mathlib.Omega.{arith}
 use mathlib.Core.Path.{sym}
 use lib.Seq.{length-take-le}
-use Rattle.format.proofs.Fresh.{front-cleared, format-refused, roots-within, size-low, size-within, format-done}
+use Rattle.format.proofs.Formatting.{front-cleared, format-refused, roots-within, size-low, size-within, format-done}
 use borrow.Author.Needs.{needs}
 use Rattle.format.proofs.format.Statement.{statement}
 use Rattle.format.proofs.format.Tie as tie

@@ -7,7 +7,7 @@ use Rattle.card.specs.Calls.{renewPlan}
 use Rattle.card.specs.Session.{plan, performSound}
 use Rattle.outcomes.proofs.Returned.{refuses, finishes}
 use Rattle.access.proofs.Blocks.{missing-told, access-there, windows-low}
-use Rattle.keys.proofs.Opened.{unopened-holds, unopened-fails}
+use Rattle.keys.proofs.RenewAccess.{unopened-holds, unopened-fails}
 use Rattle.keys.proofs.Changed.{renewed}
 use borrow.Author.Needs.{needs}
 use Rattle.keys.proofs.renew_sound.Statement.{statement}

@@ -5,7 +5,7 @@ use Rattle.card.specs.Card.{card}
 use Rattle.checks.specs.CheckedLaws.{check-refused, check-passed}
 use Rattle.access.proofs.Blocks.{access-there}
 use Rattle.tables.specs.InUseLaws.{sound-sorted}
-use Rattle.linking.proofs.Creating.{source-missing, destination-missing, root-end, source-shut, destination-shut, pointer-there, no-place, passes}
+use Rattle.linking.proofs.Creating.{source-missing, destination-missing, root-end, source-shut, destination-shut, pointer-there, no-place, create-passes}
 use Rattle.linking.proofs.create_check.Statement.{statement}
 use Rattle.linking.proofs.create_check.Tie as tie
 
@@ -129,7 +129,7 @@ returns-8 c =
     let at-if1 = at-missing2 .before in
     let at-missing = at-if1 .before in
     let start = at-missing .before .before .before .before .before .before .before .before .before in
-    let a = start .args in let k = card (a .info) (a .flags .now) (a .keys .now) (a .counts .now) (a .pointers .now) (a .windows .now) (a .contents .now) in check-passed (a .port) k _ (passes (a .port) k (a .o) (at-missing .missing .ensures) (at-if1 .if1 .left) (at-missing2 .missing2 .ensures) (at-if2 .if2 .left) (at-root-at-host .root-at-host .ensures) (at-if3 .if3 .left) (at-admits .admits .ensures) (at-if4 .if4 .left) (at-admits2 .admits2 .ensures) (at-if5 .if5 .left) (at-points-to .points-to .ensures) (at-if6 .if6 .left) (c .if7 .left))
+    let a = start .args in let k = card (a .info) (a .flags .now) (a .keys .now) (a .counts .now) (a .pointers .now) (a .windows .now) (a .contents .now) in check-passed (a .port) k _ (create-passes (a .port) k (a .o) (at-missing .missing .ensures) (at-if1 .if1 .left) (at-missing2 .missing2 .ensures) (at-if2 .if2 .left) (at-root-at-host .root-at-host .ensures) (at-if3 .if3 .left) (at-admits .admits .ensures) (at-if4 .if4 .left) (at-admits2 .admits2 .ensures) (at-if5 .if5 .left) (at-points-to .points-to .ensures) (at-if6 .if6 .left) (c .if7 .left))
 
 pub create-check-spec : {M : Type 1} → statement M
 create-check-spec =

@@ -9,7 +9,7 @@ use Rattle.card.specs.Session.{plan, performSound}
 use Rattle.outcomes.proofs.Returned.{refuses, finishes}
 use Rattle.access.proofs.Blocks.{missing-told, access-there, closed-told, windows-low}
 use Rattle.transfer.proofs.Parts.{lies, put-block, taken-size}
-use Rattle.transfer.proofs.Written.{written}
+use Rattle.transfer.proofs.Stored.{written}
 use borrow.Author.Needs.{needs}
 use Rattle.transfer.proofs.write_sound.Statement.{statement}
 use Rattle.transfer.proofs.write_sound.Tie as tie
