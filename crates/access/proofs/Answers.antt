@@ -97,9 +97,9 @@ module _ (c : Card) (mode : Mode) (b : ℕ) {credential : Credential} {keyed : B
   unfolding opens hasKey opensKeyed
   key-opens e h a = rw (e, ← found, h) a
 
-  pub key-refused : {high low : ℕ} → credential ≡ Key high low → keyed ≡ false → false ≡ opens c mode b credential
+  pub keyless-refused : {high low : ℕ} → credential ≡ Key high low → keyed ≡ false → false ≡ opens c mode b credential
   unfolding opens hasKey opensKeyed opensRoot opensPointed
-  key-refused e h = rw (e, ← found, h) (go (isRoot (c .public) b))
+  keyless-refused e h = rw (e, ← found, h) (go (isRoot (c .public) b))
     where
       go : (t : Bool) → false ≡ cond t false false
       go true = refl

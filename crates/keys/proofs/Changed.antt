@@ -14,19 +14,19 @@ use Rattle.card.specs.declared.NewKey.{NewKey}
 
 module _ (c : Card) (b : ℕ) where
   -- Both windows closed.
-  pub closed : {windows : List ℕ} → windows ≡ set (set (c .public .windows) (2 * b) 0) (2 * b + 1) 0
+  pub closes-windows : {windows : List ℕ} → windows ≡ set (set (c .public .windows) (2 * b) 0) (2 * b + 1) 0
       → card (c .public .info) (c .public .flags) (c .keys) (c .public .counts) (c .public .pointers) windows (c .contents) ≡ changes c (closeWindows b)
   unfolding changes change changePublic changeKeys changeContents
-  closed e = rw e
+  closes-windows e = rw e
 
   -- Both keys replaced, and both windows closed.
-  pub keyed : (read write : NewKey) {x y : ℕ} {keys windows : List ℕ} → x ≡ keyBit Reading read → y ≡ keyBit Writing write
+  pub replaces-keys : (read write : NewKey) {x y : ℕ} {keys windows : List ℕ} → x ≡ keyBit Reading read → y ≡ keyBit Writing write
       → keys ≡ replaceKeys (c .keys) b read write
       → windows ≡ set (set (c .public .windows) (2 * b) 0) (2 * b + 1) 0
       → card (c .public .info) (set (c .public .flags) b (1 + x + y)) keys (c .public .counts) (c .public .pointers) windows (c .contents)
       ≡ changes c (setKeys b read write ∷ closeWindows b)
   unfolding changes change changePublic changeKeys changeContents
-  keyed read write p q k w = rw (p, q, k, w)
+  replaces-keys read write p q k w = rw (p, q, k, w)
 
   -- One window set.
   pub renewed : (number interval : ℕ) {mode : Mode} {windows : List ℕ} → mode ≡ modeOf number

@@ -41,14 +41,14 @@ module _ (port : Port) (c : Card) (o : CreateOperands) where
   createRequest = request (Create o) [] [] []
 
   module _ {t1 : Bool} (e1 : t1 ≡ missing (flagged (c .public)) (o .source)) where
-    pub source-missing : t1 ≡ true → Refuses port c createRequest NotAllocated
+    pub create-source-missing : t1 ≡ true → Refuses port c createRequest NotAllocated
     unfolding plan createPlan
-    source-missing h = here (missing-told (c .public) _ e1 h)
+    create-source-missing h = here (missing-told (c .public) _ e1 h)
 
     module _ (h1 : t1 ≡ false) {t2 : Bool} (e2 : t2 ≡ missing (flagged (c .public)) (o .destination)) where
-      pub destination-missing : t2 ≡ true → Refuses port c createRequest NotAllocated
+      pub create-destination-missing : t2 ≡ true → Refuses port c createRequest NotAllocated
       unfolding plan createPlan
-      destination-missing h = later (missing-told (c .public) _ e1 h1) (here (missing-told (c .public) _ e2 h))
+      create-destination-missing h = later (missing-told (c .public) _ e1 h1) (here (missing-told (c .public) _ e2 h))
 
       module _ (h2 : t2 ≡ false) {t3 : Bool} (e3 : t3 ≡ rootAtHost port (card (c .public .info) [] [] [] [] [] [] .public) (o .source)) where
         pub root-end : isRoot (c .public) (o .destination) || t3 ≡ true → Refuses port c createRequest IsRoot
@@ -58,9 +58,9 @@ module _ (port : Port) (c : Card) (o : CreateOperands) where
             (here (told-or (isRoot (c .public) (o .destination)) (root-told port (c .public) _ e3 refl) h)))
 
         module _ (h3 : isRoot (c .public) (o .destination) || t3 ≡ false) {t4 : Bool} (e4 : t4 ≡ admits port (bare c) Writing (o .source) (o .credential)) where
-          pub source-shut : not t4 ≡ true → Refuses port c createRequest NotOpened
+          pub create-source-shut : not t4 ≡ true → Refuses port c createRequest NotOpened
           unfolding plan createPlan
-          source-shut h =
+          create-source-shut h =
               later (missing-told (c .public) _ e1 h1) (later (missing-told (c .public) _ e2 h2)
               (later (told-or (isRoot (c .public) (o .destination)) (root-told port (c .public) _ e3 refl) h3)
               (here (closed-told port c Writing _ _ e4 h))))
@@ -118,11 +118,11 @@ module _ (port : Port) (c : Card) (o : CreateOperands) where
                 )
 
   -- What adding the pointer asks.
-  pub addable : SoundCard c → Passes port c createRequest
+  pub create-addable : SoundCard c → Passes port c createRequest
       → Addable (c .public .pointers) (c .public .info .used) (pointer (o .source) (o .destination))
       × ((o .destination < length (c .public .counts)) × (getD (c .public .counts) (o .destination) 0 < 65535))
   unfolding plan createPlan
-  addable s h =
+  create-addable s h =
       let below : o .destination < c .public .info .blocks = allocated-below (c .public) (o .destination) (not-false _ (h .1 .0)) in
       let room : c .public .info .used < length (c .public .pointers) =
       let other : (c .public .info .used ≡ length (c .public .pointers) → ⊥) = eqb-false _ _ (h .1 .1 .1 .1 .1 .1 .0) in
@@ -134,8 +134,8 @@ module _ (port : Port) (c : Card) (o : CreateOperands) where
         ),
       )
 
-  pub created : {r : Outcome} {info : Info} {counts pointers : List ℕ} → Passes port c createRequest → r ≡ outcome Done info
+  pub create-done : {r : Outcome} {info : Info} {counts pointers : List ℕ} → Passes port c createRequest → r ≡ outcome Done info
       → card info (c .public .flags) (c .keys) counts pointers (c .public .windows) (c .contents) ≡ change c (addPointer (o .source) (o .destination))
       → Is (performSound port c createRequest) (r .answer) (card (r .info) (c .public .flags) (c .keys) counts pointers (c .public .windows) (c .contents)) [] []
   unfolding performSound plan createPlan changes outAfter placesAfter
-  created h e f = finishes c (createRequest .lent) (plan port c (createRequest .call) (createRequest .lent)) e h f refl refl
+  create-done h e f = finishes c (createRequest .lent) (plan port c (createRequest .call) (createRequest .lent)) e h f refl refl

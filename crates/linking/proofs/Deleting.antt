@@ -44,14 +44,14 @@ module _ (port : Port) (c : Card) (o : DeleteOperands) where
   counted = getD (c .public .counts) (o .destination) 0
 
   module _ {t1 : Bool} (e1 : t1 ≡ missing (flagged (c .public)) (o .source)) where
-    pub source-missing : t1 ≡ true → Refuses port c deleteRequest NotAllocated
+    pub delete-source-missing : t1 ≡ true → Refuses port c deleteRequest NotAllocated
     unfolding plan deletePlan
-    source-missing h = here (missing-told (c .public) _ e1 h)
+    delete-source-missing h = here (missing-told (c .public) _ e1 h)
 
     module _ (h1 : t1 ≡ false) {t2 : Bool} (e2 : t2 ≡ missing (flagged (c .public)) (o .destination)) where
-      pub destination-missing : t2 ≡ true → Refuses port c deleteRequest NotAllocated
+      pub delete-destination-missing : t2 ≡ true → Refuses port c deleteRequest NotAllocated
       unfolding plan deletePlan
-      destination-missing h = later (missing-told (c .public) _ e1 h1) (here (missing-told (c .public) _ e2 h))
+      delete-destination-missing h = later (missing-told (c .public) _ e1 h1) (here (missing-told (c .public) _ e2 h))
 
       module _ (h2 : t2 ≡ false) {t3 : Bool} (e3 : t3 ≡ rootAtHost port (card (c .public .info) [] [] [] [] [] [] .public) (o .source)) where
         pub root-source : t3 ≡ true → Refuses port c deleteRequest IsRoot
@@ -59,17 +59,17 @@ module _ (port : Port) (c : Card) (o : DeleteOperands) where
         root-source h = later (missing-told (c .public) _ e1 h1) (later (missing-told (c .public) _ e2 h2) (here (root-told port (c .public) _ e3 h)))
 
         module _ (h3 : t3 ≡ false) {t4 : Bool} (e4 : t4 ≡ admits port (bare c) Writing (o .source) (o .credential)) where
-          pub source-shut : not t4 ≡ true → Refuses port c deleteRequest NotOpened
+          pub delete-source-shut : not t4 ≡ true → Refuses port c deleteRequest NotOpened
           unfolding plan deletePlan
-          source-shut h =
+          delete-source-shut h =
               later (missing-told (c .public) _ e1 h1) (later (missing-told (c .public) _ e2 h2)
               (later (root-told port (c .public) _ e3 h3)
               (here (closed-told port c Writing _ _ e4 h))))
 
           module _ (h4 : not t4 ≡ false) {t5 : Bool} (e5 : PointsTo c t5 (o .source) (o .destination)) where
-            pub no-pointer : not t5 ≡ true → Refuses port c deleteRequest NoPointer
+            pub delete-no-pointer : not t5 ≡ true → Refuses port c deleteRequest NoPointer
             unfolding plan deletePlan
-            no-pointer h =
+            delete-no-pointer h =
                 later (missing-told (c .public) _ e1 h1) (later (missing-told (c .public) _ e2 h2)
                 (later (root-told port (c .public) _ e3 h3)
                 (later (closed-told port c Writing _ _ e4 h4)
