@@ -1,16 +1,16 @@
 -- What each way out of the access test answers, over plain values.
 -- Assumes nothing.
-use Prim.Native.Nat.{ℕ, _+_, _*_, _/_, _%_, _≤_, _<_}
-use mathlib.Core.Path.{_≡_, refl}
+use Prim.Native.Nat.{ℕ, _+_, _*_, _≤_, _<_}
+use mathlib.Core.Path.{_≡_, refl, sym, _∙_}
 use mathlib.Core.Bool.{Bool, true, false, _&&_, _||_, not, cond}
 use mathlib.Core.List.{List, []}
 use lib.Dec.{eqb, ltb}
 use lib.ListN.{take, getD}
-use borrow.Author.Tests.{le-ltb, eq-eqb, ne-eqb}
+use borrow.Author.Tests.{le-ltb, not-true, not-false}
 use Rattle.card.specs.ListsLaws.{absurd-test, or-false-left, or-false-right, and-false-right}
 use Rattle.card.specs.SoundnessLaws.{flag-allocated}
 use Rattle.card.specs.Pointers.{pointer, contains}
-use Rattle.card.specs.Card.{Public, Card, card, keyFlag, flag, allocated, hasKey, isRoot, windowOpen, pointsTo}
+use Rattle.card.specs.Card.{Public, Card, card, allocatedFlag, keyFlag, flag, allocated, hasKey, isRoot, windowOpen, pointsTo}
 use Rattle.card.specs.Access.{keyIs, keyOpens, opensKeyed, opensRoot, opensPointed, opens, admits}
 use Rattle.card.specs.declared.Info.{Info}
 use Rattle.card.specs.declared.Mode.{Mode}
@@ -21,12 +21,6 @@ use Rattle.card.specs.declared.Credential.{Credential}
 use Rattle.card.specs.declared.Credential.the-variants.{Nothing, Reference, Key}
 
 -- ---- keys
-
-pub flag-reading : {mode : Mode} (f : ℕ) → mode ≡ Reading → eqb (f / 2 % 2) 1 ≡ keyFlag mode f
-flag-reading f e = rw e
-
-pub flag-writing : {mode : Mode} (f : ℕ) → mode ≡ Writing → eqb (f / 4 % 2) 1 ≡ keyFlag mode f
-flag-writing f e = rw e
 
 module _ (keys : List ℕ) (b high low : ℕ) {mode : Mode} {r : Bool} where
   pub key-reading : mode ≡ Reading → r ≡ eqb (getD keys (4 * b) 0) high && eqb (getD keys (4 * b + 1) 0) low → r ≡ keyIs keys mode b high low
@@ -64,14 +58,14 @@ module _ (p : Public) (mode : Mode) (b r : ℕ) where
   unfolding opensPointed allocated
   reference-outside h = rw (le-ltb r (p .info .blocks) h)
 
-  pub reference-unallocated : (flag p r % 2 ≡ 1 → ⊥) → false ≡ opensPointed p mode b (Reference r)
+  pub reference-unallocated : {held : Bool} → held ≡ allocatedFlag (flag p r) → not held ≡ true → false ≡ opensPointed p mode b (Reference r)
   unfolding opensPointed allocated
-  reference-unallocated h = rw (and-false-right (ltb r (p .info .blocks)) _ (ne-eqb (flag p r % 2) 1 h))
+  reference-unallocated told h = rw (and-false-right (ltb r (p .info .blocks)) _ (sym told ∙ not-true _ h))
 
-  pub reference-followed : {points opened : Bool} → r < p .info .blocks → flag p r % 2 ≡ 1 → points ≡ contains (pointer r b) (take (p .info .used) (p .pointers)) → opened ≡ windowOpen (card (p .info) [] [] [] [] (p .windows) [] .public) mode r
+  pub reference-followed : {held points opened : Bool} → r < p .info .blocks → held ≡ allocatedFlag (flag p r) → not held ≡ false → points ≡ contains (pointer r b) (take (p .info .used) (p .pointers)) → opened ≡ windowOpen (card (p .info) [] [] [] [] (p .windows) [] .public) mode r
       → points && opened ≡ opensPointed p mode b (Reference r)
   unfolding opensPointed pointsTo windowOpen
-  reference-followed l h e o = rw (flag-allocated p r l (eq-eqb (flag p r % 2) 1 h), e, o)
+  reference-followed l told h e o = rw (flag-allocated p r l (sym told ∙ not-false _ h), e, o)
 
 -- ---- the test
 
@@ -103,9 +97,9 @@ module _ (c : Card) (mode : Mode) (b : ℕ) {credential : Credential} {keyed : B
   unfolding opens hasKey opensKeyed
   key-opens e h a = rw (e, ← found, h) a
 
-  pub key-refused : {high low : ℕ} → credential ≡ Key high low → keyed ≡ false → false ≡ opens c mode b credential
+  pub keyless-refused : {high low : ℕ} → credential ≡ Key high low → keyed ≡ false → false ≡ opens c mode b credential
   unfolding opens hasKey opensKeyed opensRoot opensPointed
-  key-refused e h = rw (e, ← found, h) (go (isRoot (c .public) b))
+  keyless-refused e h = rw (e, ← found, h) (go (isRoot (c .public) b))
     where
       go : (t : Bool) → false ≡ cond t false false
       go true = refl

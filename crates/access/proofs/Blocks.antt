@@ -7,7 +7,7 @@ use mathlib.Core.List.{[]}
 use native.Mathlib.Omega.{arith}
 use lib.ListN.{length, getD}
 use lib.Dec.{ltb}
-use borrow.Author.Tests.{lt-ltb, le-ltb}
+use borrow.Author.Tests.{lt-ltb, le-ltb, not-false}
 use Rattle.card.specs.Card.{Public, Card, card, allocated, allocatedFlag}
 use Rattle.card.specs.Soundness.{timeLimit}
 use Rattle.card.specs.SoundCard.{SoundCard}
@@ -22,10 +22,6 @@ use Rattle.card.specs.declared.Credential.{Credential}
 use Rattle.access.specs.Accessible.{Accessible, bare}
 use Rattle.access.specs.AccessibleLaws.{sound-accessible, admits-bare}
 
-pub unnot : (t : Bool) → not t ≡ false → t ≡ true
-unnot true e = refl
-unnot false e = sym e
-
 -- The public part by its record and flags alone.
 abbrev pub flagged : Public → Public
 flagged p = card (p .info) (p .flags) [] [] [] [] [] .public
@@ -34,9 +30,9 @@ pub missing-above : (p : Public) (b : ℕ) → p .info .blocks ≤ b → true �
 unfolding allocated
 missing-above p b h = rw (le-ltb b (p .info .blocks) h)
 
-pub missing-below : (p : Public) (b : ℕ) → b < p .info .blocks → not (allocatedFlag (getD (p .flags) b 0)) ≡ not (allocated p b)
+pub missing-below : (p : Public) (b : ℕ) {t : Bool} → b < p .info .blocks → t ≡ allocatedFlag (getD (p .flags) b 0) → not t ≡ not (allocated p b)
 unfolding allocated
-missing-below p b h = rw (lt-ltb b (p .info .blocks) h)
+missing-below p b h told = rw (lt-ltb b (p .info .blocks) h, told)
 
 module _ (p : Public) (b : ℕ) {t : Bool} (told : t ≡ not (allocated (flagged p) b)) where
   -- The test on the card, whichever way it came out.
@@ -45,7 +41,7 @@ module _ (p : Public) (b : ℕ) {t : Bool} (told : t ≡ not (allocated (flagged
   missing-told e = sym told ∙ e
 
   pub there : t ≡ false → b < p .info .blocks
-  there e = allocated-below p b (unnot (allocated p b) (missing-told e))
+  there e = allocated-below p b (not-false (allocated p b) (missing-told e))
 
 -- A block that is there has both windows.
 pub windows-there : {c : Card} (b : ℕ) {t : Bool} → SoundCard c → t ≡ not (allocated (flagged (c .public)) b) → t ≡ false

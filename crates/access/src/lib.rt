@@ -11,7 +11,7 @@ ghost use Prim.Native.Nat.{_+_, _*_, _<_, _≤_};
 ghost use lib.Dec.{eqb};
 ghost use lib.ListN.{length, getD};
 ghost use Rattle.card.specs.declared.Credential.the-variants.{Reference};
-ghost use Rattle.card.specs.Card.{Card, card, keyFlag, windowOpen};
+ghost use Rattle.card.specs.Card.{Card, card, windowOpen};
 ghost use Rattle.card.specs.Access.{keyIs, keyOpens, opensPointed, opens, admits};
 ghost use Rattle.card.specs.Calls.{missing, rootAtHost};
 ghost use Rattle.access.specs.Accessible.{Referable, Accessible};
@@ -26,7 +26,7 @@ pub fn missing(info: Info, flags: &[u8], block: usize) -> bool
     if info.blocks <= block {
         return true;
     }
-    flags[block] % 2 != 1
+    !flags::allocated(flags[block])
 }
 
 // "6": the block is a root and the call is a host's.
@@ -40,16 +40,6 @@ pub fn root_at_host(port: Port, info: Info, block: usize) -> bool
 }
 
 // ---- keys
-
-// Of a flags byte: the block has a key for the mode.
-fn has_key(flag: u8, mode: Mode) -> bool
-    ensures { λ r. ⌜ r ≡ keyFlag mode flag ⌝ }
-{
-    match mode {
-        Mode::Reading => flag / 2 % 2 == 1,
-        Mode::Writing => flag / 4 % 2 == 1,
-    }
-}
 
 // The two words from `at` on are those given.
 fn same_words(keys: &[u64], at: usize, high: u64, low: u64) -> bool
@@ -81,7 +71,7 @@ fn key_opens(flag: u8, keys: &[u64], mode: Mode, block: usize, high: u64, low: u
         Mode::Reading => {
             let read = key_is(keys, Mode::Reading, block, high, low);
             let write = key_is(keys, Mode::Writing, block, high, low);
-            read | (has_key(flag, Mode::Writing) & write)
+            read | (flags::has_key(flag, Mode::Writing) & write)
         }
         Mode::Writing => key_is(keys, Mode::Writing, block, high, low),
     }
@@ -120,7 +110,7 @@ fn reference_opens(
     if info.blocks <= source {
         return false;
     }
-    if flags[source] % 2 != 1 {
+    if !flags::allocated(flags[source]) {
         return false;
     }
     let pointer = (reference as u32) * 65536 + (block as u32);
@@ -144,7 +134,7 @@ pub fn opens(
     ensures { λ r. ⌜ r ≡ opens (card info (now (flags .entry)) (now (keys .entry)) [] (now (pointers .entry)) (now (windows .entry)) []) mode block credential ⌝ }
 {
     let flag = flags[block];
-    let keyed = has_key(flag, mode);
+    let keyed = flags::has_key(flag, mode);
     let root = block < info.roots;
     match credential {
         Credential::Nothing => !keyed & root,

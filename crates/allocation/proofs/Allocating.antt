@@ -14,7 +14,7 @@ use Rattle.card.specs.Card.{Card, card, freeBlocks}
 use Rattle.card.specs.SoundCard.{SoundCard}
 use Rattle.card.specs.Access.{admits}
 use Rattle.card.specs.Plan.{outAfter, placesAfter}
-use Rattle.card.specs.PlanLaws.{FirstHolds, here, later, NoneHolds}
+use Rattle.card.specs.PlanLaws.{here, later}
 use Rattle.card.specs.Calls.{missing, rootAtHost, noHint, wanted, picks, allocPlan}
 use Rattle.card.specs.Promises.{Is}
 use Rattle.card.specs.Session.{Request, request, plan, performSound}
@@ -24,14 +24,14 @@ use Rattle.card.specs.declared.Port.{Port}
 use Rattle.card.specs.declared.Mode.the-variants.{Writing}
 use Rattle.card.specs.declared.Call.the-variants.{Alloc}
 use Rattle.card.specs.declared.AllocOperands.{AllocOperands}
-use Rattle.card.specs.declared.Refusal.{Refusal}
 use Rattle.card.specs.declared.Refusal.the-variants.{BadOperand, NotAllocated, IsRoot, NotOpened, TooFewBlocks, TooFewPlaces}
 use Rattle.card.specs.declared.Answer.the-variants.{Done}
 use Rattle.tables.specs.Free.{unallocatedBelow}
 use Rattle.tables.specs.FreeLaws.{unallocated-free}
-use Rattle.allocation.specs.Walk.{Ready, Took, badOperands}
+use Rattle.allocation.specs.Walk.{CanTakeAll, BlocksTaken, badOperands}
 use Rattle.outcomes.specs.Outcomes.{outcome}
 use Rattle.outcomes.proofs.Returned.{finishes}
+use Rattle.checks.specs.CheckedLaws.{Refuses, Passes}
 use Rattle.access.specs.Accessible.{bare}
 use Rattle.access.proofs.Blocks.{flagged, missing-told, root-told, closed-told}
 
@@ -58,32 +58,26 @@ wanted-below blocks hint some h =
     (not-cases (eqb hint noHint))
 
 module _ (port : Port) (c : Card) (o : AllocOperands) (places : List ℕ) where
-  abbrev asked : Request
-  asked = request (Alloc o) [] [] places
-
-  abbrev Refuses : Refusal → Type 0
-  Refuses why = FirstHolds (plan port c (asked .call) (asked .lent) .checks) why
-
-  abbrev Passes : Type 0
-  Passes = NoneHolds (plan port c (asked .call) (asked .lent) .checks)
+  abbrev allocRequest : Request
+  allocRequest = request (Alloc o) [] [] places
 
   module _ {t1 : Bool} (e1 : t1 ≡ badOperands (c .public .info .blocks) (o .hint) (o .count) (length places)) where
-    pub bad-operand : t1 ≡ true → Refuses BadOperand
+    pub bad-operand : t1 ≡ true → Refuses port c allocRequest BadOperand
     unfolding plan allocPlan
     bad-operand h = here (sym e1 ∙ h)
 
     module _ (h1 : t1 ≡ false) {t2 : Bool} (e2 : t2 ≡ missing (flagged (c .public)) (o .reference)) where
-      pub reference-missing : t2 ≡ true → Refuses NotAllocated
+      pub reference-missing : t2 ≡ true → Refuses port c allocRequest NotAllocated
       unfolding plan allocPlan
       reference-missing h = later (sym e1 ∙ h1) (here (missing-told (c .public) _ e2 h))
 
       module _ (h2 : t2 ≡ false) {t3 : Bool} (e3 : t3 ≡ rootAtHost port (card (c .public .info) [] [] [] [] [] [] .public) (o .reference)) where
-        pub root-reference : t3 ≡ true → Refuses IsRoot
+        pub root-reference : t3 ≡ true → Refuses port c allocRequest IsRoot
         unfolding plan allocPlan
         root-reference h = later (sym e1 ∙ h1) (later (missing-told (c .public) _ e2 h2) (here (root-told port (c .public) _ e3 h)))
 
         module _ (h3 : t3 ≡ false) {t4 : Bool} (e4 : t4 ≡ admits port (bare c) Writing (o .reference) (o .credential)) where
-          pub reference-shut : not t4 ≡ true → Refuses NotOpened
+          pub reference-shut : not t4 ≡ true → Refuses port c allocRequest NotOpened
           unfolding plan allocPlan
           reference-shut h =
               later (sym e1 ∙ h1) (later (missing-told (c .public) _ e2 h2)
@@ -94,7 +88,7 @@ module _ (port : Port) (c : Card) (o : AllocOperands) (places : List ℕ) where
             free-counted : n ≡ length (freeBlocks (c .public))
             free-counted = e5 ∙ ap (λ (xs : List ℕ). length xs) (unallocated-free (c .public) (s .shaped .hasLengths .flags))
 
-            pub too-few-blocks : n < o .count → Refuses TooFewBlocks
+            pub too-few-blocks : n < o .count → Refuses port c allocRequest TooFewBlocks
             unfolding plan allocPlan
             too-few-blocks h =
                 later (sym e1 ∙ h1) (later (missing-told (c .public) _ e2 h2)
@@ -103,7 +97,7 @@ module _ (port : Port) (c : Card) (o : AllocOperands) (places : List ℕ) where
                 (here (lt-ltb (length (freeBlocks (c .public))) (o .count) (omega (arith, free-counted)))))))
 
             module _ (h5 : o .count ≤ n) where
-              pub too-few-places : length (c .public .pointers) < c .public .info .used + o .count → Refuses TooFewPlaces
+              pub too-few-places : length (c .public .pointers) < c .public .info .used + o .count → Refuses port c allocRequest TooFewPlaces
               unfolding plan allocPlan
               too-few-places h =
                   later (sym e1 ∙ h1) (later (missing-told (c .public) _ e2 h2)
@@ -112,9 +106,9 @@ module _ (port : Port) (c : Card) (o : AllocOperands) (places : List ℕ) where
                   (later (le-ltb (length (freeBlocks (c .public))) (o .count) (omega (arith, free-counted)))
                   (here (lt-ltb _ _ h))))))
 
-              pub passes : c .public .info .used + o .count ≤ length (c .public .pointers) → Passes
+              pub alloc-passes : c .public .info .used + o .count ≤ length (c .public .pointers) → Passes port c allocRequest
               unfolding plan allocPlan
-              passes h = (
+              alloc-passes h = (
                 sym e1 ∙ h1,
                 (
                   missing-told (c .public) _ e2 h2,
@@ -132,9 +126,9 @@ module _ (port : Port) (c : Card) (o : AllocOperands) (places : List ℕ) where
               )
 
   -- What taking the blocks asks.
-  pub ready : SoundCard c → Passes → {want : ℕ} → want ≡ wanted (o .hint) → Ready c (o .reference) want (o .count) × ((o .count ≤ length places) × (o .count ≤ 64))
+  pub can-take-all : SoundCard c → Passes port c allocRequest → {want : ℕ} → want ≡ wanted (o .hint) → CanTakeAll c (o .reference) want (o .count) × ((o .count ≤ length places) × (o .count ≤ 64))
   unfolding plan allocPlan
-  ready s h e =
+  can-take-all s h e =
       let front : Bool = eqb (o .count) 0 || ltb 64 (o .count) in
       let hinted : Bool = not (ltb (o .hint) (c .public .info .blocks)) && not (eqb (o .hint) noHint) in
       let both : front || hinted ≡ false = or-false-left (front || hinted) _ (h .0) in
@@ -154,12 +148,12 @@ module _ (port : Port) (c : Card) (o : AllocOperands) (places : List ℕ) where
         ),
       )
 
-  pub took : {r : Outcome} {info : Info} {flags counts pointers contents left : List ℕ} {want : ℕ} → Passes → want ≡ wanted (o .hint) → r ≡ outcome Done info
-      → Took c (o .reference) (picks want (o .count) (freeBlocks (c .public))) places (card info flags (c .keys) counts pointers (c .public .windows) contents) left
-      → Is (performSound port c asked) (r .answer) (card (r .info) flags (c .keys) counts pointers (c .public .windows) contents) [] left
+  pub alloc-done : {r : Outcome} {info : Info} {flags counts pointers contents left : List ℕ} {want : ℕ} → Passes port c allocRequest → want ≡ wanted (o .hint) → r ≡ outcome Done info
+      → BlocksTaken c (o .reference) (picks want (o .count) (freeBlocks (c .public))) places (card info flags (c .keys) counts pointers (c .public .windows) contents) left
+      → Is (performSound port c allocRequest) (r .answer) (card (r .info) flags (c .keys) counts pointers (c .public .windows) contents) [] left
   unfolding performSound plan allocPlan outAfter placesAfter
-  took {info = info} {flags} {counts} {pointers} {contents} {left} h e f t =
+  alloc-done {info = info} {flags} {counts} {pointers} {contents} {left} h e f t =
       let after = card info flags (c .keys) counts pointers (c .public .windows) contents in
-      let right : Took c (o .reference) (picks (wanted (o .hint)) (o .count) (freeBlocks (c .public))) places after left =
-      subst (λ (n : ℕ). Took c (o .reference) (picks n (o .count) (freeBlocks (c .public))) places after left) e t in
-      finishes c (asked .lent) (plan port c (asked .call) (asked .lent)) f h (right .leaves) refl (right .shows)
+      let right : BlocksTaken c (o .reference) (picks (wanted (o .hint)) (o .count) (freeBlocks (c .public))) places after left =
+      subst (λ (n : ℕ). BlocksTaken c (o .reference) (picks n (o .count) (freeBlocks (c .public))) places after left) e t in
+      finishes c (allocRequest .lent) (plan port c (allocRequest .call) (allocRequest .lent)) f h (right .leaves) refl (right .shows)

@@ -1,17 +1,18 @@
 -- The walk with the pointers to the blocks taken beside the table, and their merge into it, over plain values.
 -- Assumes nothing.
-use Prim.Native.Nat.{ℕ, _+_, _%_, _≤_, _<_}
+use Prim.Native.Nat.{ℕ, _+_, _≤_, _<_}
 use mathlib.Core.Path.{_≡_, refl, sym, ap, _∙_, subst}
-use mathlib.Core.Bool.{true}
+use mathlib.Core.Bool.{Bool, true, false, not}
 use mathlib.Core.List.{List, [], _∷_, _++_}
 use native.Mathlib.Omega.{arith}
+use borrow.Author.Tests.{not-true, not-false}
 use lib.ListN.{length, take, drop, set, take-append-drop}
 use lib.Seq.{take-at, drop-at, drop-drop, length-take-le}
 use Rattle.card.specs.ListsLaws.{false-unless, absurd-test}
 use Rattle.card.specs.Pointers.{pointer, ascending, contains, insert}
 use Rattle.card.specs.PointersLaws.{insert-ascending}
 use Rattle.card.specs.ChangesLaws.{inserted-take, inserted-length}
-use Rattle.card.specs.Card.{Card, card, flag, inUse, freeBlocks, pointsTo}
+use Rattle.card.specs.Card.{Card, card, flag, allocatedFlag, inUse, freeBlocks, pointsTo}
 use Rattle.card.specs.SoundCard.{SoundCard}
 use Rattle.card.specs.Plan.{withUsed, changePublic, changeKeys, changeContents, change, changes}
 use Rattle.card.specs.Calls.{picks, takeAll}
@@ -20,8 +21,8 @@ use Rattle.tables.specs.Merge.{insertAll}
 use Rattle.tables.specs.MergeLaws.{insertAll-length, insertAll-insert, insertAll-contains}
 use Rattle.tables.specs.InUse.{Sorted, Addable, Mergeable}
 use Rattle.tables.specs.InUseLaws.{sound-sorted}
-use Rattle.allocation.specs.Walk.{Next, lowAfter, highAfter, Taken, Ready, Took}
-use Rattle.allocation.proofs.Walking.{Walked, walked-start, walked-passed, unpointed, walked-taken, walked-whole}
+use Rattle.allocation.specs.Walk.{NextBlock, lowAfter, highAfter, BlockTaken, CanTakeAll, BlocksTaken}
+use Rattle.allocation.proofs.Outward.{Walked, walked-start, walked-passed, unpointed, walked-taken, walked-whole}
 
 -- ---- the table that the rule has
 
@@ -74,7 +75,7 @@ pub record Collected (c₀ : Card) (reference want count : ℕ) (places₀ flags
   pub few : count ≤ 64
   pub room : c₀ .public .info .used + count ≤ length (c₀ .public .pointers)
 
-pub collected-start : {c₀ : Card} {reference want count : ℕ} (places₀ added : List ℕ) → Ready c₀ reference want count → count ≤ length places₀ → length added ≡ 64 → count ≤ 64
+pub collected-start : {c₀ : Card} {reference want count : ℕ} (places₀ added : List ℕ) → CanTakeAll c₀ reference want count → count ≤ length places₀ → length added ≡ 64 → count ≤ 64
     → Collected c₀ reference want count places₀ (c₀ .public .flags) (c₀ .public .counts) (c₀ .contents) added places₀ want want 0
 unfolding ascending
 collected-start {c₀} {reference} {want} {count} places₀ added r f e g =
@@ -98,12 +99,16 @@ module _ {c₀ : Card} {reference want count : ℕ} {places₀ flags counts cont
   fits = omega (arith, r .room, r .walked .most)
 
   -- An allocated block is passed.
-  pub collected-passed : {b : ℕ} → Next want (c₀ .public .info .blocks) low high b → flag (present .public) b % 2 ≡ 1
+  pub collected-passed : {b : ℕ} → NextBlock want (c₀ .public .info .blocks) low high b → {held : Bool} → held ≡ allocatedFlag (flag (present .public) b) → not held ≡ false
       → {m h : ℕ} → m ≡ lowAfter low b → h ≡ highAfter high b → Collected c₀ reference want count places₀ flags counts contents added places m h taken
-  collected-passed n odd e f = record { walked = walked-passed (r .walked) n odd e f; sorted = r .sorted; size = r .size; few = r .few; room = r .room }
+  collected-passed n told h e f = record { walked = walked-passed (r .walked) n (sym told ∙ not-false _ h) e f; sorted = r .sorted; size = r .size; few = r .few; room = r .room }
 
   -- A free block is taken.
-  module _ {b : ℕ} (n : Next want (c₀ .public .info .blocks) low high b) (l : taken < count) (odd : flag (present .public) b % 2 ≡ 1 → ⊥) where
+  module _ {b : ℕ} (n : NextBlock want (c₀ .public .info .blocks) low high b) (l : taken < count)
+      {held : Bool} (told : held ≡ allocatedFlag (flag (present .public) b)) (h : not held ≡ true) where
+    even : allocatedFlag (flag (present .public) b) ≡ false
+    even = sym told ∙ not-true _ h
+
     -- The pointer to the block is not among those added.
     pub addable : Addable added taken (pointer reference b)
     unfolding pointsTo
@@ -116,11 +121,11 @@ module _ {c₀ : Card} {reference want count : ℕ} {places₀ flags counts cont
           (subst (λ (ws : List ℕ). contains (pointer reference b) ws ≡ true)
           (sym (merged-take (c₀ .public .pointers) (c₀ .public .info .used) added taken fits (r .sorted .within)))
           (insertAll-contains (pointer reference b) (take taken added) (inUse (c₀ .public)) e))
-          (unpointed (r .walked) n l odd));
+          (unpointed (r .walked) n l even));
     }
 
     module _ {flagsAfter countsAfter contentsAfter addedAfter : List ℕ}
-        (t : Taken (c₀ .public .info .bytes) b flags counts contents flagsAfter countsAfter contentsAfter)
+        (t : BlockTaken (c₀ .public .info .bytes) b flags counts contents flagsAfter countsAfter contentsAfter)
         (e : addedAfter ≡ insert (pointer reference b) (take taken added) ++ drop (taken + 1) added) where
       stepped : during c₀ flagsAfter countsAfter contentsAfter addedAfter (taken + 1) ≡ changes present (takeAll reference (b ∷ []))
       unfolding takeAll changes change changePublic changeKeys changeContents
@@ -145,7 +150,7 @@ module _ {c₀ : Card} {reference want count : ℕ} {places₀ flags counts cont
       pub collected-taken : {m h : ℕ} → m ≡ lowAfter low b → h ≡ highAfter high b
           → Collected c₀ reference want count places₀ flagsAfter countsAfter contentsAfter addedAfter (set places taken b) m h (taken + 1)
       collected-taken f g = record {
-        walked = walked-taken (r .walked) n l odd stepped f g;
+        walked = walked-taken (r .walked) n l even stepped f g;
         sorted = sortedAfter;
         size = ap (λ (xs : List ℕ). length xs) e ∙ inserted-length (pointer reference b) taken added (r .sorted .within) (addable .room) ∙ r .size;
         few = r .few;
@@ -162,9 +167,9 @@ module _ {c₀ : Card} {reference want count : ℕ} {places₀ flags counts cont
 
     pub collected-whole : {info : Info} {pointers : List ℕ} → info ≡ withUsed (c₀ .public .info) (c₀ .public .info .used + count)
         → pointers ≡ insertAll (take count added) (inUse (c₀ .public)) ++ drop (c₀ .public .info .used + count) (c₀ .public .pointers)
-        → Took c₀ reference (picks want count (freeBlocks (c₀ .public))) places₀ (card info flags (c₀ .keys) counts pointers (c₀ .public .windows) contents) places
+        → BlocksTaken c₀ reference (picks want count (freeBlocks (c₀ .public))) places₀ (card info flags (c₀ .keys) counts pointers (c₀ .public .windows) contents) places
     unfolding merged
     collected-whole e f =
         rw (e, f)
-        (subst (λ (k : ℕ). Took c₀ reference (picks want count (freeBlocks (c₀ .public))) places₀ (during c₀ flags counts contents added k) places) all-taken
+        (subst (λ (k : ℕ). BlocksTaken c₀ reference (picks want count (freeBlocks (c₀ .public))) places₀ (during c₀ flags counts contents added k) places) all-taken
         (walked-whole (r .walked) l))

@@ -1,5 +1,5 @@
 pub mod Nearest
-pub mod Walking
+pub mod Outward
 pub mod Collecting
 pub mod Taking
 pub mod Allocating

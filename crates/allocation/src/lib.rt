@@ -1,7 +1,9 @@
 // ALLOC: blocks are taken on one walk outward from the wanted one, and pointed to.
 use card::AllocOperands;
 use card::Info;
+use card::MOST_BLOCKS;
 use card::Mode;
+use card::NO_HINT;
 use card::Outcome;
 use card::Port;
 use card::Refusal;
@@ -10,21 +12,20 @@ ghost use mathlib.Core.Path.{_≡_};
 ghost use mathlib.Core.List.{[]};
 ghost use Prim.Native.Nat.{_≤_, _<_};
 ghost use lib.ListN.{length};
-ghost use Rattle.card.specs.Lent.{Performs, lent, atEntry, atExit};
-ghost use Rattle.card.specs.Card.{card, freeBlocks};
+ghost use Rattle.card.specs.Lent.{Performs, lent, atEntry};
 ghost use Rattle.card.specs.SoundCard.{SoundCard};
-ghost use Rattle.card.specs.Calls.{wanted, picks};
+ghost use Rattle.card.specs.Calls.{wanted};
 ghost use Rattle.card.specs.Session.{request, performSound};
 ghost use Rattle.card.specs.declared.Call.the-variants.{Alloc};
 ghost use Rattle.checks.specs.Checked.{checked};
-ghost use Rattle.allocation.specs.Walk.{Spread, Next, lowAfter, highAfter, Takeable, Taken, Ready, Took, badOperands};
+ghost use Rattle.allocation.specs.Walk.{Spread, NextBlock, lowAfter, highAfter, CanTake, BlockTaken, CanTakeAll, TakesPicks, badOperands};
 
 // ---- the walk
 
 // The block to pass next on the walk outward from the wanted one, where those from `low` on and below `high` are passed.
 fn next(want: usize, blocks: usize, low: usize, high: usize) -> usize
     requires { ⌜ Spread want blocks low high ⌝ }
-    ensures { λ r. ⌜ Next want blocks low high r ⌝ }
+    ensures { λ r. ⌜ NextBlock want blocks low high r ⌝ }
 {
     if low == 0 {
         return high;
@@ -54,8 +55,8 @@ fn high_after(high: usize, block: usize) -> usize
 
 // An unallocated block is allocated, counted once more, and filled with zeros in its own part of the contents.
 fn take(bytes: usize, flags: &mut [u8], counts: &mut [u16], contents: &mut [u8], block: usize)
-    requires { ⌜ Takeable bytes (now flags) (now counts) (now contents) block ⌝ }
-    ensures { λ _. ⌜ Taken bytes block (now (flags .entry)) (now (counts .entry)) (now (contents .entry)) (now (flags .exit)) (now (counts .exit)) (now (contents .exit)) ⌝ }
+    requires { ⌜ CanTake bytes (now flags) (now counts) (now contents) block ⌝ }
+    ensures { λ _. ⌜ BlockTaken bytes block (now (flags .entry)) (now (counts .entry)) (now (contents .entry)) (now (flags .exit)) (now (counts .exit)) (now (contents .exit)) ⌝ }
 {
     let at = block * bytes;
     let end = at + bytes;
@@ -79,15 +80,15 @@ fn take_all(
     count: usize,
     places: &mut [u16],
 ) -> Info
-    requires { ⌜ Ready (lent info flags keys counts pointers windows contents) reference want count ⌝ }
+    requires { ⌜ CanTakeAll (lent info flags keys counts pointers windows contents) reference want count ⌝ }
     requires { ⌜ count ≤ length (now places) ⌝ }
     requires { ⌜ count ≤ 64 ⌝ }
-    ensures { λ r. ⌜ Took (atEntry info flags keys counts pointers windows contents) reference (picks want count (freeBlocks (atEntry info flags keys counts pointers windows contents .public))) (now (places .entry)) (atExit r flags keys counts pointers windows contents) (now (places .exit)) ⌝ }
+    ensures { λ r. ⌜ TakesPicks info flags keys counts pointers windows contents reference want count places r ⌝ }
 {
     let blocks = info.blocks;
     let bytes = info.bytes;
     // The pointers to the blocks taken, ascending.
-    let mut added = [0u32; 64];
+    let mut added = [0u32; MOST_BLOCKS as usize];
     let mut low = want;
     let mut high = want;
     let mut taken = 0;
@@ -95,7 +96,7 @@ fn take_all(
         let block = next(want, blocks, low, high);
         low = low_after(low, block);
         high = high_after(high, block);
-        if flags[block] % 2 != 1 {
+        if !flags::allocated(flags[block]) {
             let number = block as u16;
             let pointer = (reference as u32) * 65536 + (number as u32);
             take(bytes, flags, counts, contents, block);
@@ -116,14 +117,17 @@ fn bad_operands(info: Info, hint: u16, count: u8, places: usize) -> bool
 {
     let near = hint as usize;
     let number = count as usize;
-    (count == 0) | (64 < count) | (!(near < info.blocks) & !(hint == 65535)) | (places < number)
+    (count == 0)
+        | (MOST_BLOCKS < count)
+        | (!(near < info.blocks) & !(hint == NO_HINT))
+        | (places < number)
 }
 
 // Without a hint the lowest block is wanted.
 fn wanted(hint: u16) -> usize
     ensures { λ r. ⌜ r ≡ wanted hint ⌝ }
 {
-    if hint == 65535 { 0 } else { hint as usize }
+    if hint == NO_HINT { 0 } else { hint as usize }
 }
 
 // The checks of ALLOC.

@@ -1,4 +1,4 @@
-pub mod Forms
+pub mod BlockTests
 pub mod Passing
 pub mod Tallying
 pub mod Whole

@@ -17,40 +17,40 @@ use Rattle.card.specs.ListsLaws.{false-unless, absurd-test, allBelow-true, true
 -- ---- over the numbers below a bound
 
 -- Each number below i passes.
-pub record Passed (p : ℕ → Bool) (n i : ℕ) : Type 0 where
+pub record PassedBelow (p : ℕ → Bool) (n i : ℕ) : Type 0 where
   pub most : i ≤ n
   pub good : (k : ℕ) → k < i → p k ≡ true
 
-pub passed-none : (p : ℕ → Bool) (n : ℕ) → Passed p n 0
+pub passed-none : (p : ℕ → Bool) (n : ℕ) → PassedBelow p n 0
 passed-none p n = record { most = zero-le; good = below-none (λ k. p k ≡ true) }
 
-pub passed-more : {p : ℕ → Bool} {n i : ℕ} → Passed p n i → i < n → p i ≡ true → Passed p n (i + 1)
+pub passed-more : {p : ℕ → Bool} {n i : ℕ} → PassedBelow p n i → i < n → p i ≡ true → PassedBelow p n (i + 1)
 passed-more {p} {n} {i} h l e =
     record { most = omega arith; good = below-more (λ k. p k ≡ true) i (h .good) e }
 
-pub passed-fault : {p : ℕ → Bool} {n i : ℕ} → Passed p n i → i < n → p i ≡ false → allBelow p n ≡ false
+pub passed-fault : {p : ℕ → Bool} {n i : ℕ} → PassedBelow p n i → i < n → p i ≡ false → allBelow p n ≡ false
 passed-fault {p} {n} {i} h l e = false-unless _ (λ t. absurd-test (allBelow-true p n t i l) e)
 
-pub passed-whole : {p : ℕ → Bool} {n i : ℕ} → Passed p n i → i ≡ n → allBelow p n ≡ true
+pub passed-whole : {p : ℕ → Bool} {n i : ℕ} → PassedBelow p n i → i ≡ n → allBelow p n ≡ true
 passed-whole {p} {n} {i} h e = true-allBelow p n (λ k l. h .good k (omega arith))
 
 -- ---- over the rest of a list
 
 -- What is left at i passes exactly when what was there at `from` does.
-pub record Left (p : ℕ → Bool) (ws : List ℕ) (from i : ℕ) : Type 0 where
+pub record Remaining (p : ℕ → Bool) (ws : List ℕ) (from i : ℕ) : Type 0 where
   pub most : i ≤ length ws
   pub rest : all p (drop i ws) ≡ all p (drop from ws)
 
-pub left-more : {p : ℕ → Bool} {ws : List ℕ} {from i : ℕ} → Left p ws from i → i < length ws → p (getD ws i 0) ≡ true → Left p ws from (i + 1)
+pub remaining-more : {p : ℕ → Bool} {ws : List ℕ} {from i : ℕ} → Remaining p ws from i → i < length ws → p (getD ws i 0) ≡ true → Remaining p ws from (i + 1)
 unfolding all
-left-more {p} {ws} {from} {i} h l e =
+remaining-more {p} {ws} {from} {i} h l e =
     record { most = omega arith; rest = rw add-one ((rw (drop-cons ws i 0 l, e) at (h .rest))) }
 
-pub left-fault : {p : ℕ → Bool} {ws : List ℕ} {from i : ℕ} → Left p ws from i → i < length ws → p (getD ws i 0) ≡ false
+pub remaining-fault : {p : ℕ → Bool} {ws : List ℕ} {from i : ℕ} → Remaining p ws from i → i < length ws → p (getD ws i 0) ≡ false
     → eqb i (length ws) ≡ all p (drop from ws)
 unfolding all
-left-fault {p} {ws} {from} {i} h l e = ne-eqb i (length ws) (λ z. omega arith) ∙ (rw (drop-cons ws i 0 l, e) at (h .rest))
+remaining-fault {p} {ws} {from} {i} h l e = ne-eqb i (length ws) (λ z. omega arith) ∙ (rw (drop-cons ws i 0 l, e) at (h .rest))
 
-pub left-whole : {p : ℕ → Bool} {ws : List ℕ} {from i : ℕ} → Left p ws from i → length ws ≤ i → eqb i (length ws) ≡ all p (drop from ws)
+pub remaining-whole : {p : ℕ → Bool} {ws : List ℕ} {from i : ℕ} → Remaining p ws from i → length ws ≤ i → eqb i (length ws) ≡ all p (drop from ws)
 unfolding all
-left-whole {p} {ws} {from} {i} h l = eq-eqb i (length ws) (omega (arith, h .most)) ∙ (rw (drop-of-length-le ws l) at (h .rest))
+remaining-whole {p} {ws} {from} {i} h l = eq-eqb i (length ws) (omega (arith, h .most)) ∙ (rw (drop-of-length-le ws l) at (h .rest))

@@ -10,7 +10,10 @@ ghost use Rattle.card.specs.Lists.{all, allBelow};
 ghost use Rattle.card.specs.Card.{card, allocated};
 ghost use Rattle.card.specs.Soundness.{pointerRight, sound, verdict};
 ghost use Rattle.audit.specs.Walks.{pointing, rowed, blockSound, PointersFit, RowsFit, PointersWalked, judged};
+use card::BLOCK_LIMIT;
 use card::Info;
+use card::LONGEST_INTERVAL;
+use card::Mode;
 use card::Verdict;
 
 // ---- pointers
@@ -20,7 +23,7 @@ fn is_allocated(info: Info, flags: &[u8], b: usize) -> bool
     ensures { λ r. ⌜ r ≡ allocated (pointing info (now (flags .entry)) []) b ⌝ }
 {
     if b < info.blocks {
-        flags[b] % 2 == 1
+        flags::allocated(flags[b])
     } else {
         false
     }
@@ -41,7 +44,7 @@ fn pointer_right(info: Info, flags: &[u8], w: u32) -> bool
 // Whether the pointers in use ascend and are right. If so, each block's place of the tally has
 // the number of pointers to it; else the tally says nothing. `least` is the least word that the
 // next pointer may be.
-fn walk_pointers(info: Info, flags: &[u8], pointers: &[u32], tally: &mut [u16; 4096]) -> bool
+fn walk_pointers(info: Info, flags: &[u8], pointers: &[u32], tally: &mut [u16; BLOCK_LIMIT]) -> bool
     requires { ⌜ PointersFit info (now flags) (now pointers) ⌝ ∗ ⌜ now tally ≡ replicate 4096 0 ⌝ }
     ensures { λ r. ⌜ PointersWalked (pointing info (now (flags .entry)) (now (pointers .entry))) r (now (tally .exit)) ⌝ }
 {
@@ -107,7 +110,9 @@ fn block_sound(
     let reading = windows[window];
     let writing = windows[window + 1];
     let root = b < info.roots;
-    let held = flag % 2 == 1;
+    let held = flags::allocated(flag);
+    let read_key = flags::has_key(flag, Mode::Reading);
+    let write_key = flags::has_key(flag, Mode::Writing);
     let zero_read = zero_words(keys, 4 * b);
     let zero_write = zero_words(keys, 4 * b + 2);
     let empty = (flag == 0)
@@ -116,12 +121,12 @@ fn block_sound(
         & (count == 0)
         & (reading == 0)
         & (writing == 0);
-    let latest = info.time + 86400;
+    let latest = info.time + LONGEST_INTERVAL as u64;
     (flag < 8)
         & (!root | held)
         & (held | empty)
-        & ((flag / 2 % 2 == 1) | zero_read)
-        & ((flag / 4 % 2 == 1) | zero_write)
+        & (read_key | zero_read)
+        & (write_key | zero_write)
         & (count == tallied)
         & (root | !held | (1 <= count))
         & (reading <= latest)
@@ -134,7 +139,7 @@ fn walk_blocks(
     keys: &[u64],
     counts: &[u16],
     windows: &[u64],
-    tally: &[u16; 4096],
+    tally: &[u16; BLOCK_LIMIT],
 ) -> Verdict
     requires { ⌜ RowsFit info (now flags) (now keys) (now counts) (now windows) ⌝ }
     ensures { λ r. ⌜ r ≡ judged (allBelow (λ b. blockSound (rowed info (now (flags .entry)) (now (keys .entry)) (now (counts .entry)) (now (windows .entry))) (getD (now (tally .entry)) b 0) b) (info .blocks)) ⌝ }
@@ -167,7 +172,7 @@ fn walk(
     requires { ⌜ PointersFit info (now flags) (now pointers) ⌝ ∗ ⌜ RowsFit info (now flags) (now keys) (now counts) (now windows) ⌝ }
     ensures { λ r. ⌜ r ≡ judged (sound (card info (now (flags .entry)) (now (keys .entry)) (now (counts .entry)) (now (pointers .entry)) (now (windows .entry)) [])) ⌝ }
 {
-    let mut tally = [0u16; 4096];
+    let mut tally = [0u16; BLOCK_LIMIT];
     if walk_pointers(info, flags, pointers, &mut tally) {
         if walk_unused(pointers, info.used) {
             walk_blocks(info, flags, keys, counts, windows, &tally)

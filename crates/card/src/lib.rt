@@ -1,6 +1,24 @@
 // The types of the storage card: its record, credentials, calls, refusals and answers.
 // What they mean is defined in specs/, after document 01.
 
+// The limits of document 01.
+
+// A card has at most so many blocks, and at most so many places for pointers.
+pub const BLOCK_LIMIT: usize = 4096;
+
+pub const PLACE_LIMIT: usize = 16384;
+
+// The time is below 2^40.
+pub const TIME_LIMIT: u64 = 1099511627776;
+
+// The longest interval, in seconds.
+pub const LONGEST_INTERVAL: u32 = 86400;
+
+// The hint of an ALLOC without one, and the most blocks that one ALLOC takes.
+pub const NO_HINT: u16 = 65535;
+
+pub const MOST_BLOCKS: u8 = 64;
+
 // The card's small record: N, R, B, M and T of document 01.
 pub struct Info {
     pub blocks: usize,

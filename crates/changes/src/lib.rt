@@ -1,15 +1,13 @@
 // Changes of the tables that a pointer more or less and a freed block make.
 use card::Info;
 ghost use mathlib.Core.Path.{_≡_};
-ghost use mathlib.Core.List.{List};
-ghost use Prim.Native.Nat.{ℕ, _+_, _*_, _≤_, _<_};
+ghost use Prim.Native.Nat.{_+_, _*_, _≤_, _<_};
 ghost use lib.ListN.{length, getD};
 ghost use Rattle.card.specs.Pointers.{pointer};
-ghost use Rattle.card.specs.Card.{card};
-ghost use Rattle.card.specs.Plan.{addPointer, dropPointer, freeBlock, replaceKeys, change};
+ghost use Rattle.card.specs.Plan.{addPointer, dropPointer, replaceKeys};
 ghost use Rattle.card.specs.declared.NewKey.the-variants.{Absent};
-ghost use Rattle.card.specs.declared.Info.{Info};
 ghost use Rattle.tables.specs.InUse.{Addable, Removable};
+ghost use Rattle.changes.specs.OnTables.{ChangesPointers, FreesBlock};
 
 // A pointer more, and its destination counted once more, whatever the other tables hold.
 pub fn add_pointer(
@@ -22,7 +20,7 @@ pub fn add_pointer(
     requires { ⌜ Addable (now pointers) (info .used) (pointer source destination) ⌝ }
     requires { ⌜ destination < length (now counts) ⌝ }
     requires { ⌜ getD (now counts) destination 0 < 65535 ⌝ }
-    ensures { λ r. ⌜ ((flags keys windows contents : List ℕ) → card r flags keys (now (counts .exit)) (now (pointers .exit)) windows contents ≡ change (card info flags keys (now (counts .entry)) (now (pointers .entry)) windows contents) (addPointer source destination)) ⌝ }
+    ensures { λ r. ⌜ ChangesPointers (addPointer source destination) info counts pointers r ⌝ }
 {
     let at = destination as usize;
     let pointer = (source as u32) * 65536 + (destination as u32);
@@ -43,7 +41,7 @@ pub fn drop_pointer(
     requires { ⌜ destination < length (now counts) ⌝ }
     requires { ⌜ 1 ≤ getD (now counts) destination 0 ⌝ }
     requires { ⌜ 1 ≤ info .used ⌝ }
-    ensures { λ r. ⌜ ((flags keys windows contents : List ℕ) → card r flags keys (now (counts .exit)) (now (pointers .exit)) windows contents ≡ change (card info flags keys (now (counts .entry)) (now (pointers .entry)) windows contents) (dropPointer source destination)) ⌝ }
+    ensures { λ r. ⌜ ChangesPointers (dropPointer source destination) info counts pointers r ⌝ }
 {
     let at = destination as usize;
     let pointer = (source as u32) * 65536 + (destination as u32);
@@ -69,7 +67,7 @@ pub fn free_block(flags: &mut [u8], keys: &mut [u64], windows: &mut [u64], block
     requires { ⌜ block < length (now flags) ⌝ }
     requires { ⌜ 4 * block + 4 ≤ length (now keys) ⌝ }
     requires { ⌜ 2 * block + 2 ≤ length (now windows) ⌝ }
-    ensures { λ _. ⌜ ((info : Info) (counts pointers contents : List ℕ) → card info (now (flags .exit)) (now (keys .exit)) counts pointers (now (windows .exit)) contents ≡ change (card info (now (flags .entry)) (now (keys .entry)) counts pointers (now (windows .entry)) contents) (freeBlock block)) ⌝ }
+    ensures { λ _. ⌜ FreesBlock block flags keys windows ⌝ }
 {
     let b = block as usize;
     let window = 2 * b;

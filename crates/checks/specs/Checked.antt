@@ -8,10 +8,10 @@ use Rattle.card.specs.declared.Refusal.{Refusal}
 use Rattle.checks.specs.declared.Checked.{Checked}
 use Rattle.checks.specs.declared.Checked.the-variants.{Passed, Refused}
 
-unfoldable pub found : Option Refusal → Checked
-found none = Passed
-found (some r) = Refused r
+unfoldable pub byRefusal : Option Refusal → Checked
+byRefusal none = Passed
+byRefusal (some r) = Refused r
 
 -- The call's own checks, on a card that has been audited.
 unfoldable pub checked : Port → Card → Request → Checked
-checked port c q = found (first (plan port c (q .call) (q .lent) .checks))
+checked port c q = byRefusal (first (plan port c (q .call) (q .lent) .checks))

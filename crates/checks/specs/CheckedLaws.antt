@@ -12,36 +12,44 @@ use Rattle.card.specs.declared.Port.{Port}
 use Rattle.card.specs.declared.Refusal.{Refusal}
 use Rattle.checks.specs.declared.Checked.{Checked}
 use Rattle.checks.specs.declared.Checked.the-variants.{Passed, Refused}
-use Rattle.checks.specs.Checked.{found, checked}
+use Rattle.checks.specs.Checked.{byRefusal, checked}
 
-found-none : (o : Option Refusal) → found o ≡ Passed → o ≡ none
-unfolding found
-found-none none e = refl
-found-none (some r) e = let z : _≡_ {A = ℕ} 0 1 = cc in absurd (omega arith)
+byRefusal-none : (o : Option Refusal) → byRefusal o ≡ Passed → o ≡ none
+unfolding byRefusal
+byRefusal-none none e = refl
+byRefusal-none (some r) e = let z : _≡_ {A = ℕ} 0 1 = cc in absurd (omega arith)
 
-found-some : (o : Option Refusal) (r : Refusal) → found o ≡ Refused r → o ≡ some r
-unfolding found
-found-some none r e = let z : _≡_ {A = ℕ} 0 1 = cc in absurd (omega arith)
-found-some (some s) r e = cc
+byRefusal-some : (o : Option Refusal) (r : Refusal) → byRefusal o ≡ Refused r → o ≡ some r
+unfolding byRefusal
+byRefusal-some none r e = let z : _≡_ {A = ℕ} 0 1 = cc in absurd (omega arith)
+byRefusal-some (some s) r e = cc
+
+-- The refusal's check is the first of the call's that holds.
+abbrev pub Refuses : Port → Card → Request → Refusal → Type 0
+Refuses port c q r = FirstHolds (plan port c (q .call) (q .lent) .checks) r
+
+-- No check of the call holds.
+abbrev pub Passes : Port → Card → Request → Type 0
+Passes port c q = NoneHolds (plan port c (q .call) (q .lent) .checks)
 
 module _ (port : Port) (c : Card) (q : Request) where
-  pub check-refused : {r : Refusal} → FirstHolds (plan port c (q .call) (q .lent) .checks) r → Refused r ≡ checked port c q
-  unfolding checked found
-  check-refused h = sym (ap found (holds-first h))
+  pub check-refused : {r : Refusal} → Refuses port c q r → Refused r ≡ checked port c q
+  unfolding checked byRefusal
+  check-refused h = sym (ap byRefusal (holds-first h))
 
-  pub check-passed : NoneHolds (plan port c (q .call) (q .lent) .checks) → Passed ≡ checked port c q
-  unfolding checked found
-  check-passed h = sym (ap found (none-first (plan port c (q .call) (q .lent) .checks) h))
+  pub check-passed : Passes port c q → Passed ≡ checked port c q
+  unfolding checked byRefusal
+  check-passed h = sym (ap byRefusal (none-first (plan port c (q .call) (q .lent) .checks) h))
 
   module _ {v : Checked} (e : v ≡ checked port c q) where
-    pub refused-check : {r : Refusal} → v ≡ Refused r → FirstHolds (plan port c (q .call) (q .lent) .checks) r
+    pub refused-check : {r : Refusal} → v ≡ Refused r → Refuses port c q r
     unfolding checked
     refused-check {r} f =
         let checks = plan port c (q .call) (q .lent) .checks in
-        first-holds checks r (found-some (first checks) r (sym e ∙ f))
+        first-holds checks r (byRefusal-some (first checks) r (sym e ∙ f))
 
-    pub passed-check : v ≡ Passed → NoneHolds (plan port c (q .call) (q .lent) .checks)
+    pub passed-check : v ≡ Passed → Passes port c q
     unfolding checked
     passed-check f =
         let checks = plan port c (q .call) (q .lent) .checks in
-        first-none checks (found-none (first checks) (sym e ∙ f))
+        first-none checks (byRefusal-none (first checks) (sym e ∙ f))

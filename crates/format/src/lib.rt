@@ -75,13 +75,7 @@ pub fn format(
 ) -> Outcome
     ensures { λ r. ⌜ Performs (format blocks roots bytes) info flags keys counts pointers windows contents r [] [] ⌝ }
 {
-    let fresh = Info {
-        blocks,
-        roots,
-        bytes,
-        used: 0,
-        time: 0,
-    };
+    let fresh = tables::fresh(blocks, roots, bytes);
     if shape::shaped(fresh, flags, keys, counts, pointers, windows, contents) {
         mark_roots(flags, roots);
         clear_words(keys);

@@ -1,3 +1,3 @@
 pub mod Keys
-pub mod Opened
+pub mod RenewAccess
 pub mod Changed

@@ -4,6 +4,7 @@ use card::Credential;
 use card::ForceOperands;
 use card::Info;
 use card::KeyOperands;
+use card::LONGEST_INTERVAL;
 use card::Mode;
 use card::NewKey;
 use card::Outcome;
@@ -136,7 +137,7 @@ pub fn renew_sound(
     ensures { λ r. ⌜ ((port : Port) → Performs (λ c. performSound port c (request (Call.Renew o) [] [] [])) info flags keys counts pointers windows contents r [] []) ⌝ }
 {
     let block = o.block as usize;
-    let bad = (1 < o.mode) | (o.interval == 0) | (86400 < o.interval);
+    let bad = (1 < o.mode) | (o.interval == 0) | (LONGEST_INTERVAL < o.interval);
     if bad {
         return outcomes::refused(info, Refusal::BadOperand);
     }
@@ -158,7 +159,7 @@ pub fn renew_sound(
     if !opened {
         return outcomes::refused(info, Refusal::NotOpened);
     }
-    windows::set_window(windows, mode, block, info.time + (o.interval as u64));
+    windows::set_window(info, windows, mode, block, o.interval);
     outcomes::done(info)
 }
 

@@ -15,7 +15,7 @@ use Rattle.card.specs.SoundCard.{SoundCard}
 use Rattle.card.specs.SoundnessLaws.{allocated-below}
 use Rattle.card.specs.Access.{admits}
 use Rattle.card.specs.Plan.{addPointer, change, changes, outAfter, placesAfter}
-use Rattle.card.specs.PlanLaws.{FirstHolds, here, later, NoneHolds}
+use Rattle.card.specs.PlanLaws.{here, later}
 use Rattle.card.specs.Calls.{missing, rootAtHost, createPlan}
 use Rattle.card.specs.Promises.{Is}
 use Rattle.card.specs.Session.{Request, request, plan, performSound}
@@ -25,54 +25,48 @@ use Rattle.card.specs.declared.Port.{Port}
 use Rattle.card.specs.declared.Mode.the-variants.{Writing}
 use Rattle.card.specs.declared.Call.the-variants.{Create}
 use Rattle.card.specs.declared.CreateOperands.{CreateOperands}
-use Rattle.card.specs.declared.Refusal.{Refusal}
 use Rattle.card.specs.declared.Refusal.the-variants.{NotAllocated, IsRoot, NotOpened, PointerExists, TooFewPlaces}
 use Rattle.card.specs.declared.Answer.the-variants.{Done}
 use Rattle.tables.specs.InUse.{Addable}
 use Rattle.tables.specs.InUseLaws.{sound-addable, count-low}
 use Rattle.outcomes.specs.Outcomes.{outcome}
 use Rattle.outcomes.proofs.Returned.{finishes}
+use Rattle.checks.specs.CheckedLaws.{Refuses, Passes}
 use Rattle.access.specs.Accessible.{bare}
 use Rattle.access.proofs.Blocks.{flagged, missing-told, root-told, closed-told}
 use Rattle.linking.proofs.Points.{PointsTo, points-whole, told-or}
 
 module _ (port : Port) (c : Card) (o : CreateOperands) where
-  abbrev asked : Request
-  asked = request (Create o) [] [] []
-
-  abbrev Refuses : Refusal → Type 0
-  Refuses why = FirstHolds (plan port c (asked .call) (asked .lent) .checks) why
-
-  abbrev pub Passes : Type 0
-  Passes = NoneHolds (plan port c (asked .call) (asked .lent) .checks)
+  abbrev createRequest : Request
+  createRequest = request (Create o) [] [] []
 
   module _ {t1 : Bool} (e1 : t1 ≡ missing (flagged (c .public)) (o .source)) where
-    pub source-missing : t1 ≡ true → Refuses NotAllocated
+    pub create-source-missing : t1 ≡ true → Refuses port c createRequest NotAllocated
     unfolding plan createPlan
-    source-missing h = here (missing-told (c .public) _ e1 h)
+    create-source-missing h = here (missing-told (c .public) _ e1 h)
 
     module _ (h1 : t1 ≡ false) {t2 : Bool} (e2 : t2 ≡ missing (flagged (c .public)) (o .destination)) where
-      pub destination-missing : t2 ≡ true → Refuses NotAllocated
+      pub create-destination-missing : t2 ≡ true → Refuses port c createRequest NotAllocated
       unfolding plan createPlan
-      destination-missing h = later (missing-told (c .public) _ e1 h1) (here (missing-told (c .public) _ e2 h))
+      create-destination-missing h = later (missing-told (c .public) _ e1 h1) (here (missing-told (c .public) _ e2 h))
 
       module _ (h2 : t2 ≡ false) {t3 : Bool} (e3 : t3 ≡ rootAtHost port (card (c .public .info) [] [] [] [] [] [] .public) (o .source)) where
-        pub root-end : isRoot (c .public) (o .destination) || t3 ≡ true → Refuses IsRoot
+        pub root-end : isRoot (c .public) (o .destination) || t3 ≡ true → Refuses port c createRequest IsRoot
         unfolding plan createPlan
         root-end h =
             later (missing-told (c .public) _ e1 h1) (later (missing-told (c .public) _ e2 h2)
             (here (told-or (isRoot (c .public) (o .destination)) (root-told port (c .public) _ e3 refl) h)))
 
         module _ (h3 : isRoot (c .public) (o .destination) || t3 ≡ false) {t4 : Bool} (e4 : t4 ≡ admits port (bare c) Writing (o .source) (o .credential)) where
-          pub source-shut : not t4 ≡ true → Refuses NotOpened
+          pub create-source-shut : not t4 ≡ true → Refuses port c createRequest NotOpened
           unfolding plan createPlan
-          source-shut h =
+          create-source-shut h =
               later (missing-told (c .public) _ e1 h1) (later (missing-told (c .public) _ e2 h2)
               (later (told-or (isRoot (c .public) (o .destination)) (root-told port (c .public) _ e3 refl) h3)
               (here (closed-told port c Writing _ _ e4 h))))
 
           module _ (h4 : not t4 ≡ false) {t5 : Bool} (e5 : t5 ≡ admits port (bare c) Writing (o .destination) (o .second)) where
-            pub destination-shut : not t5 ≡ true → Refuses NotOpened
+            pub destination-shut : not t5 ≡ true → Refuses port c createRequest NotOpened
             unfolding plan createPlan
             destination-shut h =
                 later (missing-told (c .public) _ e1 h1) (later (missing-told (c .public) _ e2 h2)
@@ -81,7 +75,7 @@ module _ (port : Port) (c : Card) (o : CreateOperands) where
                 (here (closed-told port c Writing _ _ e5 h)))))
 
             module _ (h5 : not t5 ≡ false) {t6 : Bool} (e6 : PointsTo c t6 (o .source) (o .destination)) where
-              pub pointer-there : eqb (o .source) (o .destination) || t6 ≡ true → Refuses PointerExists
+              pub pointer-there : eqb (o .source) (o .destination) || t6 ≡ true → Refuses port c createRequest PointerExists
               unfolding plan createPlan
               pointer-there h =
                   later (missing-told (c .public) _ e1 h1) (later (missing-told (c .public) _ e2 h2)
@@ -91,7 +85,7 @@ module _ (port : Port) (c : Card) (o : CreateOperands) where
                   (here (told-or (eqb (o .source) (o .destination)) (points-whole c _ _ e6) h))))))
 
               module _ (h6 : eqb (o .source) (o .destination) || t6 ≡ false) where
-                pub no-place : c .public .info .used ≡ length (c .public .pointers) → Refuses TooFewPlaces
+                pub no-place : c .public .info .used ≡ length (c .public .pointers) → Refuses port c createRequest TooFewPlaces
                 unfolding plan createPlan
                 no-place h =
                     later (missing-told (c .public) _ e1 h1) (later (missing-told (c .public) _ e2 h2)
@@ -101,9 +95,9 @@ module _ (port : Port) (c : Card) (o : CreateOperands) where
                     (later (told-or (eqb (o .source) (o .destination)) (points-whole c _ _ e6) h6)
                     (here (eq-eqb _ _ h)))))))
 
-                pub passes : (c .public .info .used ≡ length (c .public .pointers) → ⊥) → Passes
+                pub create-passes : (c .public .info .used ≡ length (c .public .pointers) → ⊥) → Passes port c createRequest
                 unfolding plan createPlan
-                passes h = (
+                create-passes h = (
                   missing-told (c .public) _ e1 h1,
                   (
                     missing-told (c .public) _ e2 h2,
@@ -124,11 +118,11 @@ module _ (port : Port) (c : Card) (o : CreateOperands) where
                 )
 
   -- What adding the pointer asks.
-  pub addable : SoundCard c → Passes
+  pub create-addable : SoundCard c → Passes port c createRequest
       → Addable (c .public .pointers) (c .public .info .used) (pointer (o .source) (o .destination))
       × ((o .destination < length (c .public .counts)) × (getD (c .public .counts) (o .destination) 0 < 65535))
   unfolding plan createPlan
-  addable s h =
+  create-addable s h =
       let below : o .destination < c .public .info .blocks = allocated-below (c .public) (o .destination) (not-false _ (h .1 .0)) in
       let room : c .public .info .used < length (c .public .pointers) =
       let other : (c .public .info .used ≡ length (c .public .pointers) → ⊥) = eqb-false _ _ (h .1 .1 .1 .1 .1 .1 .0) in
@@ -140,8 +134,8 @@ module _ (port : Port) (c : Card) (o : CreateOperands) where
         ),
       )
 
-  pub created : {r : Outcome} {info : Info} {counts pointers : List ℕ} → Passes → r ≡ outcome Done info
+  pub create-done : {r : Outcome} {info : Info} {counts pointers : List ℕ} → Passes port c createRequest → r ≡ outcome Done info
       → card info (c .public .flags) (c .keys) counts pointers (c .public .windows) (c .contents) ≡ change c (addPointer (o .source) (o .destination))
-      → Is (performSound port c asked) (r .answer) (card (r .info) (c .public .flags) (c .keys) counts pointers (c .public .windows) (c .contents)) [] []
+      → Is (performSound port c createRequest) (r .answer) (card (r .info) (c .public .flags) (c .keys) counts pointers (c .public .windows) (c .contents)) [] []
   unfolding performSound plan createPlan changes outAfter placesAfter
-  created h e f = finishes c (asked .lent) (plan port c (asked .call) (asked .lent)) e h f refl refl
+  create-done h e f = finishes c (createRequest .lent) (plan port c (createRequest .call) (createRequest .lent)) e h f refl refl

@@ -17,7 +17,7 @@ use Rattle.card.specs.SoundCard.{SoundCard}
 use Rattle.card.specs.SoundnessLaws.{allocated-below}
 use Rattle.card.specs.Access.{admits}
 use Rattle.card.specs.Plan.{dropPointer, freeBlock, change, changes, outAfter, placesAfter}
-use Rattle.card.specs.PlanLaws.{FirstHolds, here, later, NoneHolds}
+use Rattle.card.specs.PlanLaws.{here, later}
 use Rattle.card.specs.Calls.{missing, rootAtHost, deletePlan}
 use Rattle.card.specs.Promises.{Is, is-done}
 use Rattle.card.specs.Session.{Request, request, plan, performSound}
@@ -25,57 +25,51 @@ use Rattle.card.specs.declared.Port.{Port}
 use Rattle.card.specs.declared.Mode.the-variants.{Writing}
 use Rattle.card.specs.declared.Call.the-variants.{Delete}
 use Rattle.card.specs.declared.DeleteOperands.{DeleteOperands}
-use Rattle.card.specs.declared.Refusal.{Refusal}
 use Rattle.card.specs.declared.Refusal.the-variants.{NotAllocated, IsRoot, NotOpened, NoPointer, HasPointers}
 use Rattle.card.specs.declared.Answer.the-variants.{Value}
 use Rattle.card.proofs.Guarantees.PointerSteps.{block-narrow}
 use Rattle.tables.specs.InUse.{Removable}
 use Rattle.tables.specs.InUseLaws.{sound-removable}
+use Rattle.checks.specs.CheckedLaws.{Refuses, Passes}
 use Rattle.access.specs.Accessible.{bare}
 use Rattle.access.proofs.Blocks.{flagged, missing-told, root-told, closed-told}
 use Rattle.linking.proofs.Points.{PointsTo, points-whole, told-not}
 
 module _ (port : Port) (c : Card) (o : DeleteOperands) where
-  abbrev asked : Request
-  asked = request (Delete o) [] [] []
-
-  abbrev Refuses : Refusal → Type 0
-  Refuses why = FirstHolds (plan port c (asked .call) (asked .lent) .checks) why
-
-  abbrev Passes : Type 0
-  Passes = NoneHolds (plan port c (asked .call) (asked .lent) .checks)
+  abbrev deleteRequest : Request
+  deleteRequest = request (Delete o) [] [] []
 
   -- The destination's count.
   abbrev counted : ℕ
   counted = getD (c .public .counts) (o .destination) 0
 
   module _ {t1 : Bool} (e1 : t1 ≡ missing (flagged (c .public)) (o .source)) where
-    pub source-missing : t1 ≡ true → Refuses NotAllocated
+    pub delete-source-missing : t1 ≡ true → Refuses port c deleteRequest NotAllocated
     unfolding plan deletePlan
-    source-missing h = here (missing-told (c .public) _ e1 h)
+    delete-source-missing h = here (missing-told (c .public) _ e1 h)
 
     module _ (h1 : t1 ≡ false) {t2 : Bool} (e2 : t2 ≡ missing (flagged (c .public)) (o .destination)) where
-      pub destination-missing : t2 ≡ true → Refuses NotAllocated
+      pub delete-destination-missing : t2 ≡ true → Refuses port c deleteRequest NotAllocated
       unfolding plan deletePlan
-      destination-missing h = later (missing-told (c .public) _ e1 h1) (here (missing-told (c .public) _ e2 h))
+      delete-destination-missing h = later (missing-told (c .public) _ e1 h1) (here (missing-told (c .public) _ e2 h))
 
       module _ (h2 : t2 ≡ false) {t3 : Bool} (e3 : t3 ≡ rootAtHost port (card (c .public .info) [] [] [] [] [] [] .public) (o .source)) where
-        pub root-source : t3 ≡ true → Refuses IsRoot
+        pub root-source : t3 ≡ true → Refuses port c deleteRequest IsRoot
         unfolding plan deletePlan
         root-source h = later (missing-told (c .public) _ e1 h1) (later (missing-told (c .public) _ e2 h2) (here (root-told port (c .public) _ e3 h)))
 
         module _ (h3 : t3 ≡ false) {t4 : Bool} (e4 : t4 ≡ admits port (bare c) Writing (o .source) (o .credential)) where
-          pub source-shut : not t4 ≡ true → Refuses NotOpened
+          pub delete-source-shut : not t4 ≡ true → Refuses port c deleteRequest NotOpened
           unfolding plan deletePlan
-          source-shut h =
+          delete-source-shut h =
               later (missing-told (c .public) _ e1 h1) (later (missing-told (c .public) _ e2 h2)
               (later (root-told port (c .public) _ e3 h3)
               (here (closed-told port c Writing _ _ e4 h))))
 
           module _ (h4 : not t4 ≡ false) {t5 : Bool} (e5 : PointsTo c t5 (o .source) (o .destination)) where
-            pub no-pointer : not t5 ≡ true → Refuses NoPointer
+            pub delete-no-pointer : not t5 ≡ true → Refuses port c deleteRequest NoPointer
             unfolding plan deletePlan
-            no-pointer h =
+            delete-no-pointer h =
                 later (missing-told (c .public) _ e1 h1) (later (missing-told (c .public) _ e2 h2)
                 (later (root-told port (c .public) _ e3 h3)
                 (later (closed-told port c Writing _ _ e4 h4)
@@ -83,7 +77,7 @@ module _ (port : Port) (c : Card) (o : DeleteOperands) where
 
             module _ (h5 : not t5 ≡ false) where
               -- The block has another pointer to it, so its own do not matter.
-              pub passes-more : (counted ≡ 1 → ⊥) → Passes
+              pub passes-more : (counted ≡ 1 → ⊥) → Passes port c deleteRequest
               unfolding plan deletePlan
               passes-more h = (
                 missing-told (c .public) _ e1 h1,
@@ -103,7 +97,7 @@ module _ (port : Port) (c : Card) (o : DeleteOperands) where
               )
 
               module _ (last : counted ≡ 1) {t6 : Bool} (e6 : t6 ≡ pointsFrom (o .destination) (inUse (c .public))) where
-                pub has-pointers : t6 ≡ true → Refuses HasPointers
+                pub has-pointers : t6 ≡ true → Refuses port c deleteRequest HasPointers
                 unfolding plan deletePlan hasPointers
                 has-pointers h =
                     later (missing-told (c .public) _ e1 h1) (later (missing-told (c .public) _ e2 h2)
@@ -112,7 +106,7 @@ module _ (port : Port) (c : Card) (o : DeleteOperands) where
                     (later (told-not (points-whole c _ _ e5) h5)
                     (here (and-true (eqb counted 1) _ (eq-eqb _ _ last) (sym e6 ∙ h)))))))
 
-                pub passes-last : t6 ≡ false → Passes
+                pub passes-last : t6 ≡ false → Passes port c deleteRequest
                 unfolding plan deletePlan hasPointers
                 passes-last h = (
                   missing-told (c .public) _ e1 h1,
@@ -131,7 +125,7 @@ module _ (port : Port) (c : Card) (o : DeleteOperands) where
                   ),
                 )
 
-  module _ (s : SoundCard c) (h : Passes) where
+  module _ (s : SoundCard c) (h : Passes port c deleteRequest) where
     below : o .destination < c .public .info .blocks
     unfolding plan deletePlan
     below = allocated-below (c .public) (o .destination) (not-false _ (h .1 .0))
@@ -170,24 +164,24 @@ module _ (port : Port) (c : Card) (o : DeleteOperands) where
       ),
     )
 
-  deleted : {after : Card} (t : Bool) → eqb counted 1 ≡ t → Passes
+  deleted : {after : Card} (t : Bool) → eqb counted 1 ≡ t → Passes port c deleteRequest
       → after ≡ changes (change c (dropPointer (o .source) (o .destination))) (cond t (freeBlock (o .destination) ∷ []) [])
-      → Is (performSound port c asked) (Value (cond t 1 0)) after [] []
+      → Is (performSound port c deleteRequest) (Value (cond t 1 0)) after [] []
   unfolding performSound plan deletePlan changes outAfter placesAfter
   deleted {after} t q h =
       subst
       (λ (t : Bool).
       after ≡ changes (change c (dropPointer (o .source) (o .destination))) (cond t (freeBlock (o .destination) ∷ []) [])
-      → Is (performSound port c asked) (Value (cond t 1 0)) after [] [])
+      → Is (performSound port c deleteRequest) (Value (cond t 1 0)) after [] [])
       q
-      (λ e. is-done c (asked .lent) (plan port c (asked .call) (asked .lent)) h e refl refl)
+      (λ e. is-done c (deleteRequest .lent) (plan port c (deleteRequest .call) (deleteRequest .lent)) h e refl refl)
 
-  pub deleted-more : {after : Card} → Passes → eqb counted 1 ≡ false → after ≡ change c (dropPointer (o .source) (o .destination)) → Is (performSound port c asked) (Value 0) after [] []
+  pub deleted-more : {after : Card} → Passes port c deleteRequest → eqb counted 1 ≡ false → after ≡ change c (dropPointer (o .source) (o .destination)) → Is (performSound port c deleteRequest) (Value 0) after [] []
   unfolding changes
   deleted-more h more e = deleted false more h e
 
   -- The block is freed on the card that the dropped pointer leaves.
-  pub deleted-last : {between after : Card} → Passes → eqb counted 1 ≡ true → between ≡ change c (dropPointer (o .source) (o .destination))
-      → after ≡ change between (freeBlock (o .destination)) → Is (performSound port c asked) (Value 1) after [] []
+  pub deleted-last : {between after : Card} → Passes port c deleteRequest → eqb counted 1 ≡ true → between ≡ change c (dropPointer (o .source) (o .destination))
+      → after ≡ change between (freeBlock (o .destination)) → Is (performSound port c deleteRequest) (Value 1) after [] []
   unfolding changes
   deleted-last h last e f = deleted true last h (f ∙ ap (λ (d : Card). change d (freeBlock (o .destination))) e)

@@ -1,5 +1,8 @@
 // The shape of a record and tables: ranges and lengths.
+use card::BLOCK_LIMIT;
 use card::Info;
+use card::PLACE_LIMIT;
+use card::TIME_LIMIT;
 ghost use mathlib.Core.Path.{_≡_};
 ghost use Rattle.card.specs.Lent.{atEntry};
 ghost use Rattle.card.specs.Soundness.{ranges, shape};
@@ -13,7 +16,7 @@ fn in_ranges(blocks: usize, roots: usize, bytes: usize) -> bool
         return false;
     }
     (16 <= blocks)
-        & (blocks <= 4096)
+        & (blocks <= BLOCK_LIMIT)
         & (1 <= roots)
         & (roots <= 8)
         & (512 <= bytes)
@@ -35,12 +38,12 @@ fn has_lengths(
 {
     let blocks = info.blocks;
     let places = pointers.len();
-    (info.time < 1099511627776)
+    (info.time < TIME_LIMIT)
         & (flags.len() == blocks)
         & (keys.len() == 4 * blocks)
         & (counts.len() == blocks)
         & (1 <= places)
-        & (places <= 16384)
+        & (places <= PLACE_LIMIT)
         & (windows.len() == 2 * blocks)
         & (contents.len() == blocks * info.bytes)
         & (info.used <= places)

@@ -14,6 +14,7 @@ use Rattle.card.specs.PlanLaws.{here}
 use Rattle.card.specs.Promises.{Is, is-done}
 use Rattle.card.specs.Calls.{freePlan, tickPlan}
 use Rattle.card.specs.Session.{plan, performSound, request}
+use Rattle.card.specs.declared.Info.{Info}
 use Rattle.card.specs.declared.Port.{Port}
 use Rattle.card.specs.declared.Outcome.{Outcome}
 use Rattle.card.specs.declared.TickOperands.{TickOperands}
@@ -31,13 +32,14 @@ module _ (c : Card) (o : TickOperands) (port : Port) where
   unfolding performSound plan tickPlan
   tick-late h a = refuses c _ _ a (here (le-leb timeLimit (c .public .info .time + o .seconds) (omega arith)))
 
-  pub tick-done : o .seconds < timeLimit - c .public .info .time
+  pub tick-done : o .seconds < timeLimit - c .public .info .time → {left : Info} → left ≡ withTime (c .public .info) (c .public .info .time + o .seconds)
       → Is (performSound port c (request (Tick o) [] [] [])) (Value (c .public .info .time + o .seconds))
-      (withInfo c (withTime (c .public .info) (c .public .info .time + o .seconds))) [] []
+      (withInfo c left) [] []
   unfolding performSound plan tickPlan changes change changePublic changeKeys changeContents outAfter placesAfter
-  tick-done h =
-      is-done c (request (Tick o) [] [] [] .lent) (tickPlan (c .public) o)
-      (lt-leb timeLimit (c .public .info .time + o .seconds) (omega arith), tt) refl refl refl
+  tick-done h e =
+      rw e
+      (is-done c (request (Tick o) [] [] [] .lent) (tickPlan (c .public) o)
+      (lt-leb timeLimit (c .public .info .time + o .seconds) (omega arith), tt) refl refl refl)
 
 pub free-done : {c : Card} (port : Port) → SoundCard c → {n : ℕ} → n ≡ length (unallocatedBelow (c .public .flags) (length (c .public .flags)))
     → Is (performSound port c (request Free [] [] [])) (Value n) c [] []

@@ -5,6 +5,7 @@ use card::Info;
 use card::Outcome;
 use card::Port;
 use card::Refusal;
+use card::TIME_LIMIT;
 use card::TickOperands;
 ghost use mathlib.Core.List.{[]};
 ghost use Rattle.card.specs.Lent.{Performs, lent};
@@ -44,18 +45,12 @@ pub fn tick_sound(
     ensures { λ r. ⌜ ((port : Port) → Performs (λ c. performSound port c (request (Call.Tick o) [] [] [])) info flags keys counts pointers windows contents r [] []) ⌝ }
 {
     // Compared before it is added: the sum could wrap.
-    if 1099511627776 - info.time <= o.seconds {
+    if TIME_LIMIT - info.time <= o.seconds {
         return outcomes::refused(info, Refusal::TimeEnds);
     }
     let time = info.time + o.seconds;
     Outcome {
         answer: Answer::Value(time),
-        info: Info {
-            blocks: info.blocks,
-            roots: info.roots,
-            bytes: info.bytes,
-            used: info.used,
-            time,
-        },
+        info: tables::with_time(info, time),
     }
 }

@@ -7,7 +7,8 @@ ghost use Prim.Native.Nat.{_+_, _<_};
 ghost use lib.ListN.{length, take, drop};
 ghost use Rattle.card.specs.Contents.{zeros};
 ghost use Rattle.card.specs.Pointers.{contains, pointsFrom, insert, remove};
-ghost use Rattle.card.specs.Plan.{withUsed};
+ghost use Rattle.card.specs.Plan.{withUsed, withTime};
+ghost use Rattle.card.specs.Calls.{freshInfo};
 ghost use Rattle.tables.specs.Rank.{rank};
 ghost use Rattle.tables.specs.Free.{unallocatedBelow};
 ghost use Rattle.tables.specs.Merge.{insertAll};
@@ -25,6 +26,32 @@ pub fn with_used(info: Info, used: usize) -> Info
         bytes: info.bytes,
         used,
         time: info.time,
+    }
+}
+
+// Another time.
+pub fn with_time(info: Info, time: u64) -> Info
+    ensures { λ r. ⌜ r ≡ withTime info time ⌝ }
+{
+    Info {
+        blocks: info.blocks,
+        roots: info.roots,
+        bytes: info.bytes,
+        used: info.used,
+        time,
+    }
+}
+
+// The record of a fresh card.
+pub fn fresh(blocks: usize, roots: usize, bytes: usize) -> Info
+    ensures { λ r. ⌜ r ≡ freshInfo blocks roots bytes ⌝ }
+{
+    Info {
+        blocks,
+        roots,
+        bytes,
+        used: 0,
+        time: 0,
     }
 }
 
@@ -62,7 +89,7 @@ pub fn count_free(flags: &[u8]) -> usize
     let mut free: usize = 0;
     let mut block = 0;
     while block < flags.len() {
-        if flags[block] % 2 != 1 {
+        if !flags::allocated(flags[block]) {
             free += 1;
         }
         block += 1;

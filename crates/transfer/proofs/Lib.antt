@@ -1,2 +1,2 @@
 pub mod Parts
-pub mod Written
+pub mod Stored

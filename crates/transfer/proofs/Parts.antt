@@ -8,14 +8,14 @@ use native.Mathlib.Nat.{mul-le-mul-right}
 use native.Mathlib.Omega.{arith}
 use lib.ListN.{length, take, drop}
 use lib.Dec.{eqb}
-use borrow.Author.Tests.{eqb-true}
+use borrow.Author.Tests.{eqb-true, not-false}
 use borrow.Rule.Slice.PartMut.{putMid, post-is}
 use Rattle.card.specs.Contents.{part, fill, overwrite}
 use Rattle.card.specs.ContentsLaws.{block-fits, part-length}
 use Rattle.card.specs.ListsLaws.{or-false-left}
 use Rattle.card.specs.Card.{Card, allocated}
 use Rattle.card.specs.SoundCard.{SoundCard}
-use Rattle.access.proofs.Blocks.{unnot, flagged, there}
+use Rattle.access.proofs.Blocks.{flagged, there}
 
 -- A block that is there: its part lies within the contents, of at most 2^28 bytes.
 pub record Lies (c : Card) (b : ℕ) : Type 0 where
@@ -40,7 +40,7 @@ lent-part n xs b e =
 
 -- A buffer that is not refused has B bytes.
 pub right-size : (size bytes : ℕ) (late : Bool) → not (eqb size bytes) || late ≡ false → size ≡ bytes
-right-size size bytes late e = eqb-true size bytes (unnot (eqb size bytes) (or-false-left _ late e))
+right-size size bytes late e = eqb-true size bytes (not-false (eqb size bytes) (or-false-left _ late e))
 
 pub lent-size : {c : Card} (b : ℕ) (out : List ℕ) (late : Bool) → Lies c b → not (eqb (length out) (c .public .info .bytes)) || late ≡ false
     → length (take (b * c .public .info .bytes + c .public .info .bytes - b * c .public .info .bytes) (drop (b * c .public .info .bytes) (c .contents))) ≡ length out

@@ -1,6 +1,7 @@
 // READ and WRITE on an audited card.
 use card::Call;
 use card::Info;
+use card::LONGEST_INTERVAL;
 use card::Mode;
 use card::Outcome;
 use card::Port;
@@ -40,7 +41,7 @@ pub fn read_sound(
 {
     let block = o.block as usize;
     let bytes = info.bytes;
-    let bad = (out.len() != bytes) | (86400 < o.interval);
+    let bad = (out.len() != bytes) | (LONGEST_INTERVAL < o.interval);
     if bad {
         return outcomes::refused(info, Refusal::BadOperand);
     }
@@ -86,7 +87,7 @@ pub fn write_sound(
 {
     let block = o.block as usize;
     let bytes = info.bytes;
-    let bad = (input.len() != bytes) | (86400 < o.interval);
+    let bad = (input.len() != bytes) | (LONGEST_INTERVAL < o.interval);
     if bad {
         return outcomes::refused(info, Refusal::BadOperand);
     }

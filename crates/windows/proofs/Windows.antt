@@ -1,14 +1,14 @@
 -- Windows set and opened, on the card and on the list of windows alone.
 -- Assumes nothing.
 use Prim.Native.Nat.{ℕ, _+_, _*_, _<_, _≤_}
-use mathlib.Core.Path.{_≡_, ap}
+use mathlib.Core.Path.{_≡_, refl, ap, _∙_}
 use mathlib.Core.Bool.{Bool, true, false, cond}
 use mathlib.Core.List.{List, [], _∷_}
 use native.Mathlib.Omega.{arith}
 use lib.ListN.{set}
 use lib.Dec.{eqb}
 use borrow.Author.Tests.{eq-eqb, ne-eqb}
-use Rattle.card.specs.Card.{Card, card, windowAt}
+use Rattle.card.specs.Card.{Public, Card, card, windowAt}
 use Rattle.card.specs.Plan.{setWindow, changes, change, changePublic, changeKeys, changeContents}
 use Rattle.card.specs.Calls.{windowAfter, opensWindow}
 use Rattle.card.specs.declared.Info.{Info}
@@ -31,6 +31,16 @@ at-within Writing b n e h = omega arith
 abbrev pub windowed : Info → List ℕ → Card
 windowed info windows = card info [] [] [] [] windows []
 
+-- The end that a window gets is that on the whole card.
+pub after-whole : (p : Public) (mode : Mode) (b interval : ℕ) → windowAfter (windowed (p .info) (p .windows) .public) mode b interval ≡ windowAfter p mode b interval
+unfolding windowAfter
+after-whole p mode b interval = refl
+
+pub after-set : (info : Info) (windows : List ℕ) (mode : Mode) (b interval : ℕ) {at : ℕ} → at ≡ windowAt mode b
+    → set windows at (info .time + interval) ≡ set windows (windowAt mode b) (windowAfter (windowed info windows .public) mode b interval)
+unfolding windowAfter
+after-set info windows mode b interval e = rw e
+
 module _ (info : Info) (windows : List ℕ) (mode : Mode) (b interval : ℕ) {port : Port} where
   pub opened-service : port ≡ Service → windowed info windows ≡ changes (windowed info windows) (opensWindow port (windowed info windows .public) mode b interval)
   unfolding changes opensWindow
@@ -40,9 +50,9 @@ module _ (info : Info) (windows : List ℕ) (mode : Mode) (b interval : ℕ) {po
   unfolding changes opensWindow
   opened-none e z = rw (e, eq-eqb interval 0 z)
 
-  pub opened-host : port ≡ Host → (interval ≡ 0 → ⊥) → {after : List ℕ} → after ≡ set windows (windowAt mode b) (info .time + interval)
+  pub opened-host : port ≡ Host → (interval ≡ 0 → ⊥) → {after : List ℕ} → after ≡ set windows (windowAt mode b) (windowAfter (windowed info windows .public) mode b interval)
       → windowed info after ≡ changes (windowed info windows) (opensWindow port (windowed info windows .public) mode b interval)
-  unfolding changes change changePublic changeKeys changeContents opensWindow windowAfter
+  unfolding changes change changePublic changeKeys changeContents opensWindow
   opened-host e z w = rw (e, ne-eqb interval 0 z, w)
 
 -- What opening does to the windows, it does on the whole card.
@@ -53,9 +63,11 @@ module _ (c : Card) (mode : Mode) (b interval : ℕ) where
   by-test : (t : Bool) {windows : List ℕ}
       → windowed (c .public .info) windows ≡ changes (windowed (c .public .info) (c .public .windows)) (cond t [] (setWindow mode b (windowAfter (windowed (c .public .info) (c .public .windows) .public) mode b interval) ∷ []))
       → after c windows ≡ changes c (cond t [] (setWindow mode b (windowAfter (c .public) mode b interval) ∷ []))
-  unfolding changes change changePublic changeKeys changeContents windowAfter
+  unfolding changes change changePublic changeKeys changeContents
   by-test true e = ap (λ (k : Card). after c (k .public .windows)) e
-  by-test false e = ap (λ (k : Card). after c (k .public .windows)) e
+  by-test false e =
+      ap (λ (k : Card). after c (k .public .windows)) e
+      ∙ ap (λ (end : ℕ). after c (set (c .public .windows) (windowAt mode b) end)) (after-whole (c .public) mode b interval)
 
   pub opened-whole : (port : Port) {windows : List ℕ}
       → windowed (c .public .info) windows ≡ changes (windowed (c .public .info) (c .public .windows)) (opensWindow port (windowed (c .public .info) (c .public .windows) .public) mode b interval)
@@ -66,6 +78,3 @@ module _ (c : Card) (mode : Mode) (b interval : ℕ) where
     where
       opened-service-whole : {windows : List ℕ} → windowed (c .public .info) windows ≡ changes (windowed (c .public .info) (c .public .windows)) [] → after c windows ≡ changes c []
       opened-service-whole e = ap (λ (k : Card). after c (k .public .windows)) e
-
-pub set-at : (windows : List ℕ) (end : ℕ) {at place : ℕ} → at ≡ place → set windows at end ≡ set windows place end
-set-at windows end e = rw e

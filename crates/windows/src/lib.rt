@@ -9,7 +9,7 @@ ghost use lib.ListN.{length, set};
 ghost use Rattle.card.specs.Card.{card, windowAt};
 ghost use Rattle.card.specs.Soundness.{timeLimit};
 ghost use Rattle.card.specs.Plan.{changes};
-ghost use Rattle.card.specs.Calls.{opensWindow};
+ghost use Rattle.card.specs.Calls.{windowAfter, opensWindow};
 
 // Where the block's window for the mode stands in its table.
 fn window_at(mode: Mode, block: usize) -> usize
@@ -22,10 +22,12 @@ fn window_at(mode: Mode, block: usize) -> usize
     }
 }
 
-pub fn set_window(windows: &mut [u64], mode: Mode, block: usize, end: u64)
-    requires { ⌜ (block < 65536) × (2 * block + 2 ≤ length (now windows)) ⌝ }
-    ensures { λ _. ⌜ now (windows .exit) ≡ set (now (windows .entry)) (windowAt mode block) end ⌝ }
+// The window gets the end that an interval gives it.
+pub fn set_window(info: Info, windows: &mut [u64], mode: Mode, block: usize, interval: u32)
+    requires { ⌜ (info .time < timeLimit) × ((block < 65536) × (2 * block + 2 ≤ length (now windows))) ⌝ }
+    ensures { λ _. ⌜ now (windows .exit) ≡ set (now (windows .entry)) (windowAt mode block) (windowAfter (card info [] [] [] [] (now (windows .entry)) [] .public) mode block interval) ⌝ }
 {
+    let end = info.time + (interval as u64);
     let at = window_at(mode, block);
     windows[at] = end;
 }
@@ -47,7 +49,7 @@ pub fn open_window(
             if interval == 0 {
                 return;
             }
-            set_window(windows, mode, block, info.time + (interval as u64));
+            set_window(info, windows, mode, block, interval);
         }
         Port::Service => {}
     }

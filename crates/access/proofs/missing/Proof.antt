@@ -8,11 +8,14 @@ use Rattle.access.proofs.missing.Tie as tie
 returns : tie.Need-returns
 returns c = missing-above _ _ (c .if1 .taken)
 
-shared-slice-read-result : tie.Need-shared-slice-read-result
-shared-slice-read-result c = search needs
+shared-slice-read-allocated : tie.Need-shared-slice-read-allocated
+shared-slice-read-allocated c = search needs
+
+allocated-requires : tie.Need-allocated-requires
+allocated-requires c κs = search needs
 
 returns-2 : tie.Need-returns-2
-returns-2 c = missing-below _ _ (c .before .if1 .left)
+returns-2 c = missing-below _ _ (c .before .before .if1 .left) (c .allocated .ensures)
 
 pub missing-spec : {M : Type 1} → statement M
-missing-spec = tie.close (tie.spec returns shared-slice-read-result returns-2)
+missing-spec = tie.close (tie.spec returns shared-slice-read-allocated allocated-requires returns-2)

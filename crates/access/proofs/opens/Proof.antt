@@ -3,7 +3,7 @@
 use mathlib.Core.Path.{refl}
 use native.Mathlib.Omega.{arith}
 use borrow.Author.Needs.{needs}
-use Rattle.access.proofs.Answers.{nothing-opens, reference-refused, reference-opens, key-opens, key-refused}
+use Rattle.access.proofs.Answers.{nothing-opens, reference-refused, reference-opens, key-opens, keyless-refused}
 use Rattle.access.proofs.opens.Statement.{statement}
 use Rattle.access.proofs.opens.Tie as tie
 
@@ -41,7 +41,7 @@ returns-4 : tie.Need-returns-4
 returns-4 c = reference-opens _ _ _ (c .before .before .before .before .before .before .has-key .ensures) (c .before .before .before .credential .given .1) (c .before .if1 .left) (c .reference-opens .ensures)
 
 returns-5 : tie.Need-returns-5
-returns-5 c = key-refused _ _ _ (c .before .before .before .before .before .has-key .ensures) (c .before .before .credential2 .given .1) (c .if2 .left)
+returns-5 c = keyless-refused _ _ _ (c .before .before .before .before .before .has-key .ensures) (c .before .before .credential2 .given .1) (c .if2 .left)
 
 pub opens-spec : {M : Type 1} → statement M
 opens-spec =

@@ -10,11 +10,14 @@ use Rattle.access.proofs.reference_opens.Tie as tie
 returns : tie.Need-returns
 returns c = reference-outside _ _ _ _ (c .if1 .taken)
 
-shared-slice-read-if2 : tie.Need-shared-slice-read-if2
-shared-slice-read-if2 c = omega arith
+shared-slice-read-allocated : tie.Need-shared-slice-read-allocated
+shared-slice-read-allocated c = omega arith
+
+allocated-requires : tie.Need-allocated-requires
+allocated-requires c κs = tt
 
 returns-2 : tie.Need-returns-2
-returns-2 c = reference-unallocated _ _ _ _ (c .if2 .taken)
+returns-2 c = reference-unallocated _ _ _ _ (c .before .allocated .ensures) (c .if2 .taken)
 
 mul-pointer : tie.Need-mul-pointer
 mul-pointer c = omega arith
@@ -26,23 +29,24 @@ add-pointer : tie.Need-add-pointer
 add-pointer c = omega arith
 
 holds-requires : tie.Need-holds-requires
-holds-requires c κs = c .before .before .before .before .before .before .before .pre .sorted
+holds-requires c κs = c .before .before .before .before .before .before .before .before .pre .sorted
 
 window-open-requires : tie.Need-window-open-requires
 window-open-requires c κs = omega arith
 
 returns-3 : tie.Need-returns-3
 returns-3 c =
-    let at = c .before .before .before .before .before .before .before .before .before .args in
+    let at = c .before .before .before .before .before .before .before .before .before .before .args in
     reference-followed (card (at .info) (at .flags .now) [] [] (at .pointers .now) (at .windows .now) [] .public) (at .mode) (at .block) (at .reference)
-    (c .before .before .before .before .if1 .left) (c .before .before .if2 .left) (c .before .holds .ensures) (c .window-open .ensures)
+    (c .before .before .before .before .before .if1 .left) (c .before .before .before .allocated .ensures) (c .before .before .if2 .left) (c .before .holds .ensures) (c .window-open .ensures)
 
 pub reference-opens-spec : {M : Type 1} → statement M
 reference-opens-spec =
     tie.close
     (tie.spec
     returns
-    shared-slice-read-if2
+    shared-slice-read-allocated
+    allocated-requires
     returns-2
     mul-pointer
     cast-pointer

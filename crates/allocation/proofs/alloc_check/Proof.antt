@@ -4,7 +4,7 @@ use native.Mathlib.Omega.{arith}
 use Rattle.card.specs.Card.{card}
 use Rattle.checks.specs.CheckedLaws.{check-refused, check-passed}
 use Rattle.access.proofs.Blocks.{access-there}
-use Rattle.allocation.proofs.Allocating.{bad-operand, reference-missing, root-reference, reference-shut, too-few-blocks, too-few-places, passes}
+use Rattle.allocation.proofs.Allocating.{bad-operand, reference-missing, root-reference, reference-shut, too-few-blocks, too-few-places, alloc-passes}
 use Rattle.allocation.proofs.alloc_check.Statement.{statement}
 use Rattle.allocation.proofs.alloc_check.Tie as tie
 
@@ -103,7 +103,7 @@ returns-7 c =
     let at-if1 = at-missing .before in
     let at-bad-operands = at-if1 .before in
     let start = at-bad-operands .before .before .before .before .before .before .before .before .before .before in
-    let a = start .args in let k = card (a .info) (a .flags .now) (a .keys .now) (a .counts .now) (a .pointers .now) (a .windows .now) (a .contents .now) in check-passed (a .port) k _ (passes (a .port) k (a .o) (a .places .now) (at-bad-operands .bad-operands .ensures) (at-if1 .if1 .left) (at-missing .missing .ensures) (at-if2 .if2 .left) (at-root-at-host .root-at-host .ensures) (at-if3 .if3 .left) (at-admits .admits .ensures) (at-if4 .if4 .left) (start .pre) (at-count-free .count-free .ensures) (at-if5 .if5 .left) (c .if6 .left))
+    let a = start .args in let k = card (a .info) (a .flags .now) (a .keys .now) (a .counts .now) (a .pointers .now) (a .windows .now) (a .contents .now) in check-passed (a .port) k _ (alloc-passes (a .port) k (a .o) (a .places .now) (at-bad-operands .bad-operands .ensures) (at-if1 .if1 .left) (at-missing .missing .ensures) (at-if2 .if2 .left) (at-root-at-host .root-at-host .ensures) (at-if3 .if3 .left) (at-admits .admits .ensures) (at-if4 .if4 .left) (start .pre) (at-count-free .count-free .ensures) (at-if5 .if5 .left) (c .if6 .left))
 
 pub alloc-check-spec : {M : Type 1} → statement M
 alloc-check-spec =

@@ -6,7 +6,7 @@ use Rattle.card.specs.Card.{card}
 use Rattle.card.specs.Session.{performSound}
 use Rattle.checks.specs.CheckedLaws.{refused-check, passed-check}
 use Rattle.outcomes.proofs.Returned.{refuses}
-use Rattle.allocation.proofs.Allocating.{ready, took}
+use Rattle.allocation.proofs.Allocating.{can-take-all, alloc-done}
 use borrow.Author.Needs.{needs}
 use Rattle.allocation.proofs.alloc_sound.Statement.{statement}
 use Rattle.allocation.proofs.alloc_sound.Tie as tie
@@ -35,7 +35,7 @@ take-all-requires c κs =
     let at-enum-told = at-wanted .before in
     let at-alloc-check = at-enum-told .before .before in
     let start = at-alloc-check .before .before .before .before .before .before .before .before .before .before .before .before .before in
-    let a = start .args in let k = card (a .info) (a .flags .now) (a .keys .now) (a .counts .now) (a .pointers .now) (a .windows .now) (a .contents .now) in ready (a .port) k (a .o) (a .places .now) (start .pre) (passed-check (a .port) k _ (at-alloc-check .alloc-check .ensures) (at-enum-told .enum-told .given .1)) (at-wanted .wanted .ensures)
+    let a = start .args in let k = card (a .info) (a .flags .now) (a .keys .now) (a .counts .now) (a .pointers .now) (a .windows .now) (a .contents .now) in can-take-all (a .port) k (a .o) (a .places .now) (start .pre) (passed-check (a .port) k _ (at-alloc-check .alloc-check .ensures) (at-enum-told .enum-told .given .1)) (at-wanted .wanted .ensures)
 
 done-requires : tie.Need-done-requires
 done-requires c κs = tt
@@ -81,7 +81,7 @@ returns-2 c =
     let at-enum-told = at-wanted .before in
     let at-alloc-check = at-enum-told .before .before in
     let start = at-alloc-check .before .before .before .before .before .before .before .before .before .before .before .before .before in
-    let a = start .args in let k = card (a .info) (a .flags .now) (a .keys .now) (a .counts .now) (a .pointers .now) (a .windows .now) (a .contents .now) in took (a .port) k (a .o) (a .places .now) (passed-check (a .port) k _ (at-alloc-check .alloc-check .ensures) (at-enum-told .enum-told .given .1)) (at-wanted .wanted .ensures) (c .done .ensures) (at-take-all .take-all .ensures)
+    let a = start .args in let k = card (a .info) (a .flags .now) (a .keys .now) (a .counts .now) (a .pointers .now) (a .windows .now) (a .contents .now) in alloc-done (a .port) k (a .o) (a .places .now) (passed-check (a .port) k _ (at-alloc-check .alloc-check .ensures) (at-enum-told .enum-told .given .1)) (at-wanted .wanted .ensures) (c .done .ensures) (at-take-all .take-all .ensures)
 
 pub alloc-sound-spec : {M : Type 1} → statement M
 alloc-sound-spec =

@@ -2,7 +2,7 @@
 -- Assumes nothing.
 use mathlib.Core.Logic.{inl, inr}
 use native.Mathlib.Omega.{arith}
-use Rattle.allocation.proofs.Walking.{next-up, next-down, next-nearer}
+use Rattle.allocation.proofs.Outward.{next-up, next-down, next-nearer}
 use borrow.Author.Needs.{needs}
 use Rattle.allocation.proofs.next.Statement.{statement}
 use Rattle.allocation.proofs.next.Tie as tie

@@ -1,7 +1,7 @@
 -- `allocation::take` leaves the tables with one block more taken.
 -- Assumes nothing.
 use native.Mathlib.Omega.{arith}
-use Rattle.allocation.proofs.Taking.{taken}
+use Rattle.allocation.proofs.Taking.{block-taken}
 use borrow.Author.Needs.{needs}
 use Rattle.allocation.proofs.take.Statement.{statement}
 use Rattle.allocation.proofs.take.Tie as tie
@@ -52,7 +52,7 @@ same-length-3 : tie.Need-same-length-3
 same-length-3 c = search needs
 
 returns : tie.Need-returns
-returns c = taken (c .before .before .before .before .before .before .before .before .pre) (c .before .before .before .clear .ensures)
+returns c = block-taken (c .before .before .before .before .before .before .before .before .pre) (c .before .before .before .clear .ensures)
 
 pub take-spec : {M : Type 1} → statement M
 take-spec =

@@ -4,7 +4,7 @@ use Prim.Native.Nat.{_+_, _-_}
 use mathlib.Core.Path.{refl, sym}
 use native.Mathlib.Omega.{arith}
 use Rattle.card.specs.Card.{card}
-use Rattle.allocation.proofs.Walking.{ready-low, walked-spread, next-below, next-narrow, walked-fewer, takeable, flags-same, counts-same, contents-same}
+use Rattle.allocation.proofs.Outward.{few-taken, walked-spread, next-below, next-narrow, walked-fewer, can-take, flags-same, counts-same, contents-same}
 use Rattle.allocation.proofs.Collecting.{Collected, collected-start, collected-passed, addable, collected-taken, mergeable, collected-whole}
 use Rattle.allocation.proofs.take_all.Statement.{statement}
 use Rattle.allocation.proofs.take_all.Tie as tie
@@ -31,11 +31,14 @@ low-after-requires c κs = tt
 high-after-requires : tie.Need-high-after-requires Inv-loop μ-loop
 high-after-requires c κs = next-narrow (c .before .before .before .loop .inv .walked) (c .before .next .ensures)
 
-slice-read-if1 : tie.Need-slice-read-if1 Inv-loop μ-loop
-slice-read-if1 c = next-below (c .before .before .before .before .before .loop .inv .walked) (c .before .before .before .next .ensures)
+slice-read-allocated : tie.Need-slice-read-allocated Inv-loop μ-loop
+slice-read-allocated c = next-below (c .before .before .before .before .before .loop .inv .walked) (c .before .before .before .next .ensures)
+
+allocated-requires : tie.Need-allocated-requires Inv-loop μ-loop
+allocated-requires c κs = tt
 
 cast-number : tie.Need-cast-number Inv-loop μ-loop
-cast-number c = omega (arith, next-narrow (c .before .before .before .before .before .before .loop .inv .walked) (c .before .before .before .before .next .ensures))
+cast-number c = omega (arith, next-narrow (c .before .before .before .before .before .before .before .loop .inv .walked) (c .before .before .before .before .before .next .ensures))
 
 mul-pointer : tie.Need-mul-pointer Inv-loop μ-loop
 mul-pointer c = omega arith
@@ -44,39 +47,38 @@ cast-pointer : tie.Need-cast-pointer Inv-loop μ-loop
 cast-pointer c = omega arith
 
 add-pointer : tie.Need-add-pointer Inv-loop μ-loop
-add-pointer c = omega (arith, next-narrow (c .before .before .before .before .before .before .loop .inv .walked) (c .before .before .before .before .next .ensures))
+add-pointer c = omega (arith, next-narrow (c .before .before .before .before .before .before .before .loop .inv .walked) (c .before .before .before .before .before .next .ensures))
 
 take-requires : tie.Need-take-requires Inv-loop μ-loop
 take-requires c κs =
     let at-if1 = c .before .before .before in
-    let at-next = at-if1 .before .before .before .before in
-    let at-loop-test = at-next .before in
-    let at-loop = at-loop-test .before in
-    takeable (at-loop .loop .inv .walked) (at-next .next .ensures) (at-loop-test .loop-test .taken) (at-if1 .if1 .taken)
+    let at-next = at-if1 .before .before .before .before .before in
+    let at-loop = at-next .before .before in
+    can-take (at-loop .loop .inv .walked) (at-next .next .ensures)
 
 slice-aggregate-insert : tie.Need-slice-aggregate-insert Inv-loop μ-loop
-slice-aggregate-insert c = sym (c .before .before .before .before .before .before .before .before .before .before .before .before .before .before .before .before .before .loop .inv .size)
+slice-aggregate-insert c = sym (c .before .before .before .before .before .before .before .before .before .before .before .before .before .before .before .before .before .before .loop .inv .size)
 
 insert-requires : tie.Need-insert-requires Inv-loop μ-loop
 insert-requires c κs =
     let at-if1 = c .before .before .before .before .before .before .before .before .before .before .before in
-    let at-next = at-if1 .before .before .before .before in
+    let at-next = at-if1 .before .before .before .before .before in
     let at-loop-test = at-next .before in
     let at-loop = at-loop-test .before in
-    addable (at-loop .loop .inv) (at-next .next .ensures) (at-loop-test .loop-test .taken) (at-if1 .if1 .taken)
+    addable (at-loop .loop .inv) (at-next .next .ensures) (at-loop-test .loop-test .taken) (at-if1 .before .allocated .ensures) (at-if1 .if1 .taken)
 
 mul-places : tie.Need-mul-places Inv-loop μ-loop
-mul-places c = omega (arith, c .before .before .before .before .before .before .before .before .before .before .before .before .before .before .before .before .before .before .loop-test .taken, ready-low (c .before .before .before .before .before .before .before .before .before .before .before .before .before .before .before .before .before .before .before .before .before .before .before .before .before .before .before .pre .0))
+mul-places c = omega (arith, c .before .before .before .before .before .before .before .before .before .before .before .before .before .before .before .before .before .before .before .loop-test .taken, few-taken (c .before .before .before .before .before .before .before .before .before .before .before .before .before .before .before .before .before .before .before .before .before .before .before .before .before .before .before .before .pre .0))
 
 slice-write-places : tie.Need-slice-write-places Inv-loop μ-loop
-slice-write-places c = omega (arith, c .before .before .before .before .before .before .before .before .before .before .before .before .before .before .before .before .before .before .loop-test .taken, c .before .before .before .before .before .before .before .before .before .before .before .before .before .before .before .before .before .before .before .loop .inv .walked .fits, c .before .before .before .before .before .before .before .before .before .before .before .before .before .before .before .before .before .before .before .loop .inv .walked .samePlaces)
+slice-write-places c = omega (arith, c .before .before .before .before .before .before .before .before .before .before .before .before .before .before .before .before .before .before .before .loop-test .taken, c .before .before .before .before .before .before .before .before .before .before .before .before .before .before .before .before .before .before .before .before .loop .inv .walked .fits, c .before .before .before .before .before .before .before .before .before .before .before .before .before .before .before .before .before .before .before .before .loop .inv .walked .samePlaces)
 
 add-taken : tie.Need-add-taken Inv-loop μ-loop
-add-taken c = omega (arith, c .before .before .before .before .before .before .before .before .before .before .before .before .before .before .before .before .before .before .loop-test .taken, ready-low (c .before .before .before .before .before .before .before .before .before .before .before .before .before .before .before .before .before .before .before .before .before .before .before .before .before .before .before .pre .0))
+add-taken c = omega (arith, c .before .before .before .before .before .before .before .before .before .before .before .before .before .before .before .before .before .before .before .loop-test .taken, few-taken (c .before .before .before .before .before .before .before .before .before .before .before .before .before .before .before .before .before .before .before .before .before .before .before .before .before .before .before .before .pre .0))
 
 loop-less : tie.Need-loop-less Inv-loop μ-loop
 loop-less c =
-    let at-high-after = c .before .before .before .before .before .before .before .before .before .before .before .before .before .before .before in
+    let at-high-after = c .before .before .before .before .before .before .before .before .before .before .before .before .before .before .before .before in
     let at-low-after = at-high-after .before in
     let at-next = at-low-after .before in
     let at-loop = at-next .before .before in
@@ -86,16 +88,16 @@ loop-again : tie.Need-loop-again Inv-loop μ-loop
 loop-again c =
     let at-take = c .before .before .before .before .before .before .before .before .before in
     let at-if1 = at-take .before .before .before .before in
-    let at-high-after = at-if1 .before .before in
+    let at-high-after = at-if1 .before .before .before in
     let at-low-after = at-high-after .before in
     let at-next = at-low-after .before in
     let at-loop-test = at-next .before in
     let at-loop = at-loop-test .before in
-    collected-taken (at-loop .loop .inv) (at-next .next .ensures) (at-loop-test .loop-test .taken) (at-if1 .if1 .taken) (at-take .take .ensures) (c .before .insert .ensures) (at-low-after .low-after .ensures) (at-high-after .high-after .ensures)
+    collected-taken (at-loop .loop .inv) (at-next .next .ensures) (at-loop-test .loop-test .taken) (at-if1 .before .allocated .ensures) (at-if1 .if1 .taken) (at-take .take .ensures) (c .before .insert .ensures) (at-low-after .low-after .ensures) (at-high-after .high-after .ensures)
 
 loop-less-2 : tie.Need-loop-less-2 Inv-loop μ-loop
 loop-less-2 c =
-    let at-high-after = c .before .before in
+    let at-high-after = c .before .before .before in
     let at-low-after = at-high-after .before in
     let at-next = at-low-after .before in
     let at-loop = at-next .before .before in
@@ -103,11 +105,11 @@ loop-less-2 c =
 
 loop-again-2 : tie.Need-loop-again-2 Inv-loop μ-loop
 loop-again-2 c =
-    let at-high-after = c .before .before in
+    let at-high-after = c .before .before .before in
     let at-low-after = at-high-after .before in
     let at-next = at-low-after .before in
     let at-loop = at-next .before .before in
-    collected-passed (at-loop .loop .inv) (at-next .next .ensures) (c .if1 .left) (at-low-after .low-after .ensures) (at-high-after .high-after .ensures)
+    collected-passed (at-loop .loop .inv) (at-next .next .ensures) (c .before .allocated .ensures) (c .if1 .left) (at-low-after .low-after .ensures) (at-high-after .high-after .ensures)
 
 slice-aggregate-merge : tie.Need-slice-aggregate-merge Inv-loop μ-loop
 slice-aggregate-merge c = sym (c .before .before .before .loop .inv .size)
@@ -163,7 +165,8 @@ take-all-spec =
     next-requires
     low-after-requires
     high-after-requires
-    slice-read-if1
+    slice-read-allocated
+    allocated-requires
     cast-number
     mul-pointer
     cast-pointer

@@ -1,7 +1,7 @@
 -- `audit::block_sound` is the clauses of one block. Assumes nothing.
 use borrow.Author.Needs.{needs}
 use Rattle.audit.specs.Walks.{rowed}
-use Rattle.audit.proofs.Forms.{sound-block}
+use Rattle.audit.proofs.BlockTests.{sound-block}
 use Rattle.audit.proofs.block_sound.Statement.{statement}
 use Rattle.audit.proofs.block_sound.Tie as tie
 
@@ -32,6 +32,15 @@ mul-writing c = search needs
 shared-slice-read-writing : tie.Need-shared-slice-read-writing
 shared-slice-read-writing c = search needs
 
+allocated-requires : tie.Need-allocated-requires
+allocated-requires c κs = search needs
+
+has-key-requires : tie.Need-has-key-requires
+has-key-requires c κs = search needs
+
+has-key-requires-2 : tie.Need-has-key-requires-2
+has-key-requires-2 c κs = search needs
+
 mul-zero-words : tie.Need-mul-zero-words
 mul-zero-words c = search needs
 
@@ -47,11 +56,20 @@ add-zero-words c = search needs
 zero-words-requires-2 : tie.Need-zero-words-requires-2
 zero-words-requires-2 c κs = search needs
 
+cast-latest : tie.Need-cast-latest
+cast-latest c = search needs
+
 add-latest : tie.Need-add-latest
 add-latest c = search needs
 
 returns : tie.Need-returns
-returns c = let a = c .before .before .before .before .before .before .before .before .before .before .before .before .args in sound-block (rowed (a .info) (a .flags .now) (a .keys .now) (a .counts .now) (a .windows .now)) (a .tallied) (a .b) (c .before .before .zero-words .ensures) (c .before .zero-words2 .ensures)
+returns c =
+    let at-zero-words = c .before .before in
+    let at-allocated = at-zero-words .before .before .before in
+    let a = at-allocated .before .before .before .before .before .before .before .before .before .before .args in
+    sound-block (rowed (a .info) (a .flags .now) (a .keys .now) (a .counts .now) (a .windows .now)) (a .tallied) (a .b)
+    (at-allocated .allocated .ensures) (at-zero-words .before .before .has-key .ensures) (at-zero-words .before .has-key2 .ensures)
+    (at-zero-words .zero-words .ensures) (c .before .zero-words2 .ensures)
 
 pub block-sound-spec : {M : Type 1} → statement M
 block-sound-spec =
@@ -66,10 +84,14 @@ block-sound-spec =
     add-writing
     mul-writing
     shared-slice-read-writing
+    allocated-requires
+    has-key-requires
+    has-key-requires-2
     mul-zero-words
     zero-words-requires
     mul-zero-words-2
     add-zero-words
     zero-words-requires-2
+    cast-latest
     add-latest
     returns)

@@ -2,18 +2,21 @@
 use borrow.Author.Needs.{needs}
 use Rattle.audit.specs.Walks.{pointing}
 use mathlib.Core.List.{[]}
-use Rattle.audit.proofs.Forms.{allocated-below, allocated-above}
+use Rattle.audit.proofs.BlockTests.{allocated-inside, allocated-outside}
 use Rattle.audit.proofs.is_allocated.Statement.{statement}
 use Rattle.audit.proofs.is_allocated.Tie as tie
 
-shared-slice-read-result : tie.Need-shared-slice-read-result
-shared-slice-read-result c = search needs
+shared-slice-read-allocated : tie.Need-shared-slice-read-allocated
+shared-slice-read-allocated c = search needs
+
+allocated-requires : tie.Need-allocated-requires
+allocated-requires c κs = search needs
 
 returns : tie.Need-returns
-returns c = let a = c .before .before .before .args in allocated-below (pointing (a .info) (a .flags .now) []) (a .b) (c .before .if1 .taken)
+returns c = let a = c .before .before .before .before .before .args in allocated-inside (pointing (a .info) (a .flags .now) []) (a .b) (c .before .before .if1 .taken) (c .allocated .ensures)
 
 returns-2 : tie.Need-returns-2
-returns-2 c = let a = c .before .before .args in allocated-above (pointing (a .info) (a .flags .now) []) (a .b) (c .if1 .left)
+returns-2 c = let a = c .before .before .before .args in allocated-outside (pointing (a .info) (a .flags .now) []) (a .b) (c .if1 .left)
 
 pub is-allocated-spec : {M : Type 1} → statement M
-is-allocated-spec = tie.close (tie.spec shared-slice-read-result returns returns-2)
+is-allocated-spec = tie.close (tie.spec shared-slice-read-allocated allocated-requires returns returns-2)

@@ -2,7 +2,7 @@
 use borrow.Author.Needs.{needs}
 use Rattle.audit.specs.Walks.{pointing}
 use mathlib.Core.List.{[]}
-use Rattle.audit.proofs.Forms.{right-pointer}
+use Rattle.audit.proofs.BlockTests.{right-pointer}
 use Rattle.audit.proofs.pointer_right.Statement.{statement}
 use Rattle.audit.proofs.pointer_right.Tie as tie
 

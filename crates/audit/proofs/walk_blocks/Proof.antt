@@ -5,12 +5,12 @@ use Prim.Native.Nat.{_-_}
 use mathlib.Core.Path.{ap, sym, _∙_}
 use lib.ListN.{getD}
 use Rattle.audit.specs.Walks.{rowed, blockSound, judged}
-use Rattle.audit.proofs.Passing.{Passed, passed-none, passed-more, passed-fault, passed-whole}
+use Rattle.audit.proofs.Passing.{PassedBelow, passed-none, passed-more, passed-fault, passed-whole}
 use Rattle.audit.proofs.walk_blocks.Statement.{statement}
 use Rattle.audit.proofs.walk_blocks.Tie as tie
 
 abbrev Inv-loop : tie.InvT-loop
-Inv-loop info flags keys counts windows tally blocks b₀ b = Passed (λ k. blockSound (rowed info flags keys counts windows) (getD tally k 0) k) (info .blocks) b
+Inv-loop info flags keys counts windows tally blocks b₀ b = PassedBelow (λ k. blockSound (rowed info flags keys counts windows) (getD tally k 0) k) (info .blocks) b
 
 abbrev μ-loop : tie.MeasureT-loop
 μ-loop info flags keys counts windows tally blocks b₀ b = info .blocks - b

@@ -3,12 +3,12 @@ use borrow.Author.Needs.{needs}
 use native.Mathlib.Omega.{arith}
 use Prim.Native.Nat.{_-_}
 use mathlib.Core.Logic.{⊎-elim}
-use Rattle.audit.proofs.Tallying.{WalkingAt, walk-none, placed, room, walk-more, walk-fault, walk-whole}
+use Rattle.audit.proofs.Tallying.{TalliedAt, walk-none, placed, room, walk-more, walk-fault, walk-whole}
 use Rattle.audit.proofs.walk_pointers.Statement.{statement}
 use Rattle.audit.proofs.walk_pointers.Tie as tie
 
 abbrev Inv-walk : tie.InvT-walk
-Inv-walk info flags pointers tally₀ used least₀ i₀ tally least i = WalkingAt info flags pointers tally least i
+Inv-walk info flags pointers tally₀ used least₀ i₀ tally least i = TalliedAt info flags pointers tally least i
 
 abbrev μ-walk : tie.MeasureT-walk
 μ-walk info flags pointers tally₀ used least₀ i₀ tally least i = info .used - i

@@ -6,12 +6,12 @@ use mathlib.Core.Logic.{⊎-elim}
 use lib.Dec.{eqb}
 use lib.ListN.{length}
 use borrow.Author.Tests.{eq-eqb, ne-eqb}
-use Rattle.audit.proofs.Passing.{Left, left-more, left-fault, left-whole}
+use Rattle.audit.proofs.Passing.{Remaining, remaining-more, remaining-fault, remaining-whole}
 use Rattle.audit.proofs.walk_unused.Statement.{statement}
 use Rattle.audit.proofs.walk_unused.Tie as tie
 
 abbrev Inv-walk : tie.InvT-walk
-Inv-walk pointers used places i₀ i = Left (λ w. eqb w 0) pointers used i
+Inv-walk pointers used places i₀ i = Remaining (λ w. eqb w 0) pointers used i
 
 abbrev μ-walk : tie.MeasureT-walk
 μ-walk pointers used places i₀ i = length pointers - i
@@ -32,10 +32,10 @@ walk-less : tie.Need-walk-less Inv-walk μ-walk
 walk-less c = search needs
 
 walk-again : tie.Need-walk-again Inv-walk μ-walk
-walk-again c = left-more (c .before .before .before .walk .inv) (c .before .before .walk-test .taken) (eq-eqb _ _ (c .if1 .taken))
+walk-again c = remaining-more (c .before .before .before .walk .inv) (c .before .before .walk-test .taken) (eq-eqb _ _ (c .if1 .taken))
 
 returns : tie.Need-returns Inv-walk μ-walk
-returns c = let h = c .before .walk .inv in ⊎-elim (λ w. left-whole h (w .left)) (λ w. left-fault h (w .0 .taken) (ne-eqb _ _ (w .2 .left))) (c .walk-test .came)
+returns c = let h = c .before .walk .inv in ⊎-elim (λ w. remaining-whole h (w .left)) (λ w. remaining-fault h (w .0 .taken) (ne-eqb _ _ (w .2 .left))) (c .walk-test .came)
 
 pub walk-unused-spec : {M : Type 1} → statement M
 walk-unused-spec =

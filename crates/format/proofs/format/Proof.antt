@@ -4,16 +4,21 @@ use Prim.Native.Nat.{_*_}
 use native.Mathlib.Omega.{arith}
 use mathlib.Core.Path.{sym}
 use lib.Seq.{length-take-le}
-use Rattle.format.proofs.Fresh.{front-cleared, format-refused, roots-within, size-low, size-within, format-done}
+use Rattle.format.proofs.Formatting.{front-cleared, format-refused, roots-within, size-low, size-within, format-done}
 use borrow.Author.Needs.{needs}
 use Rattle.format.proofs.format.Statement.{statement}
 use Rattle.format.proofs.format.Tie as tie
+
+fresh-requires : tie.Need-fresh-requires
+fresh-requires c κs = search needs
 
 shaped-requires : tie.Need-shaped-requires
 shaped-requires c κs = search needs
 
 mark-roots-requires : tie.Need-mark-roots-requires
-mark-roots-requires c κs = roots-within _ (c .before .before .shaped .ensures) (c .before .if1 .taken)
+mark-roots-requires c κs =
+    let at-shaped = c .before .before in
+    roots-within _ (at-shaped .before .before .before .before .before .before .before .fresh .ensures) (at-shaped .shaped .ensures) (c .before .if1 .taken)
 
 clear-words-requires : tie.Need-clear-words-requires
 clear-words-requires c κs = search needs
@@ -28,19 +33,22 @@ clear-words-requires-2 : tie.Need-clear-words-requires-2
 clear-words-requires-2 c κs = search needs
 
 mul-size : tie.Need-mul-size
-mul-size c = omega (arith, size-low _ (c .before .before .before .before .before .before .before .before .before .before .before .before .before .before .before .before .before .before .before .before .before .shaped .ensures) (c .before .before .before .before .before .before .before .before .before .before .before .before .before .before .before .before .before .before .before .before .if1 .taken))
+mul-size c =
+    let at-if1 = c .before .before .before .before .before .before .before .before .before .before .before .before .before .before .before .before .before .before .before .before in
+    let at-shaped = at-if1 .before in
+    omega (arith, size-low _ (at-shaped .before .before .before .before .before .before .before .fresh .ensures) (at-shaped .shaped .ensures) (at-if1 .if1 .taken))
 
 slice-relend-prefix-clear : tie.Need-slice-relend-prefix-clear
 slice-relend-prefix-clear c =
     let at-if1 = c .before .before .before .before .before .before .before .before .before .before .before .before .before .before .before .before .before .before .before .before in
     let at-shaped = at-if1 .before in
-    size-within _ (at-shaped .shaped .ensures) (at-if1 .if1 .taken)
+    size-within _ (at-shaped .before .before .before .before .before .before .before .fresh .ensures) (at-shaped .shaped .ensures) (at-if1 .if1 .taken)
 
 slice-aggregate-clear : tie.Need-slice-aggregate-clear
 slice-aggregate-clear c =
     let at-if1 = c .before .before .before .before .before .before .before .before .before .before .before .before .before .before .before .before .before .before .before .before .before in
     let at-shaped = at-if1 .before in
-    sym (length-take-le _ _ (size-within _ (at-shaped .shaped .ensures) (at-if1 .if1 .taken)))
+    sym (length-take-le _ _ (size-within _ (at-shaped .before .before .before .before .before .before .before .fresh .ensures) (at-shaped .shaped .ensures) (at-if1 .if1 .taken)))
 
 clear-requires : tie.Need-clear-requires
 clear-requires c κs = search needs
@@ -76,8 +84,9 @@ returns c =
     let at-mark-roots = at-clear-words .before .before .before .before in
     let at-if1 = at-mark-roots .before .before in
     let at-shaped = at-if1 .before in
-    let start = at-shaped .before .before .before .before .before .before .before .before .before .before .before .before .before in
-    let a = start .args in format-done _ _ _ _ (at-shaped .shaped .ensures) (at-if1 .if1 .taken) (c .done .ensures) (at-mark-roots .mark-roots .ensures) (at-clear-words .clear-words .ensures) (at-clear-counts .clear-counts .ensures) (at-clear-places .clear-places .ensures) (at-clear-words2 .clear-words2 .ensures) (front-cleared (a .contents .now) (a .roots * a .bytes) (at-clear .clear .ensures) (size-within _ (at-shaped .shaped .ensures) (at-if1 .if1 .taken)))
+    let at-fresh = at-shaped .before .before .before .before .before .before .before in
+    let start = at-fresh .before .before .before .before .before .before .before in
+    let a = start .args in format-done _ _ _ _ (at-fresh .fresh .ensures) (at-shaped .shaped .ensures) (at-if1 .if1 .taken) (c .done .ensures) (at-mark-roots .mark-roots .ensures) (at-clear-words .clear-words .ensures) (at-clear-counts .clear-counts .ensures) (at-clear-places .clear-places .ensures) (at-clear-words2 .clear-words2 .ensures) (front-cleared (a .contents .now) (a .roots * a .bytes) (at-clear .clear .ensures) (size-within _ (at-shaped .before .before .before .before .before .before .before .fresh .ensures) (at-shaped .shaped .ensures) (at-if1 .if1 .taken)))
 
 refused-requires : tie.Need-refused-requires
 refused-requires c κs = search needs
@@ -101,7 +110,7 @@ same-length-12 : tie.Need-same-length-12
 same-length-12 c = search needs
 
 returns-2 : tie.Need-returns-2
-returns-2 c = format-refused _ _ _ _ (c .before .before .shaped .ensures) (c .before .if1 .left) (c .refused .ensures)
+returns-2 c = format-refused _ _ _ _ (c .before .before .before .before .before .before .before .before .before .fresh .ensures) (c .before .before .shaped .ensures) (c .before .if1 .left) (c .refused .ensures)
 
 pub format-spec : {M : Type 1} → statement M
-format-spec = tie.close (tie.spec shaped-requires mark-roots-requires clear-words-requires clear-counts-requires clear-places-requires clear-words-requires-2 mul-size slice-relend-prefix-clear slice-aggregate-clear clear-requires done-requires same-length same-length-2 same-length-3 same-length-4 same-length-5 same-length-6 returns refused-requires same-length-7 same-length-8 same-length-9 same-length-10 same-length-11 same-length-12 returns-2)
+format-spec = tie.close (tie.spec fresh-requires shaped-requires mark-roots-requires clear-words-requires clear-counts-requires clear-places-requires clear-words-requires-2 mul-size slice-relend-prefix-clear slice-aggregate-clear clear-requires done-requires same-length same-length-2 same-length-3 same-length-4 same-length-5 same-length-6 returns refused-requires same-length-7 same-length-8 same-length-9 same-length-10 same-length-11 same-length-12 returns-2)

@@ -1,6 +1,6 @@
 -- `format::mark_roots` writes ones in front of zeros.
 -- Assumes nothing.
-use Rattle.format.proofs.Fresh.{front-count, front-marked}
+use Rattle.format.proofs.Formatting.{front-count, front-marked}
 use borrow.Author.Needs.{needs}
 use Rattle.format.proofs.mark_roots.Statement.{statement}
 use Rattle.format.proofs.mark_roots.Tie as tie

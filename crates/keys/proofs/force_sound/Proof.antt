@@ -6,7 +6,7 @@ use Rattle.card.specs.PlanLaws.{here}
 use Rattle.card.specs.Calls.{forcePlan}
 use Rattle.card.specs.Session.{plan, performSound}
 use Rattle.outcomes.proofs.Returned.{refuses, finishes}
-use Rattle.keys.proofs.Changed.{closed}
+use Rattle.keys.proofs.Changed.{closes-windows}
 use Rattle.access.proofs.Blocks.{missing-told, windows-there}
 use borrow.Author.Needs.{needs}
 use Rattle.keys.proofs.force_sound.Statement.{statement}
@@ -40,7 +40,7 @@ returns-2 c =
     let at-close-windows = c .before .before .before in
     let at-if1 = at-close-windows .before .before in
     let at-missing = at-if1 .before in
-    λ port. finishes _ _ _ (c .done .ensures) (missing-told _ _ (at-missing .missing .ensures) (at-if1 .if1 .left), tt) (closed _ _ (at-close-windows .close-windows .ensures)) refl refl
+    λ port. finishes _ _ _ (c .done .ensures) (missing-told _ _ (at-missing .missing .ensures) (at-if1 .if1 .left), tt) (closes-windows _ _ (at-close-windows .close-windows .ensures)) refl refl
 
 pub force-sound-spec : {M : Type 1} → statement M
 force-sound-spec =

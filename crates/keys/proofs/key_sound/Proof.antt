@@ -10,7 +10,7 @@ use Rattle.card.specs.Session.{plan, performSound}
 use Rattle.outcomes.proofs.Returned.{refuses, finishes}
 use Rattle.access.proofs.Blocks.{missing-told, root-told, access-there, closed-told, flag-there, keys-there, windows-there}
 use Rattle.keys.proofs.Keys.{bit-low}
-use Rattle.keys.proofs.Changed.{keyed}
+use Rattle.keys.proofs.Changed.{replaces-keys}
 use borrow.Author.Needs.{needs}
 use Rattle.keys.proofs.key_sound.Statement.{statement}
 use Rattle.keys.proofs.key_sound.Tie as tie
@@ -131,7 +131,7 @@ returns-4 c =
     let at-root-at-host = at-if2 .before in
     let at-if1 = at-root-at-host .before in
     let at-missing = at-if1 .before in
-    finishes _ _ _ (c .done .ensures) (missing-told _ _ (at-missing .missing .ensures) (at-if1 .if1 .left), (root-told _ _ _ (at-root-at-host .root-at-host .ensures) (at-if2 .if2 .left), (closed-told _ _ _ _ _ (at-admits .admits .ensures) (at-if3 .if3 .left), tt))) (keyed _ _ _ _ (at-key-bit .key-bit .ensures) (at-key-bit2 .key-bit2 .ensures) (at-replace-keys .replace-keys .ensures) (at-close-windows .close-windows .ensures)) refl refl
+    finishes _ _ _ (c .done .ensures) (missing-told _ _ (at-missing .missing .ensures) (at-if1 .if1 .left), (root-told _ _ _ (at-root-at-host .root-at-host .ensures) (at-if2 .if2 .left), (closed-told _ _ _ _ _ (at-admits .admits .ensures) (at-if3 .if3 .left), tt))) (replaces-keys _ _ _ _ (at-key-bit .key-bit .ensures) (at-key-bit2 .key-bit2 .ensures) (at-replace-keys .replace-keys .ensures) (at-close-windows .close-windows .ensures)) refl refl
 
 pub key-sound-spec : {M : Type 1} → statement M
 key-sound-spec =

@@ -1,6 +1,5 @@
 -- `keys::renew_sound` is RENEW on an audited card.
 -- Assumes nothing.
-use native.Mathlib.Omega.{arith}
 use mathlib.Core.Path.{refl}
 use Rattle.card.specs.Plan.{outAfter, placesAfter}
 use Rattle.card.specs.PlanLaws.{here, later}
@@ -8,7 +7,7 @@ use Rattle.card.specs.Calls.{renewPlan}
 use Rattle.card.specs.Session.{plan, performSound}
 use Rattle.outcomes.proofs.Returned.{refuses, finishes}
 use Rattle.access.proofs.Blocks.{missing-told, access-there, windows-low}
-use Rattle.keys.proofs.Opened.{unopened-holds, unopened-fails}
+use Rattle.keys.proofs.RenewAccess.{unopened-holds, unopened-fails}
 use Rattle.keys.proofs.Changed.{renewed}
 use borrow.Author.Needs.{needs}
 use Rattle.keys.proofs.renew_sound.Statement.{statement}
@@ -56,18 +55,12 @@ returns-3 c =
     let at-if1 = at-missing .before in
     λ port. refuses _ _ _ (c .refused3 .ensures) (later (at-if1 .if1 .left) (later (missing-told _ _ (at-missing .missing .ensures) (at-if2 .if2 .left)) (here (unopened-holds _ _ _ _ _ (at-mode-of .mode-of .ensures) (at-opens .opens .ensures) (c .before .if3 .taken)))))
 
-cast-set-window : tie.Need-cast-set-window
-cast-set-window c = search needs
-
-add-set-window : tie.Need-add-set-window
-add-set-window c = omega (arith, c .before .before .before .before .before .before .before .before .before .before .before .before .before .before .before .before .before .before .before .before .pre .shaped .timeHigh)
-
 set-window-requires : tie.Need-set-window-requires
 set-window-requires c κs =
-    let at-if2 = c .before .before .before .before .before .before .before in
+    let at-if2 = c .before .before .before .before .before in
     let at-missing = at-if2 .before in
     let at-pre = at-missing .before .before .before .before .before .before .before .before .before .before .before .before in
-    windows-low _ (at-pre .pre) (at-missing .missing .ensures) (at-if2 .if2 .left) .1
+    windows-low _ (at-pre .pre) (at-missing .missing .ensures) (at-if2 .if2 .left)
 
 done-requires : tie.Need-done-requires
 done-requires c κs = search needs
@@ -79,7 +72,7 @@ returns-4 : tie.Need-returns-4
 unfolding performSound plan renewPlan outAfter placesAfter
 returns-4 c =
     let at-set-window = c .before .before .before in
-    let at-if3 = at-set-window .before .before .before .before in
+    let at-if3 = at-set-window .before .before in
     let at-opens = at-if3 .before in
     let at-mode-of = at-opens .before .before in
     let at-if2 = at-mode-of .before in
@@ -102,8 +95,6 @@ renew-sound-spec =
     refused-requires-3
     same-length
     returns-3
-    cast-set-window
-    add-set-window
     set-window-requires
     done-requires
     same-length-2

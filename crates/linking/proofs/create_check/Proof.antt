@@ -5,7 +5,7 @@ use Rattle.card.specs.Card.{card}
 use Rattle.checks.specs.CheckedLaws.{check-refused, check-passed}
 use Rattle.access.proofs.Blocks.{access-there}
 use Rattle.tables.specs.InUseLaws.{sound-sorted}
-use Rattle.linking.proofs.Creating.{source-missing, destination-missing, root-end, source-shut, destination-shut, pointer-there, no-place, passes}
+use Rattle.linking.proofs.Creating.{create-source-missing, create-destination-missing, root-end, create-source-shut, destination-shut, pointer-there, no-place, create-passes}
 use Rattle.linking.proofs.create_check.Statement.{statement}
 use Rattle.linking.proofs.create_check.Tie as tie
 
@@ -19,13 +19,13 @@ missing-requires : tie.Need-missing-requires
 missing-requires c κs = c .before .before .before .before .before .before .before .before .pre .shaped .hasLengths .flags
 
 returns : tie.Need-returns
-returns c = let a = c .before .before .before .before .before .before .before .before .before .before .args in let k = card (a .info) (a .flags .now) (a .keys .now) (a .counts .now) (a .pointers .now) (a .windows .now) (a .contents .now) in check-refused (a .port) k _ (source-missing (a .port) k (a .o) (c .before .missing .ensures) (c .if1 .taken))
+returns c = let a = c .before .before .before .before .before .before .before .before .before .before .args in let k = card (a .info) (a .flags .now) (a .keys .now) (a .counts .now) (a .pointers .now) (a .windows .now) (a .contents .now) in check-refused (a .port) k _ (create-source-missing (a .port) k (a .o) (c .before .missing .ensures) (c .if1 .taken))
 
 missing-requires-2 : tie.Need-missing-requires-2
 missing-requires-2 c κs = c .before .before .before .before .before .before .before .before .before .before .pre .shaped .hasLengths .flags
 
 returns-2 : tie.Need-returns-2
-returns-2 c = let a = c .before .before .before .before .before .before .before .before .before .before .before .before .args in let k = card (a .info) (a .flags .now) (a .keys .now) (a .counts .now) (a .pointers .now) (a .windows .now) (a .contents .now) in check-refused (a .port) k _ (destination-missing (a .port) k (a .o) (c .before .before .before .missing .ensures) (c .before .before .if1 .left) (c .before .missing2 .ensures) (c .if2 .taken))
+returns-2 c = let a = c .before .before .before .before .before .before .before .before .before .before .before .before .args in let k = card (a .info) (a .flags .now) (a .keys .now) (a .counts .now) (a .pointers .now) (a .windows .now) (a .contents .now) in check-refused (a .port) k _ (create-destination-missing (a .port) k (a .o) (c .before .before .before .missing .ensures) (c .before .before .if1 .left) (c .before .missing2 .ensures) (c .if2 .taken))
 
 root-at-host-requires : tie.Need-root-at-host-requires
 root-at-host-requires c κs = tt
@@ -55,7 +55,7 @@ returns-4 c =
     let at-if1 = at-missing2 .before in
     let at-missing = at-if1 .before in
     let start = at-missing .before .before .before .before .before .before .before .before .before in
-    let a = start .args in let k = card (a .info) (a .flags .now) (a .keys .now) (a .counts .now) (a .pointers .now) (a .windows .now) (a .contents .now) in check-refused (a .port) k _ (source-shut (a .port) k (a .o) (at-missing .missing .ensures) (at-if1 .if1 .left) (at-missing2 .missing2 .ensures) (at-if2 .if2 .left) (at-root-at-host .root-at-host .ensures) (at-if3 .if3 .left) (c .before .admits .ensures) (c .if4 .taken))
+    let a = start .args in let k = card (a .info) (a .flags .now) (a .keys .now) (a .counts .now) (a .pointers .now) (a .windows .now) (a .contents .now) in check-refused (a .port) k _ (create-source-shut (a .port) k (a .o) (at-missing .missing .ensures) (at-if1 .if1 .left) (at-missing2 .missing2 .ensures) (at-if2 .if2 .left) (at-root-at-host .root-at-host .ensures) (at-if3 .if3 .left) (c .before .admits .ensures) (c .if4 .taken))
 
 admits-requires-2 : tie.Need-admits-requires-2
 admits-requires-2 c κs =
@@ -129,7 +129,7 @@ returns-8 c =
     let at-if1 = at-missing2 .before in
     let at-missing = at-if1 .before in
     let start = at-missing .before .before .before .before .before .before .before .before .before in
-    let a = start .args in let k = card (a .info) (a .flags .now) (a .keys .now) (a .counts .now) (a .pointers .now) (a .windows .now) (a .contents .now) in check-passed (a .port) k _ (passes (a .port) k (a .o) (at-missing .missing .ensures) (at-if1 .if1 .left) (at-missing2 .missing2 .ensures) (at-if2 .if2 .left) (at-root-at-host .root-at-host .ensures) (at-if3 .if3 .left) (at-admits .admits .ensures) (at-if4 .if4 .left) (at-admits2 .admits2 .ensures) (at-if5 .if5 .left) (at-points-to .points-to .ensures) (at-if6 .if6 .left) (c .if7 .left))
+    let a = start .args in let k = card (a .info) (a .flags .now) (a .keys .now) (a .counts .now) (a .pointers .now) (a .windows .now) (a .contents .now) in check-passed (a .port) k _ (create-passes (a .port) k (a .o) (at-missing .missing .ensures) (at-if1 .if1 .left) (at-missing2 .missing2 .ensures) (at-if2 .if2 .left) (at-root-at-host .root-at-host .ensures) (at-if3 .if3 .left) (at-admits .admits .ensures) (at-if4 .if4 .left) (at-admits2 .admits2 .ensures) (at-if5 .if5 .left) (at-points-to .points-to .ensures) (at-if6 .if6 .left) (c .if7 .left))
 
 pub create-check-spec : {M : Type 1} → statement M
 create-check-spec =

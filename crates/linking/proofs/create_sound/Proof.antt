@@ -5,7 +5,7 @@ use Rattle.card.specs.Card.{card}
 use Rattle.card.specs.Session.{performSound}
 use Rattle.checks.specs.CheckedLaws.{refused-check, passed-check}
 use Rattle.outcomes.proofs.Returned.{refuses}
-use Rattle.linking.proofs.Creating.{addable, created}
+use Rattle.linking.proofs.Creating.{create-addable, create-done}
 use borrow.Author.Needs.{needs}
 use Rattle.linking.proofs.create_sound.Statement.{statement}
 use Rattle.linking.proofs.create_sound.Tie as tie
@@ -27,7 +27,7 @@ add-pointer-requires c κs =
     let at-enum-told = c .before .before in
     let at-create-check = at-enum-told .before .before in
     let start = at-create-check .before .before .before .before .before .before .before .before .before in
-    let a = start .args in let k = card (a .info) (a .flags .now) (a .keys .now) (a .counts .now) (a .pointers .now) (a .windows .now) (a .contents .now) in addable (a .port) k (a .o) (start .pre) (passed-check (a .port) k _ (at-create-check .create-check .ensures) (at-enum-told .enum-told .given .1))
+    let a = start .args in let k = card (a .info) (a .flags .now) (a .keys .now) (a .counts .now) (a .pointers .now) (a .windows .now) (a .contents .now) in create-addable (a .port) k (a .o) (start .pre) (passed-check (a .port) k _ (at-create-check .create-check .ensures) (at-enum-told .enum-told .given .1))
 
 done-requires : tie.Need-done-requires
 done-requires c κs = tt
@@ -54,7 +54,7 @@ returns-2 c =
     let at-enum-told = at-add-pointer .before .before .before in
     let at-create-check = at-enum-told .before .before in
     let start = at-create-check .before .before .before .before .before .before .before .before .before in
-    let a = start .args in let k = card (a .info) (a .flags .now) (a .keys .now) (a .counts .now) (a .pointers .now) (a .windows .now) (a .contents .now) in created (a .port) k (a .o) (passed-check (a .port) k _ (at-create-check .create-check .ensures) (at-enum-told .enum-told .given .1)) (c .done .ensures) (at-add-pointer .add-pointer .ensures _ _ _ _)
+    let a = start .args in let k = card (a .info) (a .flags .now) (a .keys .now) (a .counts .now) (a .pointers .now) (a .windows .now) (a .contents .now) in create-done (a .port) k (a .o) (passed-check (a .port) k _ (at-create-check .create-check .ensures) (at-enum-told .enum-told .given .1)) (c .done .ensures) (at-add-pointer .add-pointer .ensures _ _ _ _)
 
 pub create-sound-spec : {M : Type 1} → statement M
 create-sound-spec =

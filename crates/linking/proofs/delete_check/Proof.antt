@@ -5,7 +5,7 @@ use Rattle.card.specs.Card.{card}
 use Rattle.checks.specs.CheckedLaws.{check-refused, check-passed}
 use Rattle.access.proofs.Blocks.{there, access-there}
 use Rattle.tables.specs.InUseLaws.{sound-sorted}
-use Rattle.linking.proofs.Deleting.{source-missing, destination-missing, root-source, source-shut, no-pointer, has-pointers, passes-more, passes-last}
+use Rattle.linking.proofs.Deleting.{delete-source-missing, delete-destination-missing, root-source, delete-source-shut, delete-no-pointer, has-pointers, passes-more, passes-last}
 use Rattle.linking.proofs.delete_check.Statement.{statement}
 use Rattle.linking.proofs.delete_check.Tie as tie
 
@@ -19,13 +19,13 @@ missing-requires : tie.Need-missing-requires
 missing-requires c κs = c .before .before .before .before .before .before .before .before .pre .shaped .hasLengths .flags
 
 returns : tie.Need-returns
-returns c = let a = c .before .before .before .before .before .before .before .before .before .before .args in let k = card (a .info) (a .flags .now) (a .keys .now) (a .counts .now) (a .pointers .now) (a .windows .now) (a .contents .now) in check-refused (a .port) k _ (source-missing (a .port) k (a .o) (c .before .missing .ensures) (c .if1 .taken))
+returns c = let a = c .before .before .before .before .before .before .before .before .before .before .args in let k = card (a .info) (a .flags .now) (a .keys .now) (a .counts .now) (a .pointers .now) (a .windows .now) (a .contents .now) in check-refused (a .port) k _ (delete-source-missing (a .port) k (a .o) (c .before .missing .ensures) (c .if1 .taken))
 
 missing-requires-2 : tie.Need-missing-requires-2
 missing-requires-2 c κs = c .before .before .before .before .before .before .before .before .before .before .pre .shaped .hasLengths .flags
 
 returns-2 : tie.Need-returns-2
-returns-2 c = let a = c .before .before .before .before .before .before .before .before .before .before .before .before .args in let k = card (a .info) (a .flags .now) (a .keys .now) (a .counts .now) (a .pointers .now) (a .windows .now) (a .contents .now) in check-refused (a .port) k _ (destination-missing (a .port) k (a .o) (c .before .before .before .missing .ensures) (c .before .before .if1 .left) (c .before .missing2 .ensures) (c .if2 .taken))
+returns-2 c = let a = c .before .before .before .before .before .before .before .before .before .before .before .before .args in let k = card (a .info) (a .flags .now) (a .keys .now) (a .counts .now) (a .pointers .now) (a .windows .now) (a .contents .now) in check-refused (a .port) k _ (delete-destination-missing (a .port) k (a .o) (c .before .before .before .missing .ensures) (c .before .before .if1 .left) (c .before .missing2 .ensures) (c .if2 .taken))
 
 root-at-host-requires : tie.Need-root-at-host-requires
 root-at-host-requires c κs = tt
@@ -55,7 +55,7 @@ returns-4 c =
     let at-if1 = at-missing2 .before in
     let at-missing = at-if1 .before in
     let start = at-missing .before .before .before .before .before .before .before .before .before in
-    let a = start .args in let k = card (a .info) (a .flags .now) (a .keys .now) (a .counts .now) (a .pointers .now) (a .windows .now) (a .contents .now) in check-refused (a .port) k _ (source-shut (a .port) k (a .o) (at-missing .missing .ensures) (at-if1 .if1 .left) (at-missing2 .missing2 .ensures) (at-if2 .if2 .left) (at-root-at-host .root-at-host .ensures) (at-if3 .if3 .left) (c .before .admits .ensures) (c .if4 .taken))
+    let a = start .args in let k = card (a .info) (a .flags .now) (a .keys .now) (a .counts .now) (a .pointers .now) (a .windows .now) (a .contents .now) in check-refused (a .port) k _ (delete-source-shut (a .port) k (a .o) (at-missing .missing .ensures) (at-if1 .if1 .left) (at-missing2 .missing2 .ensures) (at-if2 .if2 .left) (at-root-at-host .root-at-host .ensures) (at-if3 .if3 .left) (c .before .admits .ensures) (c .if4 .taken))
 
 points-to-requires : tie.Need-points-to-requires
 points-to-requires c κs =
@@ -73,7 +73,7 @@ returns-5 c =
     let at-if1 = at-missing2 .before in
     let at-missing = at-if1 .before in
     let start = at-missing .before .before .before .before .before .before .before .before .before in
-    let a = start .args in let k = card (a .info) (a .flags .now) (a .keys .now) (a .counts .now) (a .pointers .now) (a .windows .now) (a .contents .now) in check-refused (a .port) k _ (no-pointer (a .port) k (a .o) (at-missing .missing .ensures) (at-if1 .if1 .left) (at-missing2 .missing2 .ensures) (at-if2 .if2 .left) (at-root-at-host .root-at-host .ensures) (at-if3 .if3 .left) (at-admits .admits .ensures) (at-if4 .if4 .left) (c .before .points-to .ensures) (c .if5 .taken))
+    let a = start .args in let k = card (a .info) (a .flags .now) (a .keys .now) (a .counts .now) (a .pointers .now) (a .windows .now) (a .contents .now) in check-refused (a .port) k _ (delete-no-pointer (a .port) k (a .o) (at-missing .missing .ensures) (at-if1 .if1 .left) (at-missing2 .missing2 .ensures) (at-if2 .if2 .left) (at-root-at-host .root-at-host .ensures) (at-if3 .if3 .left) (at-admits .admits .ensures) (at-if4 .if4 .left) (c .before .points-to .ensures) (c .if5 .taken))
 
 mul-if6 : tie.Need-mul-if6
 mul-if6 c = let a = c .before .before .before .before .before .before .before .before .before .before .before .before .before .before .before .before .before .before .args in let k = card (a .info) (a .flags .now) (a .keys .now) (a .counts .now) (a .pointers .now) (a .windows .now) (a .contents .now) in omega (arith, there (k .public) _ (c .before .before .before .before .before .before .before .missing2 .ensures) (c .before .before .before .before .before .before .if2 .left), c .before .before .before .before .before .before .before .before .before .before .before .before .before .before .before .before .before .before .pre .shaped .inRanges .blocksHigh)

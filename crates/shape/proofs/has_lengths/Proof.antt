@@ -1,7 +1,7 @@
 -- `shape::has_lengths` is the rest of the shape. Assumes nothing.
 use borrow.Author.Needs.{needs}
 use native.Mathlib.Omega.{arith}
-use Rattle.shape.proofs.Forms.{contents-fit, in-lengths}
+use Rattle.shape.proofs.ShapeTests.{contents-fit, in-lengths}
 use Rattle.card.specs.Card.{card}
 use Rattle.shape.proofs.has_lengths.Statement.{statement}
 use Rattle.shape.proofs.has_lengths.Tie as tie

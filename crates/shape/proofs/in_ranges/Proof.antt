@@ -1,6 +1,6 @@
 -- `shape::in_ranges` is the ranges of the shape. Assumes nothing.
 use borrow.Author.Needs.{needs}
-use Rattle.shape.proofs.Forms.{few-bytes, in-ranges}
+use Rattle.shape.proofs.ShapeTests.{few-bytes, in-ranges}
 use Rattle.shape.proofs.in_ranges.Statement.{statement}
 use Rattle.shape.proofs.in_ranges.Tie as tie
 

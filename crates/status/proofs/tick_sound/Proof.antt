@@ -17,8 +17,11 @@ returns c = λ port. tick-late _ _ port (c .before .if1 .taken) (c .refused .ens
 add-time : tie.Need-add-time
 add-time c = search needs
 
+with-time-requires : tie.Need-with-time-requires
+with-time-requires c κs = search needs
+
 returns-2 : tie.Need-returns-2
-returns-2 c = λ port. tick-done _ _ port (c .before .before .if1 .left)
+returns-2 c = λ port. tick-done _ _ port (c .before .before .before .if1 .left) (c .with-time .ensures)
 
 pub tick-sound-spec : {M : Type 1} → statement M
-tick-sound-spec = tie.close (tie.spec sub-if1 refused-requires returns add-time returns-2)
+tick-sound-spec = tie.close (tie.spec sub-if1 refused-requires returns add-time with-time-requires returns-2)

@@ -17,8 +17,11 @@ abbrev μ-loop : tie.MeasureT-loop
 loop-holds : tie.Need-loop-holds Inv-loop μ-loop
 loop-holds c = counted-start _
 
-shared-slice-read-if1 : tie.Need-shared-slice-read-if1 Inv-loop μ-loop
-shared-slice-read-if1 c = omega arith
+shared-slice-read-allocated : tie.Need-shared-slice-read-allocated Inv-loop μ-loop
+shared-slice-read-allocated c = omega arith
+
+allocated-requires : tie.Need-allocated-requires Inv-loop μ-loop
+allocated-requires c κs = tt
 
 add-free : tie.Need-add-free Inv-loop μ-loop
 add-free c = omega arith
@@ -31,11 +34,12 @@ loop-less c = omega arith
 
 loop-again : tie.Need-loop-again Inv-loop μ-loop
 loop-again c =
-    let inv = c .before .before .before .loop .inv in
-    let inside = c .before .before .loop-test .taken in
+    let inv = c .before .before .before .before .loop .inv in
+    let inside = c .before .before .before .loop-test .taken in
+    let told = c .before .allocated .ensures in
     ⊎-elim
-    (λ w. counted-free inv inside (w .0 .taken) (w .1))
-    (λ w. counted-passed inv inside (w .0 .left) (w .1))
+    (λ w. counted-free inv inside told (w .0 .taken) (w .1))
+    (λ w. counted-passed inv inside told (w .0 .left) (w .1))
     (c .if1 .came)
 
 returns : tie.Need-returns Inv-loop μ-loop
@@ -48,7 +52,8 @@ count-free-spec =
     Inv-loop
     μ-loop
     loop-holds
-    shared-slice-read-if1
+    shared-slice-read-allocated
+    allocated-requires
     add-free
     add-block
     loop-less

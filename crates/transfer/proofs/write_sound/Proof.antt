@@ -9,7 +9,7 @@ use Rattle.card.specs.Session.{plan, performSound}
 use Rattle.outcomes.proofs.Returned.{refuses, finishes}
 use Rattle.access.proofs.Blocks.{missing-told, access-there, closed-told, windows-low}
 use Rattle.transfer.proofs.Parts.{lies, put-block, taken-size}
-use Rattle.transfer.proofs.Written.{written}
+use Rattle.transfer.proofs.Stored.{block-stored}
 use borrow.Author.Needs.{needs}
 use Rattle.transfer.proofs.write_sound.Statement.{statement}
 use Rattle.transfer.proofs.write_sound.Tie as tie
@@ -102,7 +102,7 @@ returns-4 c =
     let at-missing = at-if2 .before in
     let at-if1 = at-missing .before in
     let start = at-if1 .before .before .before .before .before .before .before .before .before .before in
-    let a = start .args in finishes _ _ _ (c .done .ensures) (at-if1 .if1 .left, (missing-told _ _ (at-missing .missing .ensures) (at-if2 .if2 .left), (closed-told _ _ _ _ _ (at-admits .admits .ensures) (at-if3 .if3 .left), tt))) (written _ _ _ _ (a .input .now) (at-open-window .open-window .ensures) (put-block (a .info .bytes) (a .contents .now) (a .o .block) (a .input .now) _ (at-copy .copy .ensures) (at-if1 .if1 .left))) refl refl
+    let a = start .args in finishes _ _ _ (c .done .ensures) (at-if1 .if1 .left, (missing-told _ _ (at-missing .missing .ensures) (at-if2 .if2 .left), (closed-told _ _ _ _ _ (at-admits .admits .ensures) (at-if3 .if3 .left), tt))) (block-stored _ _ _ _ (a .input .now) (at-open-window .open-window .ensures) (put-block (a .info .bytes) (a .contents .now) (a .o .block) (a .input .now) _ (at-copy .copy .ensures) (at-if1 .if1 .left))) refl refl
 
 pub write-sound-spec : {M : Type 1} → statement M
 write-sound-spec = tie.close (tie.spec cast-block refused-requires returns missing-requires refused-requires-2 returns-2 admits-requires refused-requires-3 same-length returns-3 mul-at add-end sub-copy part-copy-start part-copy-end copy-requires open-window-requires done-requires same-length-2 same-length-3 returns-4)

@@ -11,9 +11,6 @@ enum-told c = search needs
 returns : tie.Need-returns
 returns c = opened-none _ _ _ _ _ (c .before .enum-told .given .1) (c .if1 .taken)
 
-add-set-window : tie.Need-add-set-window
-add-set-window c = search needs
-
 set-window-requires : tie.Need-set-window-requires
 set-window-requires c κs = search needs
 
@@ -24,7 +21,7 @@ same-length : tie.Need-same-length
 same-length c = search needs
 
 returns-2 : tie.Need-returns-2
-returns-2 c = opened-host _ _ _ _ _ (c .before .before .before .before .before .before .enum-told .given .1) (c .before .before .before .before .before .if1 .left) (c .before .before .set-window .ensures)
+returns-2 c = opened-host _ _ _ _ _ (c .before .before .before .before .before .enum-told .given .1) (c .before .before .before .before .if1 .left) (c .before .before .set-window .ensures)
 
 returns-3 : tie.Need-returns-3
 returns-3 c = opened-service _ _ _ _ _ (c .enum-told2 .given .1)
@@ -35,7 +32,6 @@ open-window-spec =
     (tie.spec
     enum-told
     returns
-    add-set-window
     set-window-requires
     enum-told-2
     same-length

@@ -1,26 +1,31 @@
--- `windows::set_window` stores the end at the window's place.
+-- `windows::set_window` stores the end of the definition at the window's place.
 -- Assumes nothing.
 use native.Mathlib.Omega.{arith}
-use Rattle.windows.proofs.Windows.{at-within, set-at}
+use Rattle.windows.proofs.Windows.{at-within, after-set}
 use borrow.Author.Needs.{needs}
 use Rattle.windows.proofs.set_window.Statement.{statement}
 use Rattle.windows.proofs.set_window.Tie as tie
+
+add-end : tie.Need-add-end
+add-end c = search needs
 
 window-at-requires : tie.Need-window-at-requires
 window-at-requires c κs = search needs
 
 mul-windows : tie.Need-mul-windows
-mul-windows c = omega (arith, at-within (c .before .before .args .mode) _ _ (c .window-at .ensures) (c .before .before .pre .1))
+mul-windows c = omega (arith, at-within (c .before .before .before .args .mode) _ _ (c .window-at .ensures) (c .before .before .before .pre .1 .1))
 
 slice-write-windows : tie.Need-slice-write-windows
-slice-write-windows c = at-within (c .before .before .args .mode) _ _ (c .window-at .ensures) (c .before .before .pre .1)
+slice-write-windows c = at-within (c .before .before .before .args .mode) _ _ (c .window-at .ensures) (c .before .before .before .pre .1 .1)
 
 same-length : tie.Need-same-length
 same-length c = search needs
 
 returns : tie.Need-returns
-returns c = set-at (c .before .before .args .windows .now) (c .before .before .args .end) (c .window-at .ensures)
+returns c =
+    let a = c .before .before .before .args in
+    after-set (a .info) (a .windows .now) (a .mode) (a .block) (a .interval) (c .window-at .ensures)
 
 pub set-window-spec : {M : Type 1} → statement M
 set-window-spec =
-    tie.close (tie.spec window-at-requires mul-windows slice-write-windows same-length returns)
+    tie.close (tie.spec add-end window-at-requires mul-windows slice-write-windows same-length returns)

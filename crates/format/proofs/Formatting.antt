@@ -1,7 +1,7 @@
 -- What FORMAT tests, and the fresh card that it leaves.
 -- Assumes nothing.
 use Prim.Native.Nat.{ℕ, zero, suc, _+_, _-_, _*_, _≤_}
-use mathlib.Core.Path.{_≡_, refl, sym, ap, _∙_}
+use mathlib.Core.Path.{_≡_, refl, sym, ap, _∙_, subst}
 use mathlib.Core.Bool.{Bool, true, false, _&&_}
 use mathlib.Core.List.{List, [], _++_}
 use native.Mathlib.Nat.{mul-le-mul-right, le-of-suc-le-suc, not-suc-le-zero}
@@ -19,6 +19,7 @@ use Rattle.card.specs.SoundCard.{Shaped}
 use Rattle.card.specs.SoundnessLaws.{shape-true}
 use Rattle.card.specs.Calls.{freshInfo, format, formatResult}
 use Rattle.card.specs.Promises.{Is, is-same}
+use Rattle.card.specs.declared.Info.{Info}
 use Rattle.card.specs.declared.Outcome.{Outcome}
 use Rattle.card.specs.declared.Refusal.the-variants.{Misshapen}
 use Rattle.card.specs.declared.Answer.the-variants.{Done}
@@ -56,35 +57,33 @@ front-cleared xs {ys} n e h =
     let long : 0 + length (zeros n) ≡ n = omega (arith, length-replicate {A = ℕ} n 0) in
     rw (all, long)
 
--- ---- the roots of a card of the right shape
+-- ---- the roots of a fresh card of the right shape
 
-module _ (c : Card) {t : Bool} (told : t ≡ shape c) (e : t ≡ true) where
-  pub told-shaped : Shaped c
-  told-shaped = shape-true c (sym told ∙ e)
+module _ (c : Card) {blocks roots bytes : ℕ} {t : Bool} (made : c .public .info ≡ freshInfo blocks roots bytes) (told : t ≡ shape c) (e : t ≡ true) where
+  told-shaped : Shaped (withInfo c (freshInfo blocks roots bytes))
+  told-shaped = subst (λ (info : Info). Shaped (withInfo c info)) made (shape-true c (sym told ∙ e))
 
-  pub roots-within : c .public .info .roots ≤ length (c .public .flags)
+  pub roots-within : roots ≤ length (c .public .flags)
   roots-within =
-      let s : Shaped c = told-shaped in
+      let s = told-shaped in
       omega (arith, s .inRanges .blocksLow, s .inRanges .rootsHigh, s .hasLengths .flags)
 
-  pub size-low : c .public .info .roots * c .public .info .bytes ≤ 524288
+  pub size-low : roots * bytes ≤ 524288
   size-low =
-      let s : Shaped c = told-shaped in
-      let bytes : ℕ = c .public .info .bytes in
-      let most : c .public .info .roots * bytes ≤ 8 * bytes = mul-le-mul-right bytes (s .inRanges .rootsHigh) in
+      let s = told-shaped in
+      let most : roots * bytes ≤ 8 * bytes = mul-le-mul-right bytes (s .inRanges .rootsHigh) in
       omega (arith, s .inRanges .bytesHigh)
 
-  pub size-within : c .public .info .roots * c .public .info .bytes ≤ length (c .contents)
+  pub size-within : roots * bytes ≤ length (c .contents)
   size-within =
-      let s : Shaped c = told-shaped in
-      let bytes : ℕ = c .public .info .bytes in
-      let few : c .public .info .roots ≤ c .public .info .blocks = omega (arith, s .inRanges .blocksLow, s .inRanges .rootsHigh) in
-      let most : c .public .info .roots * bytes ≤ c .public .info .blocks * bytes = mul-le-mul-right bytes few in
+      let s = told-shaped in
+      let few : roots ≤ blocks = omega (arith, s .inRanges .blocksLow, s .inRanges .rootsHigh) in
+      let most : roots * bytes ≤ blocks * bytes = mul-le-mul-right bytes few in
       omega (arith, s .hasLengths .contents)
 
 -- ---- FORMAT
 
-module _ (c : Card) (blocks roots bytes : ℕ) {t : Bool} (told : t ≡ shape (withInfo c (freshInfo blocks roots bytes))) where
+module _ (c : Card) (blocks roots bytes : ℕ) {info : Info} {t : Bool} (made : info ≡ freshInfo blocks roots bytes) (told : t ≡ shape (withInfo c info)) where
   clauses : (a b d : Bool) → d ≡ true → a && (true && (b && (d && true))) ≡ a && b
   clauses true true d e = and-true d true e refl
   clauses true false d e = refl
@@ -93,7 +92,7 @@ module _ (c : Card) (blocks roots bytes : ℕ) {t : Bool} (told : t ≡ shape (w
   -- On a fresh record the shape is FORMAT's own test.
   test-is : ranges blocks roots bytes && lengths blocks bytes c ≡ t
   unfolding shape every lengths
-  test-is = sym (told ∙ clauses (ranges blocks roots bytes) (lengths blocks bytes c) (leb 0 (length (c .public .pointers))) (le-leb 0 (length (c .public .pointers)) (omega arith)))
+  test-is = sym ((rw made at told) ∙ clauses (ranges blocks roots bytes) (lengths blocks bytes c) (leb 0 (length (c .public .pointers))) (le-leb 0 (length (c .public .pointers)) (omega arith)))
 
   pub format-refused : t ≡ false → {r : Outcome} → r ≡ refusing Misshapen (c .public .info)
       → Is (format blocks roots bytes c) (r .answer) (withInfo c (r .info)) [] []
@@ -103,7 +102,7 @@ module _ (c : Card) (blocks roots bytes : ℕ) {t : Bool} (told : t ≡ shape (w
       (is-same (ap (λ (u : Bool). formatResult u blocks roots bytes c) (test-is ∙ e))
       (record { answers = refl; leaves = refl; fillsOut = refl; fillsPlaces = refl }))
 
-  pub format-done : t ≡ true → {r : Outcome} → r ≡ outcome Done (freshInfo blocks roots bytes)
+  pub format-done : t ≡ true → {r : Outcome} → r ≡ outcome Done info
       → {flags keys counts pointers windows contents : List ℕ}
       → flags ≡ replicate roots 1 ++ zeros (length (c .public .flags) - roots)
       → keys ≡ zeros (length (c .keys))
@@ -114,12 +113,12 @@ module _ (c : Card) (blocks roots bytes : ℕ) {t : Bool} (told : t ≡ shape (w
       → Is (format blocks roots bytes c) (r .answer) (card (r .info) flags keys counts pointers windows contents) [] []
   unfolding format formatResult
   format-done e a f k n p w o =
-      let s = told-shaped (withInfo c (freshInfo blocks roots bytes)) told e in
+      let s = told-shaped (withInfo c info) made told e in
       is-same (ap (λ (u : Bool). formatResult u blocks roots bytes c) (test-is ∙ e))
       (record {
         answers = rw a;
         leaves =
-            rw (a, f, k, n, p, w, o, s .hasLengths .flags, s .hasLengths .keys, s .hasLengths .counts, s .hasLengths .windows);
+            rw (a, made, f, k, n, p, w, o, s .hasLengths .flags, s .hasLengths .keys, s .hasLengths .counts, s .hasLengths .windows);
         fillsOut = refl;
         fillsPlaces = refl;
       })

@@ -1,6 +1,6 @@
 -- The tests of one pointer and of one block, in the form in which the code computes them.
 -- The code joins tests to the left, `every` to the right and with `true` at the end. Assumes nothing.
-use Prim.Native.Nat.{ℕ, _+_, _*_, _/_, _%_, _≤_, _<_}
+use Prim.Native.Nat.{ℕ, _+_, _*_, _≤_, _<_}
 use mathlib.Core.Path.{_≡_, refl}
 use mathlib.Core.Bool.{Bool, true, false, _&&_, _||_, not, and-assoc, and-true}
 use lib.Dec.{eqb, ltb, leb}
@@ -8,19 +8,20 @@ use lib.ListN.{getD}
 use borrow.Author.Tests.{lt-ltb, le-ltb}
 use Rattle.card.specs.Lists.{every}
 use Rattle.card.specs.Pointers.{source, destination}
-use Rattle.card.specs.Card.{Public, Card, flag, allocatedFlag, allocated, count}
+use Rattle.card.specs.Card.{Public, Card, flag, allocatedFlag, keyFlag, allocated, count}
 use Rattle.card.specs.Soundness.{flagsBelow8, rootAllocated, keyZero, unallocatedEmpty, absentKeyZero, pointedTo, windowInTime, pointerRight}
+use Rattle.card.specs.declared.Mode.the-variants.{Reading, Writing}
 use Rattle.audit.specs.Walks.{blockSound}
 
 -- ---- a pointer
 
-pub allocated-below : (p : Public) (b : ℕ) → b < p .info .blocks → allocatedFlag (flag p b) ≡ allocated p b
+pub allocated-inside : (p : Public) (b : ℕ) {t : Bool} → b < p .info .blocks → t ≡ allocatedFlag (flag p b) → t ≡ allocated p b
 unfolding allocated
-allocated-below p b l = rw (lt-ltb _ _ l) refl
+allocated-inside p b l told = rw (lt-ltb _ _ l) told
 
-pub allocated-above : (p : Public) (b : ℕ) → p .info .blocks ≤ b → false ≡ allocated p b
+pub allocated-outside : (p : Public) (b : ℕ) → p .info .blocks ≤ b → false ≡ allocated p b
 unfolding allocated
-allocated-above p b l = rw (le-ltb _ _ l) refl
+allocated-outside p b l = rw (le-ltb _ _ l) refl
 
 pub right-pointer : (p : Public) (w : ℕ) (s d : Bool) → s ≡ allocated p (source w) → d ≡ allocated p (destination w)
     → s && d && not (ltb (destination w) (p .info .roots)) && not (eqb (source w) (destination w)) ≡ pointerRight p w
@@ -29,12 +30,14 @@ right-pointer p w s d e f = simp (e, f, and-assoc, and-true)
 
 -- ---- a block
 
-pub sound-block : (c : Card) (tallied b : ℕ) {read write : Bool}
+pub sound-block : (c : Card) (tallied b : ℕ) {held readKey writeKey read write : Bool}
+    → held ≡ allocatedFlag (flag (c .public) b)
+    → readKey ≡ keyFlag Reading (flag (c .public) b)
+    → writeKey ≡ keyFlag Writing (flag (c .public) b)
     → read ≡ eqb (getD (c .keys) (4 * b) 0) 0 && eqb (getD (c .keys) (4 * b + 1) 0) 0
     → write ≡ eqb (getD (c .keys) (4 * b + 2) 0) 0 && eqb (getD (c .keys) (4 * b + 2 + 1) 0) 0 →
     let f = flag (c .public) b in
     let root = ltb b (c .public .info .roots) in
-    let held = eqb (f % 2) 1 in
     let reading = getD (c .public .windows) (2 * b) 0 in
     let writing = getD (c .public .windows) (2 * b + 1) 0 in
     let n = count (c .public) b in
@@ -43,12 +46,12 @@ pub sound-block : (c : Card) (tallied b : ℕ) {read write : Bool}
     ltb f 8
     && (not root || held)
     && (held || empty)
-    && (eqb (f / 2 % 2) 1 || read)
-    && (eqb (f / 4 % 2) 1 || write)
+    && (readKey || read)
+    && (writeKey || write)
     && eqb n tallied
     && (root || not held || leb 1 n)
     && leb reading latest
     && leb writing latest
     ≡ blockSound c tallied b
 unfolding blockSound every flagsBelow8 rootAllocated unallocatedEmpty absentKeyZero keyZero pointedTo windowInTime
-sound-block c tallied b e f = simp (e, f, and-assoc, and-true)
+sound-block c tallied b h k l e f = simp (h, k, l, e, f, and-assoc, and-true)

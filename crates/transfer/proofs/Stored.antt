@@ -13,10 +13,10 @@ use Rattle.windows.proofs.Windows.{windowed, opened-whole}
 
 module _ (c : Card) (b : ℕ) where
   -- A block filled, and then its window opened.
-  pub written : (port : Port) (interval : ℕ) (input : List ℕ) {windows contents : List ℕ}
+  pub block-stored : (port : Port) (interval : ℕ) (input : List ℕ) {windows contents : List ℕ}
       → windowed (c .public .info) windows ≡ changes (windowed (c .public .info) (c .public .windows)) (opensWindow port (windowed (c .public .info) (c .public .windows) .public) Writing b interval)
       → contents ≡ fill (c .public .info .bytes) (c .contents) b input
       → card (c .public .info) (c .public .flags) (c .keys) (c .public .counts) (c .public .pointers) windows contents
       ≡ changes c (setBlock b input ∷ opensWindow port (c .public) Writing b interval)
   unfolding changes change changePublic changeKeys changeContents
-  written port interval input e f = rw f (opened-whole (change c (setBlock b input)) Writing b interval port e)
+  block-stored port interval input e f = rw f (opened-whole (change c (setBlock b input)) Writing b interval port e)

@@ -1,6 +1,6 @@
 -- The outward walk takes ALLOC's picks in order, over plain values.
 -- Assumes nothing.
-use Prim.Native.Nat.{ℕ, suc, _+_, _-_, _%_, _≤_, _<_}
+use Prim.Native.Nat.{ℕ, suc, _+_, _-_, _≤_, _<_}
 use mathlib.Core.Path.{_≡_, refl, sym, ap, _∙_, subst}
 use mathlib.Core.Logic.{_⊎_, inl, inr, ⊎-elim}
 use mathlib.Core.Bool.{true, false, not}
@@ -10,7 +10,7 @@ use native.Mathlib.Omega.{arith}
 use lib.Dec.{eqb}
 use lib.ListN.{length, drop, getD, set, length-append, length-set}
 use lib.Seq.{drop-cons, set-append-seam, append-snoc, getD-set-same}
-use borrow.Author.Tests.{lt-ltb, le-ltb, eq-eqb, ne-eqb, not-true}
+use borrow.Author.Tests.{lt-ltb, le-ltb, eq-eqb, not-true}
 use Rattle.card.specs.Lists.{any}
 use Rattle.card.specs.ListsLaws.{or-left, absurd-test, false-unless, below-or-not, same-or-other}
 use Rattle.card.specs.Pointers.{pointer, contains, remove}
@@ -24,21 +24,21 @@ use Rattle.card.specs.Calls.{picks, takeAll}
 use Rattle.card.proofs.Guarantees.Steps.{allocated-set, allocated-other, block-within}
 use Rattle.card.specs.ChangesLaws.{inserted-length}
 use Rattle.card.proofs.Guarantees.PointerSteps.{no-pointer, takeAdd-sound}
-use Rattle.allocation.specs.Walk.{Spread, Next, lowAfter, highAfter, Takeable, Ready, Took}
+use Rattle.allocation.specs.Walk.{Spread, NextBlock, lowAfter, highAfter, CanTake, CanTakeAll, BlocksTaken}
 use Rattle.tables.specs.InUseLaws.{count-low}
 use Rattle.allocation.proofs.Nearest.{picks-nearest, numbers-hold, hold-numbers, numbers-ascend, remove-numbers}
 
 -- ---- the next block
 
 module _ {want blocks low high : ℕ} (s : Spread want blocks low high) where
-  pub next-up : low ≡ 0 → Next want blocks low high high
+  pub next-up : low ≡ 0 → NextBlock want blocks low high high
   next-up e = record {
     below = s .unpassed e;
     beside = inr refl;
     nearest = λ y l o. ⊎-elim (λ (b : y < low). absurd (omega arith)) (λ (b : high ≤ y). (omega arith, λ (f : y < high). absurd (omega arith))) o;
   }
 
-  pub next-down : (b : ℕ) → b + 1 ≡ low → (high ≡ blocks) ⊎ (want - low + 1 ≤ high - want) → Next want blocks low high b
+  pub next-down : (b : ℕ) → b + 1 ≡ low → (high ≡ blocks) ⊎ (want - low + 1 ≤ high - want) → NextBlock want blocks low high b
   next-down b e c = record {
     below = omega arith;
     beside = inl e;
@@ -53,7 +53,7 @@ module _ {want blocks low high : ℕ} (s : Spread want blocks low high) where
         o;
   }
 
-  pub next-nearer : (high ≡ blocks → ⊥) → high - want < want - low + 1 → Next want blocks low high high
+  pub next-nearer : (high ≡ blocks → ⊥) → high - want < want - low + 1 → NextBlock want blocks low high high
   next-nearer f c = record {
     below = omega arith;
     beside = inr refl;
@@ -84,7 +84,7 @@ module _ (end b : ℕ) where
   high-moves l = rw (le-ltb b end l)
 
 -- A block between the new ends is the one passed, or was between the old ones.
-between : {want blocks low high b : ℕ} → Next want blocks low high b → low ≤ high → (y : ℕ) → lowAfter low b ≤ y → y < highAfter high b
+between : {want blocks low high b : ℕ} → NextBlock want blocks low high b → low ≤ high → (y : ℕ) → lowAfter low b ≤ y → y < highAfter high b
     → (y ≡ b) ⊎ ((low ≤ y) × (y < high))
 unfolding lowAfter highAfter
 between {low = low} {high} {b} n o y l u =
@@ -100,7 +100,7 @@ between {low = low} {high} {b} n o y l u =
     (n .beside)
 
 -- The new ends are around the wanted block still.
-around : {want blocks low high b : ℕ} → Next want blocks low high b → low ≤ want → want ≤ high → high ≤ blocks
+around : {want blocks low high b : ℕ} → NextBlock want blocks low high b → low ≤ want → want ≤ high → high ≤ blocks
     → (lowAfter low b ≤ want) × ((want ≤ highAfter high b) × (highAfter high b ≤ blocks))
 unfolding lowAfter highAfter
 around {low = low} {high} {b} n l h w =
@@ -110,7 +110,7 @@ around {low = low} {high} {b} n l h w =
     (n .beside)
 
 -- One block fewer is left to pass.
-pub fewer : {want blocks low high b : ℕ} → Next want blocks low high b → low ≤ want → want ≤ high → high ≤ blocks
+pub fewer : {want blocks low high b : ℕ} → NextBlock want blocks low high b → low ≤ want → want ≤ high → high ≤ blocks
     → {l h : ℕ} → l ≡ lowAfter low b → h ≡ highAfter high b → l + (blocks - h) < low + (blocks - high)
 unfolding lowAfter highAfter
 fewer {low = low} {high} {b} n o u w {l} {h} d e =
@@ -152,7 +152,7 @@ first-contained [] h = absurd (not-suc-le-zero h)
 first-contained (x ∷ xs) h = or-left (eqb x x) _ (eq-eqb x x refl)
 
 -- The next block, if it is free, is the pick.
-pick-next : (p : Public) {want low high b : ℕ} (m : ℕ) → Next want (p .info .blocks) low high b → ((y : ℕ) → low ≤ y → y < high → allocated p y ≡ true)
+pick-next : (p : Public) {want low high b : ℕ} (m : ℕ) → NextBlock want (p .info .blocks) low high b → ((y : ℕ) → low ≤ y → y < high → allocated p y ≡ true)
     → allocated p b ≡ false → picks want (suc m) (freeBlocks p) ≡ b ∷ picks want m (remove b (freeBlocks p))
 unfolding freeBlocks
 pick-next p {want} {low} {high} {b} m n passed h =
@@ -191,7 +191,7 @@ overwrite-more xs ys y l =
 -- After `taken` of `count` blocks: the present card and places are those of the numbers taken, the picks go on with those of the
 -- present card, and each block between the ends is allocated.
 pub record Walked (c₀ : Card) (reference want count : ℕ) (places₀ : List ℕ) (c : Card) (places : List ℕ) (low high taken : ℕ) : Type 0 where
-  pub ready : Ready c reference want (count - taken)
+  pub ready : CanTakeAll c reference want (count - taken)
   pub most : taken ≤ count
   pub lowest : low ≤ want
   pub highest : want ≤ high
@@ -208,10 +208,10 @@ pub record Walked (c₀ : Card) (reference want count : ℕ) (places₀ : List �
   pub fits : count ≤ length places₀
 
 -- No more blocks are taken than there are places for pointers.
-pub ready-low : {c : Card} {reference want count : ℕ} → Ready c reference want count → count ≤ 16384
-ready-low r = omega (arith, r .room, r .sound .shaped .hasLengths .placesHigh)
+pub few-taken : {c : Card} {reference want count : ℕ} → CanTakeAll c reference want count → count ≤ 16384
+few-taken r = omega (arith, r .room, r .sound .shaped .hasLengths .placesHigh)
 
-pub walked-start : {c₀ : Card} {reference want count : ℕ} (places₀ : List ℕ) → Ready c₀ reference want count → count ≤ length places₀
+pub walked-start : {c₀ : Card} {reference want count : ℕ} (places₀ : List ℕ) → CanTakeAll c₀ reference want count → count ≤ length places₀
     → Walked c₀ reference want count places₀ c₀ places₀ want want 0
 unfolding changes takeAll overwrite
 walked-start {c₀} {reference} {want} {count} places₀ r f =
@@ -253,9 +253,9 @@ module _ {c₀ : Card} {reference want count : ℕ} {places₀ : List ℕ} {c : 
             (below-or-not y high);
       }
 
-  module _ {b : ℕ} (n : Next want (c₀ .public .info .blocks) low high b) where
-    here : Next want (c .public .info .blocks) low high b
-    here = subst (λ (k : ℕ). Next want k low high b) (sym (w .sameBlocks)) n
+  module _ {b : ℕ} (n : NextBlock want (c₀ .public .info .blocks) low high b) where
+    here : NextBlock want (c .public .info .blocks) low high b
+    here = subst (λ (k : ℕ). NextBlock want k low high b) (sym (w .sameBlocks)) n
 
     pub next-below : b < length (c .public .flags)
     next-below = omega (arith, here .below, w .ready .sound .shaped .hasLengths .flags)
@@ -266,8 +266,18 @@ module _ {c₀ : Card} {reference want count : ℕ} {places₀ : List ℕ} {c : 
     pub walked-fewer : {l h : ℕ} → l ≡ lowAfter low b → h ≡ highAfter high b → l + (c₀ .public .info .blocks - h) < low + (c₀ .public .info .blocks - high)
     walked-fewer d e = fewer n (w .lowest) (w .highest) (w .within) d e
 
-    passed-by : flag (c .public) b % 2 ≡ 1 → Walked c₀ reference want count places₀ c places (lowAfter low b) (highAfter high b) taken
-    passed-by odd =
+    pub can-take : CanTake (c .public .info .bytes) (c .public .flags) (c .public .counts) (c .contents) b
+    can-take =
+        let s = w .ready .sound in
+        record {
+          inFlags = omega (arith, here .below, s .shaped .hasLengths .flags);
+          inCounts = omega (arith, here .below, s .shaped .hasLengths .counts);
+          countLow = omega (arith, count-low s b (here .below), s .shaped .usedHigh, s .shaped .hasLengths .placesHigh);
+          inContents = block-within c b (s .shaped .hasLengths .contents) (here .below);
+        }
+
+    passed-by : allocatedFlag (flag (c .public) b) ≡ true → Walked c₀ reference want count places₀ c places (lowAfter low b) (highAfter high b) taken
+    passed-by held =
         let ends = around n (w .lowest) (w .highest) (w .within) in
         record {
           ready = w .ready;
@@ -277,7 +287,7 @@ module _ {c₀ : Card} {reference want count : ℕ} {places₀ : List ℕ} {c : 
           within = ends .1 .1;
           passed = λ y l u.
               ⊎-elim
-              (λ (e : y ≡ b). subst (λ (k : ℕ). allocated (c .public) k ≡ true) (sym e) (flag-allocated (c .public) b (here .below) (eq-eqb _ _ odd)))
+              (λ (e : y ≡ b). subst (λ (k : ℕ). allocated (c .public) k ≡ true) (sym e) (flag-allocated (c .public) b (here .below) held))
               (λ r. w .passed y (r .0) (r .1))
               (between n (omega (arith, w .lowest, w .highest)) y l u);
           numbers = w .numbers;
@@ -292,25 +302,12 @@ module _ {c₀ : Card} {reference want count : ℕ} {places₀ : List ℕ} {c : 
         }
 
     -- An allocated block is passed.
-    pub walked-passed : flag (c .public) b % 2 ≡ 1 → {l h : ℕ} → l ≡ lowAfter low b → h ≡ highAfter high b → Walked c₀ reference want count places₀ c places l h taken
-    walked-passed odd d e = rw (d, e) (passed-by odd)
+    pub walked-passed : allocatedFlag (flag (c .public) b) ≡ true → {l h : ℕ} → l ≡ lowAfter low b → h ≡ highAfter high b → Walked c₀ reference want count places₀ c places l h taken
+    walked-passed held d e = rw (d, e) (passed-by held)
 
-    module _ (l : taken < count) (odd : flag (c .public) b % 2 ≡ 1 → ⊥) where
-      even : allocatedFlag (flag (c .public) b) ≡ false
-      even = ne-eqb _ _ odd
-
+    module _ (l : taken < count) (even : allocatedFlag (flag (c .public) b) ≡ false) where
       room : c .public .info .used < length (c .public .pointers)
       room = omega (arith, w .ready .room)
-
-      pub takeable : Takeable (c .public .info .bytes) (c .public .flags) (c .public .counts) (c .contents) b
-      takeable =
-          let s = w .ready .sound in
-          record {
-            inFlags = omega (arith, here .below, s .shaped .hasLengths .flags);
-            inCounts = omega (arith, here .below, s .shaped .hasLengths .counts);
-            countLow = omega (arith, count-low s b (here .below), s .shaped .usedHigh, s .shaped .hasLengths .placesHigh);
-            inContents = block-within c b (s .shaped .hasLengths .contents) (here .below);
-          }
 
       pub unpointed : pointsTo (c .public) reference b ≡ false
       unpointed = no-pointer reference b (w .ready .sound) (here .below) even
@@ -387,7 +384,7 @@ module _ {c₀ : Card} {reference want count : ℕ} {places₀ : List ℕ} {c : 
     contents-same = w .ready .sound .shaped .hasLengths .contents ∙ rw (w .sameBlocks, w .sameBytes) (sym (s .shaped .hasLengths .contents))
 
   -- All are taken.
-  pub walked-whole : count ≤ taken → Took c₀ reference (picks want count (freeBlocks (c₀ .public))) places₀ c places
+  pub walked-whole : count ≤ taken → BlocksTaken c₀ reference (picks want count (freeBlocks (c₀ .public))) places₀ c places
   unfolding picks
   walked-whole l =
       let none : count - taken ≡ 0 = omega arith in

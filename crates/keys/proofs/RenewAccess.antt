@@ -3,6 +3,7 @@
 use Prim.Native.Nat.{ℕ}
 use mathlib.Core.Path.{_≡_, refl, sym, ap, _∙_}
 use mathlib.Core.Bool.{Bool, true, false, not, _||_, cond}
+use borrow.Author.Tests.{not-false}
 use Rattle.card.specs.ListsLaws.{or-right, or-false}
 use Rattle.card.specs.Card.{Card, hasKey, isRoot}
 use Rattle.card.specs.Access.{opens, opensRoot, opensPointed}
@@ -11,7 +12,6 @@ use Rattle.card.specs.declared.Mode.{Mode}
 use Rattle.card.specs.declared.Credential.the-variants.{Key}
 use Rattle.access.specs.Accessible.{bare}
 use Rattle.access.specs.AccessibleLaws.{opens-bare}
-use Rattle.access.proofs.Blocks.{unnot}
 
 -- A key opens no block that has no key for the mode.
 keyed-if-open : (k r : Bool) (x : Bool) → cond k x (cond r false false) ≡ true → k ≡ true
@@ -33,5 +33,5 @@ module _ (c : Card) (number b high low : ℕ) {mode : Mode} (named : mode ≡ mo
   pub unopened-fails : not a ≡ false → not (hasKey (c .public) (modeOf number) b) || not (opens c (modeOf number) b (Key high low)) ≡ false
   unopened-fails e =
       let shut : not (opens c (modeOf number) b (Key high low)) ≡ false = sym (ap not opened-is) ∙ e in
-      let keyed : hasKey (c .public) (modeOf number) b ≡ true = key-opens-keyed c (modeOf number) b high low (unnot _ shut) in
+      let keyed : hasKey (c .public) (modeOf number) b ≡ true = key-opens-keyed c (modeOf number) b high low (not-false _ shut) in
       or-false (not (hasKey (c .public) (modeOf number) b)) (not (opens c (modeOf number) b (Key high low))) (ap not keyed) shut
