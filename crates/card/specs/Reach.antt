@@ -3,9 +3,10 @@ use Prim.Native.Nat.{ℕ}
 use mathlib.Core.Path.{_≡_}
 use mathlib.Core.Bool.{Bool, true, false, _&&_, _||_, not}
 use mathlib.Core.List.{List, [], _∷_}
+use mathlib.Core.Option.{Option, none, some}
 use lib.Dec.{eqb}
 use Rattle.card.specs.Card.{Card, allocated, hasKey, isRoot, windowOpen, pointsTo, keyHigh, keyLow}
-use Rattle.card.specs.Session.{Request, Sent, performed}
+use Rattle.card.specs.Session.{Request, Sent, traits, performed}
 use Rattle.card.specs.declared.Mode.{Mode}
 use Rattle.card.specs.declared.Mode.the-variants.{Reading, Writing}
 use Rattle.card.specs.declared.Credential.{Credential}
@@ -13,7 +14,6 @@ use Rattle.card.specs.declared.Credential.the-variants.{Nothing, Referen
 use Rattle.card.specs.declared.Answer.{Answer}
 use Rattle.card.specs.declared.Answer.the-variants.{Refused, Done, Value}
 use Rattle.card.specs.declared.Call.{Call}
-use Rattle.card.specs.declared.Call.the-variants.{Read, Write, Alloc, Create, Delete, Key, Renew, Force, Free, Tick, Audit}
 
 -- ---- presented keys
 
@@ -23,19 +23,15 @@ shows Nothing high low = false
 shows (Reference r) high low = false
 shows (KeyCredential h l) high low = eqb high h && eqb low l
 
+-- One of the credentials shows it.
+unfoldable pub someShows : List Credential → ℕ → ℕ → Bool
+someShows [] high low = false
+someShows (c ∷ []) high low = shows c high low
+someShows (c ∷ (d ∷ cs)) high low = shows c high low || someShows (d ∷ cs) high low
+
 -- The call presents the key, as a credential or in RENEW.
 unfoldable pub presents : Call → ℕ → ℕ → Bool
-presents (Read o) high low = shows (o .credential) high low
-presents (Write o) high low = shows (o .credential) high low
-presents (Alloc o) high low = shows (o .credential) high low
-presents (Create o) high low = shows (o .credential) high low || shows (o .second) high low
-presents (Delete o) high low = shows (o .credential) high low
-presents (Key o) high low = shows (o .credential) high low
-presents (Renew o) high low = shows (KeyCredential (o .high) (o .low)) high low
-presents (Force o) high low = false
-presents Free high low = false
-presents (Tick o) high low = false
-presents Audit high low = false
+presents call high low = someShows (traits call .credentials) high low
 
 -- Document 01, "Presented keys: every key used as a credential or in RENEW anywhere in the session."
 unfoldable pub presented : List Request → ℕ → ℕ → Bool
@@ -50,19 +46,14 @@ isOne (Refused r) = false
 isOne Done = false
 isOne (Value v) = eqb v 1
 
+-- The block is the one that is named, if any.
+abbrev named : Option ℕ → ℕ → Bool
+named none b = false
+named (some a) b = eqb a b
+
 -- Document 01, "A block's last pointer is taken away by a DELETE to it that is done with result 1."
 unfoldable pub takesLast : Call → Answer → ℕ → Bool
-takesLast (Read o) a b = false
-takesLast (Write o) a b = false
-takesLast (Alloc o) a b = false
-takesLast (Create o) a b = false
-takesLast (Delete o) a b = eqb (o .destination) b && isOne a
-takesLast (Key o) a b = false
-takesLast (Renew o) a b = false
-takesLast (Force o) a b = false
-takesLast Free a b = false
-takesLast (Tick o) a b = false
-takesLast Audit a b = false
+takesLast call a b = named (traits call .takesPointerTo) b && isOne a
 
 -- Some call of the list took the block's last pointer away.
 unfoldable pub lastTaken : Card → List Sent → ℕ → Bool

@@ -2,6 +2,7 @@
 use Prim.Native.Nat.{ℕ}
 use mathlib.Core.Bool.{cond}
 use mathlib.Core.List.{List, [], _∷_, _++_, map}
+use mathlib.Core.Option.{Option, none, some}
 use lib.Dec.{eqb}
 use lib.ListN.{length, take}
 use Rattle.card.specs.Card.{Card}
@@ -11,6 +12,7 @@ use Rattle.card.specs.Calls.{answerNumber, answerValues, modeOf, readPla
 use Rattle.card.specs.declared.Port.{Port}
 use Rattle.card.specs.declared.Port.the-variants.{Host}
 use Rattle.card.specs.declared.Mode.the-variants.{Reading, Writing}
+use Rattle.card.specs.declared.Credential.{Credential}
 use Rattle.card.specs.declared.Credential.the-variants.{Key as KeyCredential}
 use Rattle.card.specs.declared.Answer.{Answer}
 use Rattle.card.specs.declared.Call.{Call}
@@ -86,21 +88,38 @@ sentByHost q = record { port = Host; request = q }
 abbrev pub hostSession : List Request → List Sent
 hostSession qs = map sentByHost qs
 
+-- ---- what sets the calls apart beside their plans
+
+pub record Traits : Type 0 where
+  -- The credentials that the call presents, RENEW's key among them.
+  pub credentials : List Credential
+  -- The values that the call, once done, leaves in a lent buffer and a player reports.
+  pub values : Reply → List ℕ
+  -- The block that the pointer led to which the call takes away, if it takes one.
+  pub takesPointerTo : Option ℕ
+
+-- A call that shows nothing and takes no pointer away.
+abbrev pub plain : List Credential → Traits
+plain credentials = record { credentials = credentials; values = λ r. []; takesPointerTo = none }
+
+-- A row for each call. A player reports READ's first 8 bytes and ALLOC's numbers.
+unfoldable pub traits : Call → Traits
+traits (Read o) = record { credentials = o .credential ∷ []; values = λ r. take 8 (r .out); takesPointerTo = none }
+traits (Write o) = plain (o .credential ∷ [])
+traits (Alloc o) = record { credentials = o .credential ∷ []; values = λ r. take (o .count) (r .places); takesPointerTo = none }
+traits (Create o) = plain (o .credential ∷ o .second ∷ [])
+traits (Delete o) = record { credentials = o .credential ∷ []; values = λ r. []; takesPointerTo = some (o .destination) }
+traits (Key o) = plain (o .credential ∷ [])
+traits (Renew o) = plain (KeyCredential (o .high) (o .low) ∷ [])
+traits (Force o) = plain []
+traits Free = plain []
+traits (Tick o) = plain []
+traits Audit = plain []
+
 -- ---- what a player reports
 
--- The values that a done call leaves in a lent buffer and a player reports: READ's first 8 bytes, ALLOC's numbers.
 abbrev pub shownValues : Call → Reply → List ℕ
-shownValues (Read o) r = take 8 (r .out)
-shownValues (Write o) r = []
-shownValues (Alloc o) r = take (o .count) (r .places)
-shownValues (Create o) r = []
-shownValues (Delete o) r = []
-shownValues (Key o) r = []
-shownValues (Renew o) r = []
-shownValues (Force o) r = []
-shownValues Free r = []
-shownValues (Tick o) r = []
-shownValues Audit r = []
+shownValues call r = traits call .values r
 
 -- The answer's number and, if done, its results.
 unfoldable pub reported : Call → Reply → List ℕ

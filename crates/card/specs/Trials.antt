@@ -12,7 +12,7 @@ use Rattle.card.specs.Soundness.{ranges, lengths, shape, flagsBelow8, ro
 use Rattle.card.specs.Access.{keyIs, keyOpens, opensKeyed, opensRoot, opensPointed, opens, admits}
 use Rattle.card.specs.Plan.{first, audited, changePublic, changeKeys, changeContents, change, changes, outAfter, placesAfter, settle, judge, Buffers}
 use Rattle.card.specs.Calls.{rootAtHost, windowAfter, opensWindow, freshInfo, formatResult, format, readPlan, writePlan, wanted, nearest, picks, takeAll, allocPlan, createPlan, deletePlan, keyPlan, modeOf, renewPlan, forcePlan, freePlan, tickPlan, auditPlan}
-use Rattle.card.specs.Session.{Sent, plan, perform, reported, reports}
+use Rattle.card.specs.Session.{Sent, plan, perform, reported, reports, traits}
 use Rattle.card.specs.declared.Port.{Port}
 use Rattle.card.specs.declared.Port.the-variants.{Host, Service}
 use Rattle.card.specs.declared.Credential.{Credential}
@@ -24,7 +24,7 @@ use Rattle.card.specs.declared.Call.the-variants.{Read, Write, Alloc, Cr
 
 -- To compute by the rules, a proof unfolds this one name.
 unfoldable pub rules : Unit {0}
-unfolding every all any allBelow numbersBelow ascending contains pointsFrom pointersTo insert remove overwrite part fill allocated hasKey freeBlocks windowOpen pointsTo hasPointers ranges lengths shape flagsBelow8 rootAllocated keyZero unallocatedEmpty absentKeyZero countRight pointedTo windowInTime pointerRight sound keyIs keyOpens opensKeyed opensRoot opensPointed opens admits first audited changePublic changeKeys changeContents change changes outAfter placesAfter settle judge rootAtHost windowAfter opensWindow formatResult format readPlan writePlan wanted nearest picks takeAll allocPlan createPlan deletePlan keyPlan modeOf renewPlan forcePlan freePlan tickPlan auditPlan plan perform reported reports
+unfolding every all any allBelow numbersBelow ascending contains pointsFrom pointersTo insert remove overwrite part fill allocated hasKey freeBlocks windowOpen pointsTo hasPointers ranges lengths shape flagsBelow8 rootAllocated keyZero unallocatedEmpty absentKeyZero countRight pointedTo windowInTime pointerRight sound keyIs keyOpens opensKeyed opensRoot opensPointed opens admits first audited changePublic changeKeys changeContents change changes outAfter placesAfter settle judge rootAtHost windowAfter opensWindow formatResult format readPlan writePlan wanted nearest picks takeAll allocPlan createPlan deletePlan keyPlan modeOf renewPlan forcePlan freePlan tickPlan auditPlan plan perform reported reports traits
 rules = tt
 
 -- ---- the player's card
@@ -174,10 +174,10 @@ table =
     ∷ []
 
 -- What the rules report of a row's calls.
-unfoldable pub outcome : Trial → List (List ℕ)
-outcome t = reports playerCard (t .calls)
+unfoldable pub trialReports : Trial → List (List ℕ)
+trialReports t = reports playerCard (t .calls)
 
 -- The rules report of each row just what is expected.
-pub trials : map outcome table ≡ map (λ t. t .expected) table
-unfolding rules playerCard table outcome
+pub trials : map trialReports table ≡ map (λ t. t .expected) table
+unfolding rules playerCard table trialReports
 trials = refl

@@ -37,18 +37,18 @@ use Rattle.card.proofs.Guarantees.KeepsSound.{not-missing}
 use Rattle.card.proofs.Guarantees.Judged.{judge-after}
 
 -- From card c to card d the block is left unallocated, and its contents as they were.
-pub record Left (c d : Card) (b : ℕ) : Type 0 where
+pub record LeftAlone (c d : Card) (b : ℕ) : Type 0 where
   pub notAllocated : allocated (d .public) b ≡ false
   pub same : block d b ≡ block c b
 
 -- The block is allocated and holds so many zeros.
-pub record Fresh (bytes : ℕ) (d : Card) (b : ℕ) : Type 0 where
+pub record AllottedZeroed (bytes : ℕ) (d : Card) (b : ℕ) : Type 0 where
   pub isAllocated : allocated (d .public) b ≡ true
   pub holdsZeros : block d b ≡ zeros bytes
 
 -- What becomes of an unallocated block from card c to card d: it is left as it was, or is now allocated and filled with zeros.
 abbrev pub Untouched : Card → Card → ℕ → Type 0
-Untouched c d b = Left c d b ⊎ Fresh (c .public .info .bytes) d b
+Untouched c d b = LeftAlone c d b ⊎ AllottedZeroed (c .public .info .bytes) d b
 
 -- An unallocated block is not the one that passed the check "allocated".
 other-block : (p : Public) {a b : ℕ} → allocated p b ≡ false → allocated p a ≡ true → b ≡ a → ⊥
@@ -57,21 +57,21 @@ other-block p free held e = absurd-test held (subst (λ (n : ℕ). allocated p n
 -- ---- READ and WRITE
 
 opensWindow-left : (port : Port) (c : Card) (p : Public) (mode : Mode) (a interval b : ℕ) → allocated (c .public) b ≡ false
-    → Left c (changes c (opensWindow port p mode a interval)) b
+    → LeftAlone c (changes c (opensWindow port p mode a interval)) b
 unfolding opensWindow changes change changePublic changeContents allocated
 opensWindow-left Host c p mode a interval b free = go (eqb interval 0)
   where
-    go : (t : Bool) → Left c (changes c (cond t [] (setWindow mode a (windowAfter p mode a interval) ∷ []))) b
+    go : (t : Bool) → LeftAlone c (changes c (cond t [] (setWindow mode a (windowAfter p mode a interval) ∷ []))) b
     go true = record { notAllocated = free; same = refl }
     go false = record { notAllocated = free; same = refl }
 opensWindow-left Service c p mode a interval b free = record { notAllocated = free; same = refl }
 
 write-left : (port : Port) (c : Card) (opened : Bool) (o : WriteOperands) (input : List ℕ) (b : ℕ) → allocated (c .public) b ≡ false → SoundCard c
-    → NoneHolds (writePlan port (c .public) opened o input .checks) → Left c (changes c (writePlan port (c .public) opened o input .steps)) b
+    → NoneHolds (writePlan port (c .public) opened o input .checks) → LeftAlone c (changes c (writePlan port (c .public) opened o input .steps)) b
 unfolding writePlan changes change changePublic changeContents
 write-left port c opened o input b free s h =
     let held : allocated (c .public) (o .block) ≡ true = not-missing _ _ (h .1 .0) in
-    let opens : Left (change c (setBlock (o .block) input)) (changes (change c (setBlock (o .block) input)) (opensWindow port (c .public) Writing (o .block) (o .interval))) b =
+    let opens : LeftAlone (change c (setBlock (o .block) input)) (changes (change c (setBlock (o .block) input)) (opensWindow port (c .public) Writing (o .block) (o .interval))) b =
     opensWindow-left port (change c (setBlock (o .block) input)) (c .public) Writing (o .block) (o .interval) b free in
     record {
       notAllocated = opens .notAllocated;
@@ -87,11 +87,11 @@ write-left port c opened o input b free s h =
 -- ---- DELETE and KEY
 
 delete-left : (port : Port) (c : Card) (opened : Bool) (o : DeleteOperands) (b : ℕ) → allocated (c .public) b ≡ false
-    → NoneHolds (deletePlan port (c .public) opened o .checks) → Left c (changes c (deletePlan port (c .public) opened o .steps)) b
+    → NoneHolds (deletePlan port (c .public) opened o .checks) → LeftAlone c (changes c (deletePlan port (c .public) opened o .steps)) b
 unfolding deletePlan changes change changePublic changeContents allocated
 delete-left port c opened o b free h = go (eqb (count (c .public) (o .destination)) 1)
   where
-    go : (t : Bool) → Left c (changes (change c (dropPointer (o .source) (o .destination))) (cond t (freeBlock (o .destination) ∷ []) [])) b
+    go : (t : Bool) → LeftAlone c (changes (change c (dropPointer (o .source) (o .destination))) (cond t (freeBlock (o .destination) ∷ []) [])) b
     go true = record {
       notAllocated = allocated-other (c .public) (o .destination) 0 b (other-block (c .public) free (not-missing (c .public) (o .destination) (h .1 .0))) ∙ free;
       same = refl;
@@ -99,7 +99,7 @@ delete-left port c opened o b free h = go (eqb (count (c .public) (o .destinatio
     go false = record { notAllocated = free; same = refl }
 
 key-left : (port : Port) (c : Card) (opened : Bool) (o : KeyOperands) (b : ℕ) → allocated (c .public) b ≡ false
-    → NoneHolds (keyPlan port (c .public) opened o .checks) → Left c (changes c (keyPlan port (c .public) opened o .steps)) b
+    → NoneHolds (keyPlan port (c .public) opened o .checks) → LeftAlone c (changes c (keyPlan port (c .public) opened o .steps)) b
 unfolding keyPlan changes change changePublic changeContents allocated
 key-left port c opened o b free h = record {
   notAllocated = allocated-other (c .public) (o .block) (keyedFlag (o .read) (o .write)) b (other-block (c .public) free (not-missing (c .public) (o .block) (h .0))) ∙ free;
@@ -130,7 +130,7 @@ module _ (c : Card) (reference x : ℕ) (fits : Fitted c) (below : x < c .public
         ∙ fits .contents;
   }
 
-  taken-fresh : Fresh (c .public .info .bytes) taken x
+  taken-fresh : AllottedZeroed (c .public .info .bytes) taken x
   unfolding change changePublic changeContents allocated
   taken-fresh = record {
     isAllocated =
@@ -148,11 +148,11 @@ module _ (c : Card) (reference x : ℕ) (fits : Fitted c) (below : x < c .public
   unfolding change changePublic allocated
   still-free b other = allocated-other (c .public) x 1 b other
 
-  fresh-kept : (b : ℕ) → Fresh (c .public .info .bytes) c b → Fresh (c .public .info .bytes) taken b
+  fresh-kept : (b : ℕ) → AllottedZeroed (c .public .info .bytes) c b → AllottedZeroed (c .public .info .bytes) taken b
   unfolding change changePublic changeContents allocated
   fresh-kept b f =
       ⊎-elim
-      (λ (e : b ≡ x). subst (λ (n : ℕ). Fresh (c .public .info .bytes) taken n) (sym e) taken-fresh)
+      (λ (e : b ≡ x). subst (λ (n : ℕ). AllottedZeroed (c .public .info .bytes) taken n) (sym e) taken-fresh)
       (λ (other : b ≡ x → ⊥). record {
         isAllocated = still-free b other ∙ f .isAllocated;
         holdsZeros = taken-other b other ∙ f .holdsZeros;
@@ -160,8 +160,8 @@ module _ (c : Card) (reference x : ℕ) (fits : Fitted c) (below : x < c .public
       (same-or-other b x)
 
 module _ (reference b : ℕ) where
-  takeAll-fresh : (bs : List ℕ) (c : Card) → Fitted c → all (λ x. ltb x (c .public .info .blocks)) bs ≡ true → Fresh (c .public .info .bytes) c b
-      → Fresh (c .public .info .bytes) (changes c (takeAll reference bs)) b
+  takeAll-fresh : (bs : List ℕ) (c : Card) → Fitted c → all (λ x. ltb x (c .public .info .blocks)) bs ≡ true → AllottedZeroed (c .public .info .bytes) c b
+      → AllottedZeroed (c .public .info .bytes) (changes c (takeAll reference bs)) b
   unfolding takeAll changes change changePublic
   takeAll-fresh [] c fits h f = f
   takeAll-fresh (x ∷ bs) c fits h f =
@@ -179,10 +179,10 @@ module _ (reference b : ℕ) where
       let nextFits : Fitted next = taken-fits c reference x fits below in
       let rest : all (λ x. ltb x (c .public .info .blocks)) bs ≡ true = all-tail (λ x. ltb x (c .public .info .blocks)) x bs h in
       ⊎-elim
-      (λ (e : b ≡ x). inr (takeAll-fresh bs next nextFits rest (subst (λ (n : ℕ). Fresh (c .public .info .bytes) next n) (sym e) (taken-fresh c reference x fits below))))
+      (λ (e : b ≡ x). inr (takeAll-fresh bs next nextFits rest (subst (λ (n : ℕ). AllottedZeroed (c .public .info .bytes) next n) (sym e) (taken-fresh c reference x fits below))))
       (λ (other : b ≡ x → ⊥).
       ⊎-elim
-      (λ (left : Left next (changes next (takeAll reference bs)) b).
+      (λ (left : LeftAlone next (changes next (takeAll reference bs)) b).
       inl (record { notAllocated = left .notAllocated; same = left .same ∙ taken-other c reference x fits below b other }))
       (λ f. inr f)
       (takeAll-untouched bs next nextFits rest (still-free c reference x fits below b other ∙ free)))

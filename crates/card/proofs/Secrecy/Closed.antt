@@ -53,18 +53,18 @@ Allowed G p (dropPointer a b) = contains (pointer a b) (inUse p) ≡ true
 Allowed G p (setTime t) = p .info .time ≤ t
 
 -- A block that is taken joins the set.
-abbrev pub Taken : Change → ℕ → Type 0
-Taken (setWindow mode b end) x = ⊥
-Taken (setBlock b ys) x = ⊥
-Taken (setKeys b r w) x = ⊥
-Taken (takeBlock b) x = x ≡ b
-Taken (freeBlock b) x = ⊥
-Taken (addPointer a b) x = ⊥
-Taken (dropPointer a b) x = ⊥
-Taken (setTime t) x = ⊥
+abbrev pub TakenBy : Change → ℕ → Type 0
+TakenBy (setWindow mode b end) x = ⊥
+TakenBy (setBlock b ys) x = ⊥
+TakenBy (setKeys b r w) x = ⊥
+TakenBy (takeBlock b) x = x ≡ b
+TakenBy (freeBlock b) x = ⊥
+TakenBy (addPointer a b) x = ⊥
+TakenBy (dropPointer a b) x = ⊥
+TakenBy (setTime t) x = ⊥
 
 abbrev pub Grown : (ℕ → Type 0) → Change → ℕ → Type 0
-Grown G step x = G x ⊎ Taken step x
+Grown G step x = G x ⊎ TakenBy step x
 
 -- ---- pointers after a change
 

@@ -16,8 +16,8 @@ use Rattle.card.specs.Card.{Card, allocated, isRoot, windowOpen, pointsT
 use Rattle.card.specs.Soundness.{shape, sound}
 use Rattle.card.specs.SoundCard.{SoundCard}
 use Rattle.card.specs.SoundnessLaws.{shape-true, sound-true, allocated-below}
-use Rattle.card.specs.Session.{Request, Sent, afterAll, reports, hostSession}
-use Rattle.card.specs.Reach.{shows, presents, presented, keyPresented, sealed, Reach, unsealedRoot, byKey, openWindow, pointed, Hidden, takesLast, isOne, lastTaken}
+use Rattle.card.specs.Session.{Request, Sent, afterAll, reports, hostSession, traits}
+use Rattle.card.specs.Reach.{shows, presents, someShows, presented, keyPresented, sealed, Reach, unsealedRoot, byKey, openWindow, pointed, Hidden, takesLast, isOne, lastTaken}
 use Rattle.card.specs.Trials.{rules, playerCard, read, alloc, key, lending}
 use Rattle.card.specs.declared.Mode.{Mode}
 use Rattle.card.specs.declared.Mode.the-variants.{Reading, Writing}
@@ -166,11 +166,11 @@ agreeing =
     allBelow (λ b. eqb b 2 || eqb b 3 || sameList (block (cardWith 5) b) (block (cardWith 6) b)) 16
 
 computed-5 : every (computed 5) ≡ true
-unfolding rules playerCard prepared session afterAll presented presents shows keyPresented sealed bounds takesLast isOne lastTaken
+unfolding rules playerCard prepared session afterAll presented presents someShows shows keyPresented sealed bounds takesLast isOne lastTaken traits
 computed-5 = refl
 
 computed-6 : every (computed 6) ≡ true
-unfolding rules playerCard prepared session afterAll presented presents shows keyPresented sealed bounds takesLast isOne lastTaken
+unfolding rules playerCard prepared session afterAll presented presents someShows shows keyPresented sealed bounds takesLast isOne lastTaken traits
 computed-6 = refl
 
 agreeing-true : agreeing ≡ true

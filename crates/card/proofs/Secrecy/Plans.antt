@@ -22,8 +22,8 @@ use Rattle.card.specs.Access.{opens, admits}
 use Rattle.card.specs.Plan.{setWindow, setBlock, setKeys, takeBlock, freeBlock, addPointer, dropPointer, changePublic, change, Shown, nothing, blockPart, numbers, Plan, Buffers}
 use Rattle.card.specs.PlanLaws.{NoneHolds}
 use Rattle.card.specs.Calls.{windowAfter, opensWindow, modeOf, wanted, picks, takeAll, readPlan, writePlan, allocPlan, createPlan, deletePlan, keyPlan, renewPlan, forcePlan, freePlan, tickPlan, auditPlan}
-use Rattle.card.specs.Session.{plan}
-use Rattle.card.specs.Reach.{shows, presents}
+use Rattle.card.specs.Session.{plan, traits}
+use Rattle.card.specs.Reach.{shows, presents, someShows}
 use Rattle.card.specs.declared.Port.the-variants.{Host}
 use Rattle.card.specs.declared.Mode.{Mode}
 use Rattle.card.specs.declared.Mode.the-variants.{Reading, Writing}
@@ -170,13 +170,13 @@ module _ (K : ℕ → ℕ → Bool) (G : ℕ → Type 0) (c : Card) (s : SoundCa
   below b a = allocated-below (c .public) b (not-false _ a)
 
   safe-read : (o : ReadOperands) (lent : Buffers) → CallPresents K (Read o) → NoneHolds (plan Host c (Read o) lent .checks) → Safe G c (plan Host c (Read o) lent)
-  unfolding plan readPlan presents
+  unfolding plan readPlan presents someShows traits
   safe-read o lent k n =
       let g = within Reading (o .block) (o .credential) (n .1 .0) (n .1 .1 .0) k in
       record { shownIn = g; allowed = window-allowed G (c .public) (c .public) Reading (o .block) (o .interval) g }
 
   safe-write : (o : WriteOperands) (lent : Buffers) → CallPresents K (Write o) → NoneHolds (plan Host c (Write o) lent .checks) → Safe G c (plan Host c (Write o) lent)
-  unfolding plan writePlan presents changePublic
+  unfolding plan writePlan presents someShows changePublic traits
   safe-write o lent k n =
       let g = within Writing (o .block) (o .credential) (n .1 .0) (n .1 .1 .0) k in
       record {
@@ -198,7 +198,7 @@ module _ (K : ℕ → ℕ → Bool) (G : ℕ → Type 0) (c : Card) (s : SoundCa
       }
 
   safe-create : (o : CreateOperands) (lent : Buffers) → CallPresents K (Create o) → NoneHolds (plan Host c (Create o) lent .checks) → Safe G c (plan Host c (Create o) lent)
-  unfolding plan createPlan presents
+  unfolding plan createPlan presents someShows traits
   safe-create o lent k n = record {
     shownIn = tt;
     allowed =
@@ -218,7 +218,7 @@ module _ (K : ℕ → ℕ → Bool) (G : ℕ → Type 0) (c : Card) (s : SoundCa
   closing-allowed H p b = (inr (omega arith), (inr (omega arith), tt))
 
   safe-key : (o : KeyOperands) (lent : Buffers) → CallPresents K (Key o) → NoneHolds (plan Host c (Key o) lent .checks) → Safe G c (plan Host c (Key o) lent)
-  unfolding plan keyPlan presents
+  unfolding plan keyPlan presents someShows traits
   safe-key o lent k n = record {
     shownIn = tt;
     allowed =
@@ -226,7 +226,7 @@ module _ (K : ℕ → ℕ → Bool) (G : ℕ → Type 0) (c : Card) (s : SoundCa
   }
 
   safe-renew : (o : RenewOperands) (lent : Buffers) → CallPresents K (Renew o) → NoneHolds (plan Host c (Renew o) lent .checks) → Safe G c (plan Host c (Renew o) lent)
-  unfolding plan renewPlan presents
+  unfolding plan renewPlan presents someShows traits
   safe-renew o lent k n =
       let opened = not-false _ (Rattle.card.specs.ListsLaws.or-false-right (not (hasKey (c .public) (modeOf (o .mode)) (o .block))) _ (n .1 .1 .0)) in
       record {

@@ -16,8 +16,8 @@ use Rattle.card.specs.Access.{opens, admits}
 use Rattle.card.specs.Plan.{setWindow, freeBlock, first, Shown, nothing, blockPart, numbers, Plan, Buffers, Result, refused, done, outAfter, settle, judgeSound}
 use Rattle.card.specs.PlanLaws.{first-none, judge-sound}
 use Rattle.card.specs.Calls.{opensWindow, windowAfter, modeOf, wanted, picks, takeAll, readPlan, writePlan, allocPlan, createPlan, deletePlan, keyPlan, renewPlan, forcePlan, freePlan, tickPlan, auditPlan}
-use Rattle.card.specs.Session.{Request, plan, perform, reply, replies, afterAll, hostSession}
-use Rattle.card.specs.Reach.{shows, presents, presented, takesLast, isOne, lastTaken}
+use Rattle.card.specs.Session.{Request, plan, perform, reply, replies, afterAll, hostSession, traits}
+use Rattle.card.specs.Reach.{shows, presents, someShows, presented, takesLast, isOne, lastTaken}
 use Rattle.card.specs.declared.Port.the-variants.{Host}
 use Rattle.card.specs.declared.Mode.{Mode}
 use Rattle.card.specs.declared.Mode.the-variants.{Reading, Writing}
@@ -27,7 +27,7 @@ use Rattle.card.specs.declared.Refusal.{Refusal}
 use Rattle.card.specs.declared.Call.{Call}
 use Rattle.card.specs.declared.Call.the-variants.{Read, Write, Alloc, Create, Delete, Key, Renew, Force, Free, Tick, Audit}
 use Rattle.card.proofs.Secrecy.Closed.{Closed}
-use Rattle.card.proofs.Secrecy.Steps.{Alike, Kept, GrownAll, grows, closed-changes, alike-changes, covered, FreesNone, Apart, apart-changes}
+use Rattle.card.proofs.Secrecy.Steps.{Alike, Kept, GrownAll, grows, closed-changes, alike-changes, covered, FreesNone, KeptApart, apart-changes}
 use Rattle.card.proofs.Secrecy.Opened.{AllPresented}
 use Rattle.card.proofs.Secrecy.Plans.{sound-regular, ShownIn, Safe, CallPresents, safe}
 
@@ -38,11 +38,11 @@ pub record KeyLink (K : ℕ → ℕ → Bool) (L : Public → List ℕ → List 
       → (mode : Mode) (b : ℕ) (credential : Credential) → AllPresented K credential → opens c mode b credential ≡ opens d mode b credential
 
 -- Each call on a sound card leaves a sound card.
-abbrev pub KeepsSound : Type 0
-KeepsSound = (c : Card) (q : Request) → SoundCard c → SoundCard (perform Host c q .after)
+abbrev pub CallsKeepSound : Type 0
+CallsKeepSound = (c : Card) (q : Request) → SoundCard c → SoundCard (perform Host c q .after)
 
 -- What a call done or refused leaves of two cards: a larger set, closed, on which they agree.
-pub record Next (K : ℕ → ℕ → Bool) (L : Public → List ℕ → List ℕ → Type 0) (G : ℕ → Type 0) (c c′ d′ : Card) : Type 1 where
+pub record BothNext (K : ℕ → ℕ → Bool) (L : Public → List ℕ → List ℕ → Type 0) (G : ℕ → Type 0) (c c′ d′ : Card) : Type 1 where
   pub G′ : ℕ → Type 0
   pub larger : (x : ℕ) → G x → G′ x
   pub closed : Closed K G′ c′
@@ -55,7 +55,7 @@ module _ (K : ℕ → ℕ → Bool) (L : Public → List ℕ → List ℕ → Ty
 
   -- The call's plan is the same on both cards.
   plan-same : (call : Call) (lent : Buffers) → CallPresents K call → plan Host c call lent ≡ plan Host d call lent
-  unfolding plan admits presents
+  unfolding plan admits presents someShows traits
   plan-same (Read o) lent k =
       ap₂ (λ (p : Public) (t : Bool). readPlan Host p t o (length (lent .out))) (alike .samePublic) (same-opens Reading (o .block) (o .credential) k)
   plan-same (Write o) lent k =
@@ -92,7 +92,7 @@ settled c q s = judge-sound c (q .lent) (plan Host c (q .call) (q .lent)) s
 
 pub record Both (K : ℕ → ℕ → Bool) (L : Public → List ℕ → List ℕ → Type 0) (G : ℕ → Type 0) (c : Card) (r t : Result) : Type 1 where
   pub sameReply : reply r ≡ reply t
-  pub next : Next K L G c (r .after) (t .after)
+  pub next : BothNext K L G c (r .after) (t .after)
 
 module _ (K : ℕ → ℕ → Bool) (L : Public → List ℕ → List ℕ → Type 0) (link : KeyLink K L) (G : ℕ → Type 0) (c d : Card) (sc : SoundCard c) (sd : SoundCard d) (closed : Closed K G c) (alike : Alike L G c d) where
   both-refused : (lent : Buffers) (r : Refusal) → Both K L G c (refused c lent r) (refused d lent r)
@@ -136,9 +136,9 @@ AllPresent K (q ∷ qs) = CallPresents K (q .call) × AllPresent K qs
 
 pub record BothRun (K : ℕ → ℕ → Bool) (L : Public → List ℕ → List ℕ → Type 0) (G : ℕ → Type 0) (c d : Card) (qs : List Request) : Type 1 where
   pub sameReplies : replies c (hostSession qs) ≡ replies d (hostSession qs)
-  pub next : Next K L G c (afterAll c (hostSession qs)) (afterAll d (hostSession qs))
+  pub next : BothNext K L G c (afterAll c (hostSession qs)) (afterAll d (hostSession qs))
 
-module _ (K : ℕ → ℕ → Bool) (L : Public → List ℕ → List ℕ → Type 0) (link : KeyLink K L) (keepsSound : KeepsSound) where
+module _ (K : ℕ → ℕ → Bool) (L : Public → List ℕ → List ℕ → Type 0) (link : KeyLink K L) (keepsSound : CallsKeepSound) where
   pub both-run : (qs : List Request) (G : ℕ → Type 0) (c d : Card) → SoundCard c → SoundCard d → Closed K G c → Alike L G c d → AllPresent K qs
       → BothRun K L G c d qs
   unfolding replies afterAll
@@ -169,7 +169,7 @@ takes-free-none reference (b ∷ bs) x = (λ f. f, (λ f. f, takes-free-none ref
 
 -- A call that does not take the block's last pointer away frees it by no change.
 frees-none : (c : Card) (call : Call) (lent : Buffers) (x : ℕ) → takesLast call (plan Host c call lent .answer) x ≡ false → FreesNone (plan Host c call lent .steps) x
-unfolding plan takesLast isOne readPlan writePlan allocPlan createPlan deletePlan keyPlan renewPlan forcePlan freePlan tickPlan auditPlan opensWindow
+unfolding plan takesLast isOne readPlan writePlan allocPlan createPlan deletePlan keyPlan renewPlan forcePlan freePlan tickPlan auditPlan opensWindow traits
 frees-none c (Read o) lent x e = go (eqb (o .interval) 0)
   where
     go : (t : Bool) → FreesNone (cond t [] (setWindow Reading (o .block) (windowAfter (c .public) Reading (o .block) (o .interval)) ∷ [])) x
@@ -198,7 +198,7 @@ frees-none c Audit lent x e = tt
 pub record OneNext (K : ℕ → ℕ → Bool) (G : ℕ → Type 0) (c c′ : Card) (x : ℕ) : Type 1 where
   pub G′ : ℕ → Type 0
   pub closed : Closed K G′ c′
-  pub apart : Apart G′ c c′ x
+  pub apart : KeptApart G′ c c′ x
 
 module _ (K : ℕ → ℕ → Bool) (G : ℕ → Type 0) (c : Card) (s : SoundCard c) (closed : Closed K G c) (x : ℕ) (a : allocated (c .public) x ≡ true) (out : G x → ⊥) where
   one-settled : (q : Request) → CallPresents K (q .call) → (o : Option Refusal) → first (plan Host c (q .call) (q .lent) .checks) ≡ o
@@ -221,7 +221,7 @@ module _ (K : ℕ → ℕ → Bool) (G : ℕ → Type 0) (c : Card) (s : SoundCa
       rw (settled c q s) (one-settled q k (first (p .checks)) refl (rw (settled c q s) at f))
 
 -- A block outside a closed set keeps its contents unless a call takes its last pointer away.
-module _ (K : ℕ → ℕ → Bool) (keepsSound : KeepsSound) (x : ℕ) where
+module _ (K : ℕ → ℕ → Bool) (keepsSound : CallsKeepSound) (x : ℕ) where
   pub hidden-kept : (qs : List Request) (G : ℕ → Type 0) (c : Card) → SoundCard c → Closed K G c → AllPresent K qs → allocated (c .public) x ≡ true → (G x → ⊥)
       → lastTaken c (hostSession qs) x ≡ false → block (afterAll c (hostSession qs)) x ≡ block c x
   unfolding lastTaken afterAll

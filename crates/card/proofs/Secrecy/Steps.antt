@@ -20,21 +20,21 @@ use Rattle.card.proofs.Secrecy.Closed.{Closed, Regular, Allowed, Grown,
 -- ---- the contents of a block after one change
 
 -- The change writes the block's contents.
-abbrev pub Written : Change → ℕ → Type 0
-Written (setWindow mode b end) x = ⊥
-Written (setBlock b ys) x = x ≡ b
-Written (setKeys b r w) x = ⊥
-Written (takeBlock b) x = x ≡ b
-Written (freeBlock b) x = ⊥
-Written (addPointer a b) x = ⊥
-Written (dropPointer a b) x = ⊥
-Written (setTime t) x = ⊥
+abbrev pub WrittenBy : Change → ℕ → Type 0
+WrittenBy (setWindow mode b end) x = ⊥
+WrittenBy (setBlock b ys) x = x ≡ b
+WrittenBy (setKeys b r w) x = ⊥
+WrittenBy (takeBlock b) x = x ≡ b
+WrittenBy (freeBlock b) x = ⊥
+WrittenBy (addPointer a b) x = ⊥
+WrittenBy (dropPointer a b) x = ⊥
+WrittenBy (setTime t) x = ⊥
 
 -- A block lies within the contents.
 fits : (c : Card) (b : ℕ) → Regular c → b < c .public .info .blocks → b * c .public .info .bytes + c .public .info .bytes ≤ length (c .contents)
 fits c b r h = omega (arith, r .contents, block-fits (c .public .info .bytes) h)
 
-block-kept : (G : ℕ → Type 0) (c : Card) (step : Change) → Regular c → Allowed G (c .public) step → (x : ℕ) → (Written step x → ⊥)
+block-kept : (G : ℕ → Type 0) (c : Card) (step : Change) → Regular c → Allowed G (c .public) step → (x : ℕ) → (WrittenBy step x → ⊥)
     → block (change c step) x ≡ block c x
 unfolding change changePublic changeContents
 block-kept G c (setWindow mode b end) r h x n = refl
@@ -61,7 +61,7 @@ Kept L = (p : Public) (ks ls : List ℕ) (step : Change) → L p ks ls → L (ch
 
 module _ (L : Public → List ℕ → List ℕ → Type 0) (kept : Kept L) (G : ℕ → Type 0) (c d : Card) (rc : Regular c) (rd : Regular d) (alike : Alike L G c d) where
   -- A block that both cards have written alike.
-  same-written : (step : Change) → Allowed G (c .public) step → (x : ℕ) → Written step x → block (change c step) x ≡ block (change d step) x
+  same-written : (step : Change) → Allowed G (c .public) step → (x : ℕ) → WrittenBy step x → block (change c step) x ≡ block (change d step) x
   unfolding change changePublic changeContents
   same-written (setWindow mode b end) h x w = absurd w
   same-written (setBlock b ys) h x w =
@@ -82,7 +82,7 @@ module _ (L : Public → List ℕ → List ℕ → Type 0) (kept : Kept L) (G : 
   same-written (setTime t) h x w = absurd w
 
   -- A block of the grown set was in the set, or is written.
-  joins : (step : Change) (x : ℕ) → Grown G step x → G x ⊎ Written step x
+  joins : (step : Change) (x : ℕ) → Grown G step x → G x ⊎ WrittenBy step x
   joins (setWindow mode b end) x g = g
   joins (setBlock b ys) x g = ⊎-elim (λ k. inl k) (λ k. absurd k) g
   joins (setKeys b read write) x g = g
@@ -92,7 +92,7 @@ module _ (L : Public → List ℕ → List ℕ → Type 0) (kept : Kept L) (G : 
   joins (dropPointer a b) x g = g
   joins (setTime t) x g = g
 
-  written-or-not : (step : Change) (x : ℕ) → Written step x ⊎ (Written step x → ⊥)
+  written-or-not : (step : Change) (x : ℕ) → WrittenBy step x ⊎ (WrittenBy step x → ⊥)
   written-or-not (setWindow mode b end) x = inr (λ w. w)
   written-or-not (setBlock b ys) x = same-or-other x b
   written-or-not (setKeys b read write) x = inr (λ w. w)
@@ -201,14 +201,14 @@ FreesNone [] x = Unit {0}
 FreesNone (step ∷ steps) x = (Frees step x → ⊥) × FreesNone steps x
 
 -- An allocated block outside the set, as one change leaves it: allocated, outside the grown set, and unwritten.
-pub record Apart (G : ℕ → Type 0) (c c′ : Card) (x : ℕ) : Type 0 where
+pub record KeptApart (G : ℕ → Type 0) (c c′ : Card) (x : ℕ) : Type 0 where
   pub stillAllocated : allocated (c′ .public) x ≡ true
   pub stillOutside : G x → ⊥
   pub sameBlock : block c′ x ≡ block c x
 
 module _ (G : ℕ → Type 0) (c : Card) (r : Regular c) (x : ℕ) (a : allocated (c .public) x ≡ true) (out : G x → ⊥) where
   -- A block that is written or taken is in the set or unallocated.
-  unwritten : (step : Change) → Allowed G (c .public) step → Written step x → ⊥
+  unwritten : (step : Change) → Allowed G (c .public) step → WrittenBy step x → ⊥
   unwritten (setWindow mode b end) h w = w
   unwritten (setBlock b ys) h w = out (subst G (sym w) (h .0))
   unwritten (setKeys b read write) h w = w
@@ -239,7 +239,7 @@ module _ (G : ℕ → Type 0) (c : Card) (r : Regular c) (x : ℕ) (a : allocate
   still-allocated (dropPointer y b) h n = a
   still-allocated (setTime t) h n = a
 
-  apart-change : (step : Change) → Allowed G (c .public) step → (Frees step x → ⊥) → Apart (Grown G step) c (change c step) x
+  apart-change : (step : Change) → Allowed G (c .public) step → (Frees step x → ⊥) → KeptApart (Grown G step) c (change c step) x
   unfolding change
   apart-change step h n = record {
     stillAllocated = still-allocated step h n;
@@ -248,7 +248,7 @@ module _ (G : ℕ → Type 0) (c : Card) (r : Regular c) (x : ℕ) (a : allocate
   }
 
 pub apart-changes : (G : ℕ → Type 0) (c : Card) (steps : List Change) → Regular c → (x : ℕ) → allocated (c .public) x ≡ true → (G x → ⊥)
-    → AllowedAll G (c .public) steps → FreesNone steps x → Apart (GrownAll G steps) c (changes c steps) x
+    → AllowedAll G (c .public) steps → FreesNone steps x → KeptApart (GrownAll G steps) c (changes c steps) x
 unfolding changes change
 apart-changes G c [] r x a out h n = record { stillAllocated = a; stillOutside = out; sameBlock = refl }
 apart-changes G c (step ∷ steps) r x a out h n =

@@ -22,7 +22,7 @@ use Rattle.card.specs.declared.Credential.the-variants.{Nothing, Referen
 use Rattle.card.proofs.Guarantees.KeepsSound.{done-sound}
 use Rattle.card.proofs.Secrecy.Closed.{Closed}
 use Rattle.card.proofs.Secrecy.Steps.{Alike}
-use Rattle.card.proofs.Secrecy.Sessions.{KeyLink, KeepsSound, AllPresent, BothRun, both-run, hidden-kept}
+use Rattle.card.proofs.Secrecy.Sessions.{KeyLink, CallsKeepSound, AllPresent, BothRun, both-run, hidden-kept}
 
 -- ---- the statement
 
@@ -120,7 +120,7 @@ start K c d same = record {
       (λ h. ⊎-elim (λ (hidden : Hidden K c b). hidden .outOfReach g) (λ free. absurd-test (reach-allocated K c g) free) h);
 }
 
-keepsSound : KeepsSound
+keepsSound : CallsKeepSound
 keepsSound c q s = done-sound Host c q s
 
 module _ (session : List Request) (c d : Card) (sc : SoundCard c) (sd : SoundCard d) (same : EqualBut (HiddenOrFree (presented session) c) c d) where
