@@ -62,8 +62,11 @@ dataLength name = rowPayload (row name)
 unfoldable pub operandsLength : Name → ℕ
 operandsLength name = lengthOf name - dataLength name
 
+abbrev pub lengthsAre : ℕ → ℕ → Lengths
+lengthsAre operands whole = record { operands = operands; body = whole }
+
 unfoldable pub lengthsOf : Name → Lengths
-lengthsOf name = record { operands = operandsLength name; body = lengthOf name }
+lengthsOf name = lengthsAre (operandsLength name) (lengthOf name)
 
 -- The call has a kind at the port.
 unfoldable pub hasKind : Port → Name → Bool

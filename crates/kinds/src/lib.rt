@@ -2,7 +2,7 @@
 // What is right is defined in specs/, after document 01, "Call records and the player".
 use card::Port;
 ghost use mathlib.Core.Path.{_≡_};
-ghost use Rattle.kinds.specs.Kinds.{lengthsOf, kindOf, bodyLength};
+ghost use Rattle.kinds.specs.Kinds.{lengthsAre, lengthsOf, kindOf, bodyLength};
 
 // The calls that a record may hold.
 pub enum Name {
@@ -63,55 +63,28 @@ pub fn kind_of(kind: u8) -> Kind
     }
 }
 
+fn both(operands: usize, body: usize) -> Lengths
+    ensures { λ r. ⌜ r ≡ lengthsAre operands body ⌝ }
+{
+    Lengths { operands, body }
+}
+
 // The length of a call's operands, which come first in its body, and of the body. WRITE's data follow its operands.
 pub fn lengths_of(name: Name) -> Lengths
     ensures { λ r. ⌜ r ≡ lengthsOf name ⌝ }
 {
     match name {
-        Name::Read => Lengths {
-            operands: 23,
-            body: 23,
-        },
-        Name::Write => Lengths {
-            operands: 23,
-            body: 535,
-        },
-        Name::Alloc => Lengths {
-            operands: 22,
-            body: 22,
-        },
-        Name::Create => Lengths {
-            operands: 38,
-            body: 38,
-        },
-        Name::Delete => Lengths {
-            operands: 21,
-            body: 21,
-        },
-        Name::Key => Lengths {
-            operands: 53,
-            body: 53,
-        },
-        Name::Renew => Lengths {
-            operands: 23,
-            body: 23,
-        },
-        Name::Force => Lengths {
-            operands: 2,
-            body: 2,
-        },
-        Name::Free => Lengths {
-            operands: 0,
-            body: 0,
-        },
-        Name::Tick => Lengths {
-            operands: 8,
-            body: 8,
-        },
-        Name::Audit => Lengths {
-            operands: 0,
-            body: 0,
-        },
+        Name::Read => both(23, 23),
+        Name::Write => both(23, 535),
+        Name::Alloc => both(22, 22),
+        Name::Create => both(38, 38),
+        Name::Delete => both(21, 21),
+        Name::Key => both(53, 53),
+        Name::Renew => both(23, 23),
+        Name::Force => both(2, 2),
+        Name::Free => both(0, 0),
+        Name::Tick => both(8, 8),
+        Name::Audit => both(0, 0),
     }
 }
 
