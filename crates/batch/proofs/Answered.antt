@@ -30,8 +30,8 @@ use Rattle.card.proofs.Guarantees.KeepsSound.{done-sound}
 use Rattle.fields.specs.Bytes.{bytes}
 use Rattle.lines.specs.Replied.{replied}
 use Rattle.lines.specs.Written.{Written}
+use Rattle.input.specs.Played.{WroteIs}
 use Rattle.batch.specs.Serve.{pairs, answerBytes, lentSize, lentPlaces, answerRoom, served}
-use Rattle.batch.specs.Served.{AnsweredIs}
 use Rattle.batch.proofs.Pieces.{pairs-length}
 
 -- ---- the verdict
@@ -281,7 +281,8 @@ module _ (port : Port) (c : Card) (call : Call) (payload before : List ℕ) (at 
         covered told-bytes (rw tells (rw (i .fillsOut) h)) (omega (arith, short)))
         (perform-covers port c call payload lent-part (zeros lentPlaces))
 
-    pub answered : {to : List ℕ} {behind : ℕ} → Written middle at told-bytes to behind → AnsweredIs call (served port c call payload) (answerRoom (c .public .info .bytes) call) after before at to behind
+    pub answered : {to : List ℕ} {behind : ℕ} → Written middle at told-bytes to behind 
+        → WroteIs (served port c call payload .after) (answerBytes call (reply (served port c call payload))) (answerRoom (c .public .info .bytes) call) after before at to behind
     unfolding result
     answered {to} {behind} w =
         let same : told-bytes ≡ answerBytes call (reply (served port c call payload)) = tells ∙ alike .tells in

@@ -1,4 +1,4 @@
 pub mod Pieces
 pub mod Answered
-pub mod Turns
+pub mod TurnServed
 pub mod Serving

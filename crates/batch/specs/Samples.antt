@@ -14,7 +14,7 @@ use Rattle.records.specs.Decode.{withCredential, createWith, keyWith, decodeCal
 use Rattle.input.specs.Play.{Play, goOn, isShort, fault}
 use Rattle.input.specs.declared.Stop.{Stop}
 use Rattle.input.specs.declared.Stop.the-variants.{Ended, Short, Refused, Full}
-use Rattle.batch.specs.Serve.{pairs, answerBytes, lentSize, answerRoom, served, turnOf, turn, serveWithin, serve}
+use Rattle.batch.specs.Serve.{pairs, answerBytes, lentSize, answerRoom, served, serveTurnOf, serveTurn, serveWithin, serve}
 
 -- ---- records in bytes
 
@@ -84,5 +84,5 @@ abbrev found : Sample → Told
 found s = told (serve (s .start) (s .input) (s .room))
 
 pub samples-hold : map found table ≡ map (λ s. s .gives) table
-unfolding rules playerCard number bytes zeroed row dataLength names kindNumber lengthOf operandsLength among kindOf kindLength bodyLength credential newKey withCredential createWith keyWith decodeCall decodeKnown decodeBody nameOf dataOf nextOf decode goOn isShort fault pairs answerBytes lentSize answerRoom served turnOf turn serveWithin serve table
+unfolding rules playerCard number bytes zeroed row dataLength names kindNumber lengthOf operandsLength among kindOf kindLength bodyLength credential newKey withCredential createWith keyWith decodeCall decodeKnown decodeBody nameOf dataOf nextOf decode goOn isShort fault pairs answerBytes lentSize answerRoom served serveTurnOf serveTurn serveWithin serve table
 samples-hold = refl

@@ -1,5 +1,5 @@
 -- A batch of call records: the card that it leaves and the bytes of its answers, every call with its own audit.
-use Prim.Native.Nat.{ℕ, zero, suc, _+_, _*_}
+use Prim.Native.Nat.{ℕ, zero, suc, _+_, _-_, _*_}
 use mathlib.Core.Bool.{cond}
 use mathlib.Core.List.{List, [], _∷_, _++_}
 use lib.Dec.{ltb, leb}
@@ -88,21 +88,25 @@ answering port c call payload rest =
     record { stop = Went; lines = answerBytes call (reply r); after = r .after; left = rest }
 
 -- What an input's first record leads to where there is so much room for answers.
-unfoldable pub turnOf : Card → List ℕ → ℕ → Next → Turn
-turnOf c xs room ended = halted Ended c xs
-turnOf c xs room refused = halted (fault xs) c xs
-turnOf c xs room (sent port call payload rest) =
+unfoldable pub serveTurnOf : ℕ → Card → List ℕ → Next → Turn
+serveTurnOf room c xs ended = halted Ended c xs
+serveTurnOf room c xs refused = halted (fault xs) c xs
+serveTurnOf room c xs (sent port call payload rest) =
     cond (ltb room (answerRoom (c .public .info .bytes) call)) (halted Full c xs) (answering port c call payload rest)
 
-unfoldable pub turn : Card → List ℕ → ℕ → Turn
-turn c xs room = turnOf c xs room (decode xs)
+unfoldable pub serveTurn : ℕ → Card → List ℕ → Turn
+serveTurn room c xs = serveTurnOf room c xs (decode xs)
+
+-- The room from a place on.
+abbrev pub roomFrom : List ℕ → ℕ → ℕ
+roomFrom to at = length to - at
 
 -- ---- an input
 
 -- Record after record, while there is room for the answer. Each record takes a byte of the input at least, so that it has at most as many.
 unfoldable pub serveWithin : ℕ → ℕ → Card → List ℕ → ℕ → Play
 serveWithin zero records c xs room = record { stop = Full; lines = []; records = records; after = c; left = xs }
-serveWithin (suc most) records c xs room = let t = turn c xs room in goOn (t .stop) t records (serveWithin most) room
+serveWithin (suc most) records c xs room = let t = serveTurn room c xs in goOn (t .stop) t records (serveWithin most) room
 
 unfoldable pub serve : Card → List ℕ → ℕ → Play
 serve c xs room = serveWithin (suc (length xs)) 0 c xs room

@@ -11,18 +11,16 @@ use input::Stop;
 use input::Turned;
 use input::Wrote;
 use lines::Shown;
-ghost use Prim.Native.Nat.{_+_, _-_, _*_, _≤_};
+ghost use Prim.Native.Nat.{_+_, _*_, _≤_};
 ghost use lib.ListN.{length, take, drop};
 ghost use mathlib.Core.Path.{_≡_};
-ghost use Rattle.card.specs.Lent.{lent, atEntry, atExit};
-ghost use Rattle.card.specs.Card.{card};
+ghost use Rattle.card.specs.Lent.{lent};
 ghost use Rattle.card.specs.Soundness.{verdict};
 ghost use Rattle.fields.specs.Bytes.{bytes};
 ghost use Rattle.lines.specs.Replied.{replied};
 ghost use Rattle.lines.specs.Written.{Written};
-ghost use Rattle.input.specs.Played.{PlayedIs};
-ghost use Rattle.batch.specs.Serve.{pairs, shownBytes, answerBytes, lentSize, answerRoom, served, turn, serve};
-ghost use Rattle.batch.specs.Served.{AnsweredIs, TurnIs};
+ghost use Rattle.input.specs.Played.{Writes, Turns, Plays};
+ghost use Rattle.batch.specs.Serve.{pairs, shownBytes, answerBytes, lentSize, answerRoom, served, serveTurn, roomFrom, serve};
 
 // ---- the room for an answer
 
@@ -153,7 +151,7 @@ fn answer_call(
     at: usize,
 ) -> Wrote
     requires { ⌜ found ≡ verdict (lent info flags keys counts pointers windows contents) ⌝ ∗ ⌜ at + answerRoom (info .bytes) call ≤ length (now to) ⌝ }
-    ensures { λ r. ⌜ AnsweredIs call (served port (atEntry info flags keys counts pointers windows contents) call (now (payload .entry))) (answerRoom (info .bytes) call) (atExit (r .info) flags keys counts pointers windows contents) (now (to .entry)) at (now (to .exit)) (r .at) ⌝ }
+    ensures { λ r. ⌜ Writes (λ c. served port c call (now (payload .entry))) (answerBytes call) (answerRoom (info .bytes) call) info flags keys counts pointers windows contents to at r ⌝ }
 {
     let mut places = [0u16; 64];
     let size = lent_size(info, call);
@@ -199,7 +197,7 @@ fn serve_turn(
     at: usize,
 ) -> Turned
     requires { ⌜ found ≡ verdict (lent info flags keys counts pointers windows contents) ⌝ ∗ ⌜ from ≤ length (now input) ⌝ ∗ ⌜ at ≤ length (now to) ⌝ }
-    ensures { λ r. ⌜ TurnIs (turn (atEntry info flags keys counts pointers windows contents) (drop from (now (input .entry))) (length (now (to .entry)) - at)) (length (now (to .entry)) - at) (r .stop) (atExit (r .info) flags keys counts pointers windows contents) (now (input .entry)) (r .from) (now (to .entry)) at (now (to .exit)) (r .at) ⌝ }
+    ensures { λ r. ⌜ Turns (serveTurn (roomFrom (now (to .entry)) at)) (roomFrom (now (to .entry)) at) info flags keys counts pointers windows contents input from to at r ⌝ }
 {
     let sent = input::find(input, from);
     match sent {
@@ -263,7 +261,7 @@ pub fn serve(
     input: &[u8],
     answers: &mut [u8],
 ) -> Part
-    ensures { λ r. ⌜ PlayedIs (serve (atEntry info flags keys counts pointers windows contents) (now (input .entry)) (length (now (answers .entry)))) (r .stop) (r .records) (atExit (r .info) flags keys counts pointers windows contents) (now (input .entry)) (r .read) (now (answers .entry)) (now (answers .exit)) (r .written) ⌝ }
+    ensures { λ r. ⌜ Plays serve info flags keys counts pointers windows contents input answers r ⌝ }
 {
     let found = audit::audit(info, flags, keys, counts, pointers, windows, contents);
     let mut left = info;

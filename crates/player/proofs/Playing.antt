@@ -13,8 +13,9 @@ use Rattle.lines.specs.Lines.{lineRoom}
 use Rattle.lines.specs.Written.{Written, written-none, written-join, written-length}
 use Rattle.input.specs.Play.{Turn, turnOf, turn, Play, play}
 use Rattle.input.specs.PlayLaws.{behind, play-full, play-went, play-stopped, turn-left}
-use Rattle.input.specs.Played.{PlayedIs, isWent, is-went, not-went}
-use Rattle.player.specs.Called.{TurnedIs}
+use Rattle.input.specs.Played.{TurnIs, PlayedIs, isWent}
+use Rattle.input.specs.PlayedLaws.{is-went, not-went}
+use Rattle.input.proofs.SameTables.{SameTables}
 use Rattle.input.specs.declared.Stop.{Stop}
 use Rattle.input.specs.declared.Stop.the-variants.{Went, Full}
 
@@ -69,7 +70,7 @@ module _ (records₀ : ℕ) (c₀ : Card) (xs out₀ : List ℕ) where
         rw e (record { stops = refl; counts = refl; leaves = refl; rests = refl; within = p .within; writes = rw (mathlib.Core.List.append-nil (p .done)) (p .written) })
 
     module _ {stop : Stop} {after : Card} {next next-at : ℕ} {to : List ℕ} (room : lineRoom ≤ length out - at)
-        (t : TurnedIs (turn (count + 1) c (drop from xs)) stop after xs next out at to next-at) where
+        (t : TurnIs (turn (count + 1) c (drop from xs)) lineRoom stop after xs next out at to next-at) where
       here : lineRoom ≤ length out₀ - length (p .done)
       here = omega (arith, reached, kept, room)
 
@@ -123,13 +124,8 @@ module _ (records₀ : ℕ) (c₀ : Card) (xs out₀ : List ℕ) where
 -- ---- the loop's invariant
 
 -- The tables and the output keep their lengths, and the play has come so far.
-pub record Loop (info₀ : Info) (flags₀ keys₀ counts₀ pointers₀ windows₀ contents₀ : List ℕ) (records₀ : ℕ) (input output₀ : List ℕ)
+pub record PlayLoop (info₀ : Info) (flags₀ keys₀ counts₀ pointers₀ windows₀ contents₀ : List ℕ) (records₀ : ℕ) (input output₀ : List ℕ)
     (info : Info) (flags keys counts pointers windows contents output : List ℕ) (count from at : ℕ) : Type 0 where
-  pub sameFlags : length flags ≡ length flags₀
-  pub sameKeys : length keys ≡ length keys₀
-  pub sameCounts : length counts ≡ length counts₀
-  pub samePointers : length pointers ≡ length pointers₀
-  pub sameWindows : length windows ≡ length windows₀
-  pub sameContents : length contents ≡ length contents₀
+  pub tables : SameTables flags₀ keys₀ counts₀ pointers₀ windows₀ contents₀ flags keys counts pointers windows contents
   pub sameOutput : length output ≡ length output₀
   pub playing : Playing records₀ (card info₀ flags₀ keys₀ counts₀ pointers₀ windows₀ contents₀) input output₀ count (card info flags keys counts pointers windows contents) from at output
