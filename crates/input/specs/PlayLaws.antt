@@ -48,7 +48,7 @@ turn-left ordinal c xs w = next-left ordinal c xs (decode xs) refl w
 -- ---- however many turns are allowed
 
 -- The turn that is tried where there is room for a line.
-abbrev tried : Bool → ℕ → Card → List ℕ → Turn
+abbrev pub tried : Bool → ℕ → Card → List ℕ → Turn
 tried full records c xs = cond full (halted Full c xs) (turn (records + 1) c xs)
 
 tried-left : (full : Bool) (records : ℕ) (c : Card) (xs : List ℕ) → tried full records c xs .stop ≡ Went → length (tried full records c xs .left) < length xs
@@ -102,31 +102,31 @@ unfolding goOn
 play-full records c xs room h = play-tried true records c xs room (lt-ltb room lineRoom h)
 
 module _ (records : ℕ) (c : Card) (xs : List ℕ) (room : ℕ) (h : lineRoom ≤ room) where
-  abbrev one : Turn
-  one = turn (records + 1) c xs
+  abbrev firstTurn : Turn
+  firstTurn = turn (records + 1) c xs
 
   -- The play goes on behind the turn's line.
-  pub play-went : one .stop ≡ Went → play records c xs room ≡ behind (one .lines) (play (records + 1) (one .after) (one .left) (room - length (one .lines)))
+  pub play-went : firstTurn .stop ≡ Went → play records c xs room ≡ behind (firstTurn .lines) (play (records + 1) (firstTurn .after) (firstTurn .left) (room - length (firstTurn .lines)))
   unfolding goOn play
   play-went w =
       play-tried false records c xs room (le-ltb room lineRoom h)
-      ∙ ap (λ (s : Stop). goOn s one records (playWithin (length xs)) room) w
-      ∙ ap (behind (one .lines)) (shorter (length xs) (turn-left (records + 1) c xs w))
+      ∙ ap (λ (s : Stop). goOn s firstTurn records (playWithin (length xs)) room) w
+      ∙ ap (behind (firstTurn .lines)) (shorter (length xs) (turn-left (records + 1) c xs w))
     where
-      shorter : (k : ℕ) → length (one .left) < k
-          → playWithin k (records + 1) (one .after) (one .left) (room - length (one .lines)) ≡ playWithin (suc (length (one .left))) (records + 1) (one .after) (one .left) (room - length (one .lines))
+      shorter : (k : ℕ) → length (firstTurn .left) < k
+          → playWithin k (records + 1) (firstTurn .after) (firstTurn .left) (room - length (firstTurn .lines)) ≡ playWithin (suc (length (firstTurn .left))) (records + 1) (firstTurn .after) (firstTurn .left) (room - length (firstTurn .lines))
       shorter zero l = absurd (omega arith)
-      shorter (suc k) l = within-same k (length (one .left)) (records + 1) (one .after) (one .left) (room - length (one .lines)) (omega arith) (omega arith)
+      shorter (suc k) l = within-same k (length (firstTurn .left)) (records + 1) (firstTurn .after) (firstTurn .left) (room - length (firstTurn .lines)) (omega arith) (omega arith)
 
   -- The play stops with the turn.
-  pub play-stopped : (stop : Stop) → (stop ≡ Went → ⊥) → one .stop ≡ stop → one .after ≡ c → one .left ≡ xs → play records c xs room ≡ stopped stop records c xs
+  pub play-stopped : (stop : Stop) → (stop ≡ Went → ⊥) → firstTurn .stop ≡ stop → firstTurn .after ≡ c → firstTurn .left ≡ xs → play records c xs room ≡ stopped stop records c xs
   unfolding goOn
   play-stopped stop n e a l =
       play-tried false records c xs room (le-ltb room lineRoom h)
-      ∙ ap (λ (s : Stop). goOn s one records (playWithin (length xs)) room) e
+      ∙ ap (λ (s : Stop). goOn s firstTurn records (playWithin (length xs)) room) e
       ∙ halts stop n
     where
-      halts : (s : Stop) → (s ≡ Went → ⊥) → goOn s one records (playWithin (length xs)) room ≡ stopped s records c xs
+      halts : (s : Stop) → (s ≡ Went → ⊥) → goOn s firstTurn records (playWithin (length xs)) room ≡ stopped s records c xs
       halts Went n = absurd (n refl)
       halts Ended n = ap₂ (λ (d : Card) (ys : List ℕ). stopped Ended records d ys) a l
       halts Short n = ap₂ (λ (d : Card) (ys : List ℕ). stopped Short records d ys) a l

@@ -18,10 +18,11 @@ use Rattle.kinds.specs.declared.Kind.the-variants.{Known, Unknown}
 use Rattle.records.specs.declared.Decoding.{Decoding}
 use Rattle.records.specs.declared.Decoding.the-variants.{Decoded, Bad}
 use Rattle.lines.specs.Lines.{lineRoom}
-use Rattle.input.specs.Play.{isShort, fault, Turn, halted, turnOf, turn, Play, goOn, playWithin, play}
+use Rattle.input.specs.Play.{isShort, fault, Turn, turnOf, turn, Play, goOn, playWithin, play}
+use Rattle.input.specs.PlayLaws.{tried}
 use Rattle.input.specs.declared.Stop.{Stop}
 use Rattle.input.specs.declared.Stop.the-variants.{Went, Ended, Short, Refused, Full}
-use Rattle.cardplay.specs.Buffers.{recordRoom}
+use Rattle.cardplay.specs.InputBuffer.{recordRoom}
 use Rattle.cardplay.specs.Progress.{needsInput}
 
 -- ---- one record
@@ -82,7 +83,7 @@ goOn-awaits Short t records rest room h later e = h refl
 goOn-awaits Refused t records rest room h later e = absurd (false≢true e)
 goOn-awaits Full t records rest room h later e = absurd (false≢true e)
 
-tried-awaits : (full : Bool) (records : ℕ) (c : Card) (xs : List ℕ) → let t : Turn = cond full (halted Full c xs) (turn (records + 1) c xs) in needsInput (t .stop) ≡ true → length (t .left) < recordRoom
+tried-awaits : (full : Bool) (records : ℕ) (c : Card) (xs : List ℕ) → needsInput (tried full records c xs .stop) ≡ true → length (tried full records c xs .left) < recordRoom
 unfolding turn
 tried-awaits true records c xs e = absurd (false≢true e)
 tried-awaits false records c xs e = turn-awaits (records + 1) c xs (decode xs) refl e
@@ -91,7 +92,7 @@ within-awaits : (most records : ℕ) (c : Card) (xs : List ℕ) (room : ℕ) →
 unfolding playWithin
 within-awaits zero records c xs room e = absurd (false≢true e)
 within-awaits (suc most) records c xs room e =
-    let t : Turn = cond (ltb room lineRoom) (halted Full c xs) (turn (records + 1) c xs) in
+    let t : Turn = tried (ltb room lineRoom) records c xs in
     goOn-awaits (t .stop) t records (playWithin most) room (tried-awaits (ltb room lineRoom) records c xs) (within-awaits most) e
 
 pub play-awaits : (records : ℕ) (c : Card) (xs : List ℕ) (room : ℕ) → needsInput (play records c xs room .stop) ≡ true → length (play records c xs room .left) < recordRoom

@@ -9,11 +9,11 @@ use lib.ListN.{length, take, drop, getD, set, length-drop, length-append}
 use lib.Seq.{take-at, take-suc, drop-cons, set-at, append-snoc, getD-drop, getD-append-add, length-take-le}
 use Rattle.card.specs.Contents.{overwrite}
 use Rattle.lines.specs.Written.{Written}
-use Rattle.cardplay.specs.Buffers.{FilledIs}
+use Rattle.cardplay.specs.InputBuffer.{GrownIs}
 
 -- What is read stands behind the filled part.
-pub filled-is : (xs ys zs : List ℕ) (filled n : ℕ) → filled ≤ length xs → n ≤ length ys → FilledIs xs filled (take filled xs ++ (ys ++ zs)) (filled + n)
-filled-is xs ys zs filled n h k =
+pub grown-is : (xs ys zs : List ℕ) (filled n : ℕ) → filled ≤ length xs → n ≤ length ys → GrownIs xs filled (take filled xs ++ (ys ++ zs)) (filled + n)
+grown-is xs ys zs filled n h k =
     let front : length (take filled xs) ≡ filled = length-take-le filled xs h in
     record {
       keeps = take-at (take filled xs) (ys ++ zs) filled front;

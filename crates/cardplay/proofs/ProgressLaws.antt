@@ -1,4 +1,4 @@
--- Laws of a play of the buffer's filled part, and of one turn of a session.
+-- Laws of a play of the buffer's filled part, and of one piece of an input.
 -- Assumes nothing.
 use Prim.Native.Nat.{ℕ, zero, suc, _+_, _-_, _≤_, _<_}
 use mathlib.Core.Path.{_≡_, sym, ap, ap₂, _∙_, subst}
@@ -13,11 +13,11 @@ use Rattle.card.specs.Contents.{overwrite}
 use Rattle.lines.specs.Lines.{lastLine}
 use Rattle.lines.specs.Written.{Written}
 use Rattle.input.specs.Play.{Play}
-use Rattle.input.specs.Played.{PlayedIs as PartIs}
+use Rattle.input.specs.Played.{PlayedIs}
 use Rattle.input.specs.declared.Stop.{Stop}
-use Rattle.cardplay.specs.Buffers.{recordRoom, FilledIs}
-use Rattle.cardplay.specs.BuffersLaws.{written-within}
-use Rattle.cardplay.specs.Progress.{isFull, needsInput, PlayedIs, ReadIs, TurnIs}
+use Rattle.cardplay.specs.InputBuffer.{recordRoom, GrownIs}
+use Rattle.cardplay.proofs.InputBufferLaws.{written-within}
+use Rattle.cardplay.specs.Progress.{isFull, needsInput, PieceIs, ReadIs, ProgressIs}
 
 -- ---- a play of the filled part
 
@@ -28,13 +28,13 @@ drop-take (suc n) (suc m) [] = sym (lib.Seq.take-nil (suc m - suc n))
 drop-take (suc n) (suc m) (x ∷ xs) = drop-take n m xs ∙ ap (λ (k : ℕ). take k (drop n xs)) (sym (native.Mathlib.Nat.suc-sub-suc m n))
 
 module _ (buffer : List ℕ) (filled : ℕ) {want : Play} {stop : Stop} {records : ℕ} {after : Card} {read : ℕ} {before to : List ℕ} {written : ℕ}
-    (fits : filled ≤ length buffer) (p : PartIs want stop records after (take filled buffer) read before to written) where
-  pub part-within : read ≤ filled
-  part-within = omega (arith, p .within, length-take-le filled buffer fits)
+    (fits : filled ≤ length buffer) (p : PlayedIs want stop records after (take filled buffer) read before to written) where
+  pub read-within : read ≤ filled
+  read-within = omega (arith, p .within, length-take-le filled buffer fits)
 
-  pub played : {kept : List ℕ} {left : ℕ} → Written buffer 0 (take (filled - read) (drop read buffer)) kept left → PlayedIs want stop records after kept left before to written
+  pub piece-is : {kept : List ℕ} {left : ℕ} → Written buffer 0 (take (filled - read) (drop read buffer)) kept left → PieceIs want stop records after kept left before to written
   unfolding overwrite
-  played {kept} {left} w =
+  piece-is {kept} {left} w =
       let rest : List ℕ = take (filled - read) (drop read buffer) in
       let long : length rest ≡ left = sym (written-within w .0) in
       record {
@@ -46,20 +46,20 @@ module _ (buffer : List ℕ) (filled : ℕ) {want : Play} {stop : Stop} {records
         writes = p .writes;
       }
 
--- ---- a turn
+-- ---- a piece played, written and read behind
 
 module _ {want : Play} {stop : Stop} {count : ℕ} {after : Card} {buffer : List ℕ} {left : ℕ} {before to : List ℕ} {written : ℕ}
-    (p : PlayedIs want stop count after buffer left before to written) where
+    (p : PieceIs want stop count after buffer left before to written) where
   -- There is room to read on: what is left is less than a record.
   pub room-left : (needsInput (want .stop) ≡ true → length (want .left) < recordRoom) → (wrote : Bool) {asked : Bool} {long : ℕ} → asked ≡ needsInput stop → recordRoom ≤ long → length buffer ≡ long → (wrote && asked) ≡ true → left < length buffer
   room-left few true a h k e =
       omega (arith, few (ap needsInput (sym (p .stops)) ∙ sym a ∙ e), ap length (p .rests), length-take-le left buffer (p .within))
   room-left few false a h k e = absurd (false≢true e)
 
-  pub turned : (wrote : Bool) {asked full : Bool} {now : List ℕ} {end : ℕ} → asked ≡ needsInput stop → full ≡ isFull stop → ReadIs (wrote && asked) buffer left now end
-      → TurnIs want stop count after now end before to wrote (wrote && (full || ltb left end))
-  turned wrote {asked} {full} {now} {end} a b r =
-      let f : FilledIs buffer left now end = r .fills in
+  pub progress-is : (wrote : Bool) {asked full : Bool} {now : List ℕ} {end : ℕ} → asked ≡ needsInput stop → full ≡ isFull stop → ReadIs (wrote && asked) buffer left now end
+      → ProgressIs want stop count after now end before to wrote (wrote && (full || ltb left end))
+  progress-is wrote {asked} {full} {now} {end} a b r =
+      let f : GrownIs buffer left now end = r .fills in
       let more : List ℕ = take (end - left) (drop left now) in
       let whole : left + (end - left) ≡ end = omega (arith, f .further) in
       let long : left ≡ length (want .left) = omega (arith, ap length (p .rests), length-take-le left buffer (p .within)) in

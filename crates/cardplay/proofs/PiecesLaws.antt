@@ -1,4 +1,4 @@
--- Laws of a session: each piece that is read or played takes it on, and in the end it is the play of the whole input.
+-- Laws of an input played in pieces: each piece that is read or played takes it on, and in the end it is the play of the whole input.
 -- Assumes nothing.
 use Prim.Native.Nat.{ℕ, _+_, _-_, _≤_}
 use mathlib.Core.Path.{_≡_, sym, ap, _∙_, subst}
@@ -12,17 +12,17 @@ use Rattle.lines.specs.Lines.{lineRoom, lastLine}
 use Rattle.input.specs.Play.{Play, play, endNumber, transcript}
 use Rattle.input.specs.PlayLaws.{behind}
 use Rattle.input.specs.declared.Stop.{Stop}
-use Rattle.cardplay.specs.Session.{Session, Halted, Whole, SessionIs}
-use Rattle.cardplay.specs.PlayLonger.{behind-behind, play-longer}
+use Rattle.cardplay.specs.Pieces.{Pieces, PlaysNothing, PlayedWhole, PlayedInPieces}
+use Rattle.cardplay.proofs.PlayLonger.{behind-behind, play-longer}
 
--- ---- a session, piece by piece
+-- ---- piece by piece
 
-pub session-none : (c₀ : Card) → Session c₀ 0 c₀ []
-session-none c₀ = record { input = []; lines = []; total = λ more room h. ap (play 0 c₀ more) (sym (sub-zero room)) }
+pub pieces-none : (c₀ : Card) → Pieces c₀ 0 c₀ []
+pieces-none c₀ = record { input = []; lines = []; total = λ more room h. ap (play 0 c₀ more) (sym (sub-zero room)) }
 
-module _ {c₀ : Card} {records : ℕ} {c : Card} {left : List ℕ} (s : Session c₀ records c left) where
-  pub session-read : (ys : List ℕ) → Session c₀ records c (left ++ ys)
-  session-read ys = record {
+module _ {c₀ : Card} {records : ℕ} {c : Card} {left : List ℕ} (s : Pieces c₀ records c left) where
+  pub pieces-read : (ys : List ℕ) → Pieces c₀ records c (left ++ ys)
+  pieces-read ys = record {
     input = s .input ++ ys;
     lines = s .lines;
     total = λ more room h.
@@ -31,8 +31,8 @@ module _ {c₀ : Card} {records : ℕ} {c : Card} {left : List ℕ} (s : Session
         ∙ ap (λ (zs : List ℕ). behind (s .lines) (play records c zs (room - length (s .lines)))) (sym (append-assoc left ys more));
   }
 
-  pub session-played : (small : ℕ) → let p : Play = play records c left small in Session c₀ (p .records) (p .after) (p .left)
-  session-played small =
+  pub pieces-played : (small : ℕ) → let p : Play = play records c left small in Pieces c₀ (p .records) (p .after) (p .left)
+  pieces-played small =
       let p : Play = play records c left small in
       let long : length (s .lines ++ p .lines) ≡ length (s .lines) + length (p .lines) = length-append (s .lines) (p .lines) in
       record {
@@ -44,7 +44,7 @@ module _ {c₀ : Card} {records : ℕ} {c : Card} {left : List ℕ} (s : Session
             ∙ behind-behind (s .lines) (p .lines) room (p .records) (p .after) (p .left ++ more);
       }
 
-  module _ {stop : Stop} (halts : Halted stop records c left) where
+  module _ {stop : Stop} (halts : PlaysNothing stop records c left) where
     ends : (room : ℕ) → length (s .lines) + lineRoom ≤ room → play 0 c₀ (s .input) room ≡ record { stop = stop; lines = s .lines; records = records; after = c; left = left }
     ends room h =
         ap (λ (zs : List ℕ). play 0 c₀ zs room) (sym (append-nil (s .input)))
@@ -54,9 +54,9 @@ module _ {c₀ : Card} {records : ℕ} {c : Card} {left : List ℕ} (s : Session
         ∙ ap (λ (ls : List ℕ). record { stop = stop; lines = ls; records = records; after = c; left = left }) (append-nil (s .lines))
 
     -- What was written is the whole play of what was read.
-    pub session-whole : Whole c₀ stop records c
+    pub pieces-whole : PlayedWhole c₀ stop records c
     unfolding transcript
-    session-whole = record {
+    pieces-whole = record {
       input = s .input;
       lines = s .lines;
       left = left;
@@ -66,10 +66,10 @@ module _ {c₀ : Card} {records : ℕ} {c : Card} {left : List ℕ} (s : Session
 
 -- ---- its end
 
-pub session-is : {c₀ : Card} {stop : Stop} {records : ℕ} {after : Card} {left : List ℕ} {wrote on : Bool} → Session c₀ records after left → (on ≡ false → wrote ≡ true → Halted stop records after left)
-    → SessionIs c₀ stop records after wrote on
-session-is {left = left} s h = record { left = left; session = s; whole = λ o w. session-whole s (h o w) }
+pub played-in-pieces : {c₀ : Card} {stop : Stop} {records : ℕ} {after : Card} {left : List ℕ} {wrote on : Bool} → Pieces c₀ records after left → (on ≡ false → wrote ≡ true → PlaysNothing stop records after left)
+    → PlayedInPieces c₀ stop records after wrote on
+played-in-pieces {left = left} s h = record { left = left; pieces = s; whole = λ o w. pieces-whole s (h o w) }
 
--- A session on an equal card.
-pub session-from : {c d : Card} {stop : Stop} {records : ℕ} {after : Card} {wrote on : Bool} → c ≡ d → SessionIs c stop records after wrote on → SessionIs d stop records after wrote on
-session-from {stop = stop} {records} {after} {wrote} {on} e s = subst (λ (x : Card). SessionIs x stop records after wrote on) e s
+-- The same from an equal card.
+pub pieces-from : {c d : Card} {stop : Stop} {records : ℕ} {after : Card} {wrote on : Bool} → c ≡ d → PlayedInPieces c stop records after wrote on → PlayedInPieces d stop records after wrote on
+pieces-from {stop = stop} {records} {after} {wrote} {on} e s = subst (λ (x : Card). PlayedInPieces x stop records after wrote on) e s

@@ -1,12 +1,12 @@
--- `cardplay::turn` meets its contract. Assumes nothing.
+-- `cardplay::play_on` meets its contract. Assumes nothing.
 use borrow.Author.Needs.{needs}
 use mathlib.Core.Path.{sym}
 use lib.Seq.{length-take-le}
-use Rattle.cardplay.specs.BuffersLaws.{written-within}
-use Rattle.cardplay.specs.Awaited.{play-awaits}
-use Rattle.cardplay.specs.ProgressLaws.{room-left, turned}
-use Rattle.cardplay.proofs.turn.Statement.{statement}
-use Rattle.cardplay.proofs.turn.Tie as tie
+use Rattle.cardplay.proofs.InputBufferLaws.{written-within}
+use Rattle.cardplay.proofs.Awaited.{play-awaits}
+use Rattle.cardplay.proofs.ProgressLaws.{room-left, progress-is}
+use Rattle.cardplay.proofs.play_on.Statement.{statement}
+use Rattle.cardplay.proofs.play_on.Tie as tie
 
 play-some-requires : tie.Need-play-some-requires
 play-some-requires c κs = search needs
@@ -64,10 +64,10 @@ returns c =
     let at-needs-input = at-read-on .before .before in
     let at-write-all = at-needs-input .before in
     let at-play-some = at-write-all .before .before .before .before .before .before .before .before .before .before .before .before .before .before .before .before .before .before in
-    turned (at-play-some .play-some .ensures) (at-write-all .write-all .result) (at-needs-input .needs-input .ensures) (c .before .is-full .ensures) (at-read-on .read-on .ensures)
+    progress-is (at-play-some .play-some .ensures) (at-write-all .write-all .result) (at-needs-input .needs-input .ensures) (c .before .is-full .ensures) (at-read-on .read-on .ensures)
 
-pub turn-spec : {M : Type 1} → statement M
-turn-spec =
+pub play-on-spec : {M : Type 1} → statement M
+play-on-spec =
     tie.close
     (tie.spec
     play-some-requires

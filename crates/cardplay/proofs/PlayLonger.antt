@@ -2,7 +2,7 @@
 -- Assumes nothing.
 use Prim.Native.Nat.{ℕ, zero, suc, _+_, _-_, _≤_}
 use mathlib.Core.Path.{_≡_, refl, sym, ap, ap₂, _∙_, subst}
-use mathlib.Core.Bool.{Bool, true, false, cond, true≢false}
+use mathlib.Core.Bool.{Bool, true, false, true≢false}
 use mathlib.Core.List.{List, [], _∷_, _++_, append-assoc}
 use native.Mathlib.Omega.{arith}
 use native.Mathlib.Nat.{sub-zero}
@@ -11,14 +11,15 @@ use lib.ListN.{length, length-append}
 use Rattle.card.specs.Card.{Card}
 use Rattle.records.specs.Decode.{Next, ended, refused, sent, decode}
 use Rattle.lines.specs.Lines.{lineRoom}
-use Rattle.input.specs.Play.{Turn, halted, turnOf, turn, Play, goOn, playWithin, play}
-use Rattle.input.specs.PlayLaws.{behind, stopped, play-went, play-stopped, fault-stops}
+use Rattle.input.specs.Play.{Turn, turnOf, turn, Play, goOn, playWithin, play}
+use Rattle.input.specs.PlayLaws.{behind, stopped, tried, play-went, play-stopped, fault-stops}
 use Rattle.input.specs.declared.Stop.{Stop}
 use Rattle.input.specs.declared.Stop.the-variants.{Went, Ended, Short, Refused, Full}
 use Rattle.input.specs.Played.{isWent}
+use Rattle.input.specs.PlayedLaws.{not-went}
 use Rattle.cardplay.specs.Progress.{isFull}
-use Rattle.cardplay.specs.DecodeLonger.{decode-longer}
-use Rattle.cardplay.specs.Session.{Halted}
+use Rattle.cardplay.proofs.DecodeLonger.{decode-longer}
+use Rattle.cardplay.specs.Pieces.{PlaysNothing}
 
 -- ---- one turn
 
@@ -39,10 +40,6 @@ unfolding turnOf
 turn-idle ordinal c xs ended h = (refl, refl)
 turn-idle ordinal c xs refused h = (refl, refl)
 turn-idle ordinal c xs (sent port call payload rest) h = absurd (h refl)
-
--- The turn that is tried where there is room for a line.
-abbrev tried : Bool → ℕ → Card → List ℕ → Turn
-tried full records c xs = cond full (halted Full c xs) (turn (records + 1) c xs)
 
 tried-idle : (full : Bool) (records : ℕ) (c : Card) (xs : List ℕ) → Idle (tried full records c xs) c xs
 unfolding turn
@@ -68,8 +65,8 @@ Longer p records c xs = (ys : List ℕ) (big : ℕ) → length (p .lines) + line
 longer-none : (stop : Stop) (records : ℕ) (c : Card) (xs : List ℕ) → Longer (stopped stop records c xs) records c xs
 longer-none stop records c xs ys big h = ap (play records c (xs ++ ys)) (sym (sub-zero big))
 
-abbrev HaltedAfter : Play → Type 0
-HaltedAfter p = isFull (p .stop) ≡ false → Halted (p .stop) (p .records) (p .after) (p .left)
+abbrev PlaysNothingAfter : Play → Type 0
+PlaysNothingAfter p = isFull (p .stop) ≡ false → PlaysNothing (p .stop) (p .records) (p .after) (p .left)
 
 behind-append : (us vs : List ℕ) (p : Play) → behind us (behind vs p) ≡ behind (us ++ vs) p
 behind-append us vs p = ap (λ (ls : List ℕ). record { stop = p .stop; lines = ls; records = p .records; after = p .after; left = p .left }) (sym (append-assoc us vs (p .lines)))
@@ -81,15 +78,12 @@ behind-behind us vs big records c xs =
     subst (λ (n : ℕ). behind us (behind vs (play records c xs (big - length us - length vs))) ≡ behind (us ++ vs) (play records c xs n)) same
     (behind-append us vs (play records c xs (big - length us - length vs)))
 
-no-went : (stop : Stop) → isWent stop ≡ false → stop ≡ Went → ⊥
-no-went stop e q = true≢false (sym (ap isWent q) ∙ e)
-
 -- Where there was room for a line, the whole play stops there too.
-halted-here : (full : Bool) (records : ℕ) (c : Card) (xs : List ℕ) (stop : Stop) → tried full records c xs .stop ≡ stop → isWent stop ≡ false → isFull stop ≡ false → Halted stop records c xs
+halted-here : (full : Bool) (records : ℕ) (c : Card) (xs : List ℕ) (stop : Stop) → tried full records c xs .stop ≡ stop → isWent stop ≡ false → isFull stop ≡ false → PlaysNothing stop records c xs
 halted-here true records c xs stop e w f = absurd (true≢false (ap isFull e ∙ f))
 halted-here false records c xs stop e w f =
-    let idle = tried-idle false records c xs (λ q. no-went stop w (sym e ∙ q)) in
-    λ room h. play-stopped records c xs room h stop (no-went stop w) e (idle .0) (idle .1)
+    let idle = tried-idle false records c xs (λ q. not-went stop w (sym e ∙ q)) in
+    λ room h. play-stopped records c xs room h stop (not-went stop w) e (idle .0) (idle .1)
 
 module _ (most records : ℕ) (c : Card) (xs : List ℕ) (small : ℕ) (full : Bool) where
   abbrev tries : Turn
@@ -98,7 +92,7 @@ module _ (most records : ℕ) (c : Card) (xs : List ℕ) (small : ℕ) (full : B
   -- A turn that did not go: the play stops where it was.
   stops : (stop : Stop) → tries .stop ≡ stop → isWent stop ≡ false → stopped stop records c xs ≡ stopped stop records (tries .after) (tries .left)
   stops stop e n =
-      let idle = tried-idle full records c xs (λ w. no-went stop n (sym e ∙ w)) in
+      let idle = tried-idle full records c xs (λ w. not-went stop n (sym e ∙ w)) in
       ap₂ (λ (d : Card) (ys : List ℕ). stopped stop records d ys) (sym (idle .0)) (sym (idle .1))
 
   goOn-longer : (stop : Stop) → tries .stop ≡ stop → ((n : ℕ) (d : Card) (zs : List ℕ) (room : ℕ) → Longer (playWithin most n d zs room) n d zs)
@@ -115,13 +109,13 @@ module _ (most records : ℕ) (c : Card) (xs : List ℕ) (small : ℕ) (full : B
   goOn-longer Refused e ih ys big h = subst (λ (p : Play). Longer p records c xs) (stops Refused e refl) (longer-none Refused records c xs) ys big h
   goOn-longer Full e ih ys big h = subst (λ (p : Play). Longer p records c xs) (stops Full e refl) (longer-none Full records c xs) ys big h
 
-  goOn-halted : (stop : Stop) → tries .stop ≡ stop → ((n : ℕ) (d : Card) (zs : List ℕ) (room : ℕ) → HaltedAfter (playWithin most n d zs room))
-      → HaltedAfter (goOn stop tries records (playWithin most) small)
+  goOn-halted : (stop : Stop) → tries .stop ≡ stop → ((n : ℕ) (d : Card) (zs : List ℕ) (room : ℕ) → PlaysNothingAfter (playWithin most n d zs room))
+      → PlaysNothingAfter (goOn stop tries records (playWithin most) small)
   unfolding goOn
   goOn-halted Went e ih f = ih (records + 1) (tries .after) (tries .left) (small - length (tries .lines)) f
-  goOn-halted Ended e ih f = subst HaltedAfter (stops Ended e refl) (λ g. halted-here full records c xs Ended e refl g) f
-  goOn-halted Short e ih f = subst HaltedAfter (stops Short e refl) (λ g. halted-here full records c xs Short e refl g) f
-  goOn-halted Refused e ih f = subst HaltedAfter (stops Refused e refl) (λ g. halted-here full records c xs Refused e refl g) f
+  goOn-halted Ended e ih f = subst PlaysNothingAfter (stops Ended e refl) (λ g. halted-here full records c xs Ended e refl g) f
+  goOn-halted Short e ih f = subst PlaysNothingAfter (stops Short e refl) (λ g. halted-here full records c xs Short e refl g) f
+  goOn-halted Refused e ih f = subst PlaysNothingAfter (stops Refused e refl) (λ g. halted-here full records c xs Refused e refl g) f
   goOn-halted Full e ih f = absurd (true≢false f)
 
 within-longer : (most records : ℕ) (c : Card) (xs : List ℕ) (small : ℕ) → Longer (playWithin most records c xs small) records c xs
@@ -134,12 +128,12 @@ pub play-longer : (records : ℕ) (c : Card) (xs : List ℕ) (small : ℕ) → L
 unfolding play
 play-longer records c xs small ys big h = within-longer (suc (length xs)) records c xs small ys big h
 
-within-halted : (most records : ℕ) (c : Card) (xs : List ℕ) (small : ℕ) → HaltedAfter (playWithin most records c xs small)
+within-halted : (most records : ℕ) (c : Card) (xs : List ℕ) (small : ℕ) → PlaysNothingAfter (playWithin most records c xs small)
 unfolding playWithin
 within-halted zero records c xs small f = absurd (true≢false f)
 within-halted (suc most) records c xs small f =
     goOn-halted most records c xs small (ltb small lineRoom) (tried (ltb small lineRoom) records c xs .stop) refl (within-halted most) f
 
-pub play-halted : (records : ℕ) (c : Card) (xs : List ℕ) (small : ℕ) → HaltedAfter (play records c xs small)
+pub play-halted : (records : ℕ) (c : Card) (xs : List ℕ) (small : ℕ) → PlaysNothingAfter (play records c xs small)
 unfolding play
 play-halted records c xs small f = within-halted (suc (length xs)) records c xs small f
