@@ -32,7 +32,7 @@ use Rattle.lines.specs.Replied.{replied}
 use Rattle.lines.specs.Written.{Written}
 use Rattle.input.specs.Played.{WroteIs}
 use Rattle.batch.specs.Serve.{pairs, answerBytes, lentSize, lentPlaces, answerRoom, served}
-use Rattle.batch.proofs.Pieces.{pairs-length}
+use Rattle.batch.proofs.AnswerBytesLaws.{pairs-length}
 
 -- ---- the verdict
 
@@ -48,7 +48,7 @@ verdict-kept port c q = go (verdict c) refl
 -- ---- what READ's buffer held
 
 -- Two results that a host is told alike and that leave the same card.
-pub record Alike (call : Call) (r s : Result) : Type 0 where
+pub record ToldAlike (call : Call) (r s : Result) : Type 0 where
   pub leaves : r .after ≡ s .after
   pub tells : answerBytes call (reply r) ≡ answerBytes call (reply s)
 
@@ -92,16 +92,16 @@ done-alike port c Audit lent out other places answer = refl
 
 module _ (port : Port) (c : Card) (call : Call) (input places out other : List ℕ) where
   settle-alike : (lent : Buffers) (o : Option Refusal)
-      → Alike call (settle c (request call input out places .lent) (plan port c call lent) o) (settle c (request call input other places .lent) (plan port c call lent) o)
+      → ToldAlike call (settle c (request call input out places .lent) (plan port c call lent) o) (settle c (request call input other places .lent) (plan port c call lent) o)
   unfolding settle answerBytes
   settle-alike lent none = record { leaves = refl; tells = done-alike port c call lent out other (placesAfter (plan port c call lent .shown) places) (plan port c call lent .answer) }
   settle-alike lent (some r) = record { leaves = refl; tells = refl }
 
-  pub perform-alike : length out ≡ length other → Alike call (perform port c (request call input out places)) (perform port c (request call input other places))
+  pub perform-alike : length out ≡ length other → ToldAlike call (perform port c (request call input out places)) (perform port c (request call input other places))
   unfolding perform judge
   perform-alike e =
       let p : Plan = plan port c call (request call input out places .lent) in
-      subst (λ (q : Plan). Alike call (settle c (request call input out places .lent) p (first (audited c (p .checks)))) (settle c (request call input other places .lent) q (first (audited c (q .checks)))))
+      subst (λ (q : Plan). ToldAlike call (settle c (request call input out places .lent) p (first (audited c (p .checks)))) (settle c (request call input other places .lent) q (first (audited c (q .checks)))))
       (plan-alike port c call input places out other e) (settle-alike (request call input out places .lent) (first (audited c (p .checks))))
 
 -- ---- how long an answer is
@@ -232,7 +232,7 @@ module _ (port : Port) (c : Card) (call : Call) (payload before : List ℕ) (at 
     unfoldable result : Result
     result = perform port c (request call payload lent-part (zeros lentPlaces))
 
-    alike : Alike call result (served port c call payload)
+    alike : ToldAlike call result (served port c call payload)
     unfolding served result
     alike = perform-alike port c call payload (zeros lentPlaces) lent-part (zeros (lentSize (c .public .info .bytes) call)) (part-length ∙ told ∙ sym (length-replicate (lentSize (c .public .info .bytes) call) 0))
 

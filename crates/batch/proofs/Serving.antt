@@ -35,7 +35,7 @@ pub record Serving (c₀ : Card) (xs out₀ : List ℕ) (count : ℕ) (c : Card)
 
 -- A turn that did not go ends the batch.
 goOn-halts : (stop : Stop) (t : Turn) (records room : ℕ) (rest : ℕ → Card → List ℕ → ℕ → Play) → isWent stop ≡ false
-    → goOn stop t records rest room ≡ record { stop = stop; lines = []; records = records; after = t .after; left = t .left }
+    → goOn stop t records rest room ≡ record { stop = stop; output = []; records = records; after = t .after; left = t .left }
 unfolding goOn
 goOn-halts Went t records room rest e = absurd (true≢false e)
 goOn-halts Ended t records room rest e = refl
@@ -113,24 +113,24 @@ module _ (c₀ : Card) (xs out₀ : List ℕ) where
 
         -- The rest of the batch, as the rule and as the loop have it.
         abbrev restOfBatch : Play
-        restOfBatch = serveWithin (suc fewer) (count + 1) (nextTurn .after) (nextTurn .left) (roomFrom out at - length (nextTurn .lines))
+        restOfBatch = serveWithin (suc fewer) (count + 1) (nextTurn .after) (nextTurn .left) (roomFrom out at - length (nextTurn .output))
 
-        rest-same : restOfBatch ≡ serveWithin (suc fewer) (count + 1) after (drop next xs) (length out₀ - length (p .done ++ nextTurn .lines))
+        rest-same : restOfBatch ≡ serveWithin (suc fewer) (count + 1) after (drop next xs) (length out₀ - length (p .done ++ nextTurn .output))
         rest-same =
-            let room-left : roomFrom out at - length (nextTurn .lines) ≡ length out₀ - length (p .done ++ nextTurn .lines) = omega (arith, reached, kept, length-append (p .done) (nextTurn .lines)) in
-            ap₂ (λ (d : Card) (ys : List ℕ). serveWithin (suc fewer) (count + 1) d ys (roomFrom out at - length (nextTurn .lines))) (sym (t .leaves)) (sym (t .rests))
+            let room-left : roomFrom out at - length (nextTurn .output) ≡ length out₀ - length (p .done ++ nextTurn .output) = omega (arith, reached, kept, length-append (p .done) (nextTurn .output)) in
+            ap₂ (λ (d : Card) (ys : List ℕ). serveWithin (suc fewer) (count + 1) d ys (roomFrom out at - length (nextTurn .output))) (sym (t .leaves)) (sym (t .rests))
             ∙ ap (serveWithin (suc fewer) (count + 1) after (drop next xs)) room-left
 
-        goes-on : goOn (nextTurn .stop) nextTurn count (serveWithin (p .most)) (roomFrom out at) ≡ behind (nextTurn .lines) restOfBatch
+        goes-on : goOn (nextTurn .stop) nextTurn count (serveWithin (p .most)) (roomFrom out at) ≡ behind (nextTurn .output) restOfBatch
         unfolding goOn
         goes-on = ap₂ (λ (s : Stop) (m : ℕ). goOn s nextTurn count (serveWithin m) (roomFrom out at)) went most-is
 
         -- The turn went: its answer stands behind the others.
         pub serving-more : Serving c₀ xs out₀ (count + 1) after next next-at to
         serving-more =
-            let long : length (p .done ++ nextTurn .lines) ≡ length (p .done) + length (nextTurn .lines) = length-append (p .done) (nextTurn .lines) in
+            let long : length (p .done ++ nextTurn .output) ≡ length (p .done) + length (nextTurn .output) = length-append (p .done) (nextTurn .output) in
             record {
-              done = p .done ++ nextTurn .lines;
+              done = p .done ++ nextTurn .output;
               most = fewer;
               within = t .within;
               enough = omega (arith, p .enough, serving-further);
@@ -141,8 +141,8 @@ module _ (c₀ : Card) (xs out₀ : List ℕ) where
               total =
                   next-turn
                   ∙ ap (behind (p .done)) goes-on
-                  ∙ ap (λ (bs : List ℕ). record { stop = restOfBatch .stop; lines = bs; records = restOfBatch .records; after = restOfBatch .after; left = restOfBatch .left }) (sym (append-assoc (p .done) (nextTurn .lines) (restOfBatch .lines)))
-                  ∙ ap (behind (p .done ++ nextTurn .lines)) rest-same;
+                  ∙ ap (λ (bs : List ℕ). record { stop = restOfBatch .stop; output = bs; records = restOfBatch .records; after = restOfBatch .after; left = restOfBatch .left }) (sym (append-assoc (p .done) (nextTurn .output) (restOfBatch .output)))
+                  ∙ ap (behind (p .done ++ nextTurn .output)) rest-same;
             }
 
 -- ---- the loop's invariant

@@ -80,8 +80,8 @@ module _ (room : ℕ) (c : Card) (xs : List ℕ) where
   serve-turn-left = serve-turn-cases (λ (t : Turn). t .stop ≡ Went → length (t .left) < length xs) (λ stop n w. absurd (n w)) (λ port call payload rest e w. decode-shorter xs e)
 
   -- A turn that did not go writes nothing.
-  pub serve-turn-halts : isWent (serveTurn room c xs .stop) ≡ false → serveTurn room c xs .lines ≡ []
-  serve-turn-halts = serve-turn-cases (λ (t : Turn). isWent (t .stop) ≡ false → t .lines ≡ []) (λ stop n w. refl) (λ port call payload rest e w. absurd (true≢false w))
+  pub serve-turn-halts : isWent (serveTurn room c xs .stop) ≡ false → serveTurn room c xs .output ≡ []
+  serve-turn-halts = serve-turn-cases (λ (t : Turn). isWent (t .stop) ≡ false → t .output ≡ []) (λ stop n w. refl) (λ port call payload rest e w. absurd (true≢false w))
 
   -- Every turn leaves the verdict as it was.
   pub serve-turn-verdict : verdict (serveTurn room c xs .after) ≡ verdict c

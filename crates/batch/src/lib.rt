@@ -10,7 +10,7 @@ use input::Part;
 use input::Stop;
 use input::Turned;
 use input::Wrote;
-use lines::Shown;
+use lines::Filled;
 ghost use Prim.Native.Nat.{_+_, _*_, _≤_};
 ghost use lib.ListN.{length, take, drop};
 ghost use mathlib.Core.Path.{_≡_};
@@ -20,7 +20,7 @@ ghost use Rattle.fields.specs.Bytes.{bytes};
 ghost use Rattle.lines.specs.Replied.{replied};
 ghost use Rattle.lines.specs.Written.{Written};
 ghost use Rattle.input.specs.Played.{Writes, Turns, Plays};
-ghost use Rattle.batch.specs.Serve.{pairs, shownBytes, answerBytes, lentSize, answerRoom, served, serveTurn, roomFrom, serve};
+ghost use Rattle.batch.specs.Serve.{pairs, filledBytes, answerBytes, lentSize, answerRoom, served, serveTurn, roomFrom, serve};
 
 // ---- the room for an answer
 
@@ -28,10 +28,10 @@ ghost use Rattle.batch.specs.Serve.{pairs, shownBytes, answerBytes, lent
 fn lent_size(info: Info, call: Call) -> usize
     ensures { λ r. ⌜ r ≡ lentSize (info .bytes) call ⌝ }
 {
-    match lines::shown_by(call) {
-        Shown::Nothing => 0,
-        Shown::Bytes => if info.bytes <= 65536 { info.bytes } else { 0 },
-        Shown::Blocks(_) => 0,
+    match lines::filled_by(call) {
+        Filled::Neither => 0,
+        Filled::Bytes => if info.bytes <= 65536 { info.bytes } else { 0 },
+        Filled::Blocks(_) => 0,
     }
 }
 
@@ -84,7 +84,7 @@ fn put_pairs(to: &mut [u8], at: usize, values: &[u16]) -> usize
 }
 
 // The first so many numbers of a table, or all.
-fn put_first(to: &mut [u8], at: usize, values: &[u16], count: usize) -> usize
+fn put_first_pairs(to: &mut [u8], at: usize, values: &[u16], count: usize) -> usize
     requires { ⌜ at + length (pairs (take count (now values))) ≤ length (now to) ⌝ }
     ensures { λ r. ⌜ Written (now (to .entry)) at (pairs (take count (now (values .entry)))) (now (to .exit)) r ⌝ }
 {
@@ -96,19 +96,19 @@ fn put_first(to: &mut [u8], at: usize, values: &[u16], count: usize) -> usize
 }
 
 // What a done call left in a buffer: READ's bytes, which stand here already, or ALLOC's numbers.
-fn put_shown(to: &mut [u8], at: usize, shown: Shown, size: usize, places: &[u16]) -> usize
-    requires { ⌜ at + size ≤ length (now to) ⌝ ∗ ⌜ at + length (shownBytes shown (take size (drop at (now to))) (now places)) ≤ length (now to) ⌝ }
-    ensures { λ r. ⌜ Written (now (to .entry)) at (shownBytes shown (take size (drop at (now (to .entry)))) (now (places .entry))) (now (to .exit)) r ⌝ }
+fn put_filled_bytes(to: &mut [u8], at: usize, filled: Filled, size: usize, places: &[u16]) -> usize
+    requires { ⌜ at + size ≤ length (now to) ⌝ ∗ ⌜ at + length (filledBytes filled (take size (drop at (now to))) (now places)) ≤ length (now to) ⌝ }
+    ensures { λ r. ⌜ Written (now (to .entry)) at (filledBytes filled (take size (drop at (now (to .entry)))) (now (places .entry))) (now (to .exit)) r ⌝ }
 {
-    match shown {
-        Shown::Nothing => at,
-        Shown::Bytes => at + size,
-        Shown::Blocks(n) => put_first(to, at, places, n as usize),
+    match filled {
+        Filled::Neither => at,
+        Filled::Bytes => at + size,
+        Filled::Blocks(n) => put_first_pairs(to, at, places, n as usize),
     }
 }
 
 // The answer to a call. READ's bytes stand behind the place of the number already.
-fn put_answer(
+fn put_answer_bytes(
     to: &mut [u8],
     at: usize,
     call: Call,
@@ -123,7 +123,7 @@ fn put_answer(
         Answer::Refused(r) => put_big_endian(to, at, 1, lines::refusal_number(r)),
         Answer::Done => {
             let next = put_big_endian(to, at, 1, 0);
-            put_shown(to, next, lines::shown_by(call), size, places)
+            put_filled_bytes(to, next, lines::filled_by(call), size, places)
         }
         Answer::Value(v) => {
             let next = put_big_endian(to, at, 1, 0);
@@ -173,7 +173,7 @@ fn answer_call(
         &mut places,
     );
     let answer = outcome.answer;
-    let next = put_answer(to, at, call, answer, size, &places);
+    let next = put_answer_bytes(to, at, call, answer, size, &places);
     let left = outcome.info;
     Wrote {
         info: left,

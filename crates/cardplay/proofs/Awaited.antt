@@ -77,7 +77,7 @@ goOn-awaits : (stop : Stop) (t : Turn) (records : ℕ) (rest : ℕ → Card → 
     → ((n : ℕ) (c : Card) (xs : List ℕ) (left : ℕ) → needsInput (rest n c xs left .stop) ≡ true → length (rest n c xs left .left) < recordRoom)
     → needsInput (goOn stop t records rest room .stop) ≡ true → length (goOn stop t records rest room .left) < recordRoom
 unfolding goOn
-goOn-awaits Went t records rest room h later e = later (records + 1) (t .after) (t .left) (room - length (t .lines)) e
+goOn-awaits Went t records rest room h later e = later (records + 1) (t .after) (t .left) (room - length (t .output)) e
 goOn-awaits Ended t records rest room h later e = h refl
 goOn-awaits Short t records rest room h later e = h refl
 goOn-awaits Refused t records rest room h later e = absurd (false≢true e)

@@ -18,50 +18,50 @@ use Rattle.cardplay.proofs.PlayLonger.{behind-behind, play-longer}
 -- ---- piece by piece
 
 pub pieces-none : (c₀ : Card) → Pieces c₀ 0 c₀ []
-pieces-none c₀ = record { input = []; lines = []; total = λ more room h. ap (play 0 c₀ more) (sym (sub-zero room)) }
+pieces-none c₀ = record { input = []; output = []; total = λ more room h. ap (play 0 c₀ more) (sym (sub-zero room)) }
 
 module _ {c₀ : Card} {records : ℕ} {c : Card} {left : List ℕ} (s : Pieces c₀ records c left) where
   pub pieces-read : (ys : List ℕ) → Pieces c₀ records c (left ++ ys)
   pieces-read ys = record {
     input = s .input ++ ys;
-    lines = s .lines;
+    output = s .output;
     total = λ more room h.
         ap (λ (zs : List ℕ). play 0 c₀ zs room) (append-assoc (s .input) ys more)
         ∙ s .total (ys ++ more) room h
-        ∙ ap (λ (zs : List ℕ). behind (s .lines) (play records c zs (room - length (s .lines)))) (sym (append-assoc left ys more));
+        ∙ ap (λ (zs : List ℕ). behind (s .output) (play records c zs (room - length (s .output)))) (sym (append-assoc left ys more));
   }
 
   pub pieces-played : (small : ℕ) → let p : Play = play records c left small in Pieces c₀ (p .records) (p .after) (p .left)
   pieces-played small =
       let p : Play = play records c left small in
-      let long : length (s .lines ++ p .lines) ≡ length (s .lines) + length (p .lines) = length-append (s .lines) (p .lines) in
+      let long : length (s .output ++ p .output) ≡ length (s .output) + length (p .output) = length-append (s .output) (p .output) in
       record {
         input = s .input;
-        lines = s .lines ++ p .lines;
+        output = s .output ++ p .output;
         total = λ more room h.
             s .total more room (omega arith)
-            ∙ ap (behind (s .lines)) (play-longer records c left small more (room - length (s .lines)) (omega arith))
-            ∙ behind-behind (s .lines) (p .lines) room (p .records) (p .after) (p .left ++ more);
+            ∙ ap (behind (s .output)) (play-longer records c left small more (room - length (s .output)) (omega arith))
+            ∙ behind-behind (s .output) (p .output) room (p .records) (p .after) (p .left ++ more);
       }
 
   module _ {stop : Stop} (halts : PlaysNothing stop records c left) where
-    ends : (room : ℕ) → length (s .lines) + lineRoom ≤ room → play 0 c₀ (s .input) room ≡ record { stop = stop; lines = s .lines; records = records; after = c; left = left }
+    ends : (room : ℕ) → length (s .output) + lineRoom ≤ room → play 0 c₀ (s .input) room ≡ record { stop = stop; output = s .output; records = records; after = c; left = left }
     ends room h =
         ap (λ (zs : List ℕ). play 0 c₀ zs room) (sym (append-nil (s .input)))
         ∙ s .total [] room h
-        ∙ ap (λ (zs : List ℕ). behind (s .lines) (play records c zs (room - length (s .lines)))) (append-nil left)
-        ∙ ap (behind (s .lines)) (halts (room - length (s .lines)) (omega arith))
-        ∙ ap (λ (ls : List ℕ). record { stop = stop; lines = ls; records = records; after = c; left = left }) (append-nil (s .lines))
+        ∙ ap (λ (zs : List ℕ). behind (s .output) (play records c zs (room - length (s .output)))) (append-nil left)
+        ∙ ap (behind (s .output)) (halts (room - length (s .output)) (omega arith))
+        ∙ ap (λ (ls : List ℕ). record { stop = stop; output = ls; records = records; after = c; left = left }) (append-nil (s .output))
 
     -- What was written is the whole play of what was read.
     pub pieces-whole : PlayedWhole c₀ stop records c
     unfolding transcript
     pieces-whole = record {
       input = s .input;
-      lines = s .lines;
+      output = s .output;
       left = left;
       plays = ends;
-      writes = λ room h. ap (λ (p : Play). p .lines ++ lastLine (p .records) (endNumber (p .stop))) (ends room h);
+      writes = λ room h. ap (λ (p : Play). p .output ++ lastLine (p .records) (endNumber (p .stop))) (ends room h);
     }
 
 -- ---- its end

@@ -24,7 +24,7 @@ use Rattle.cardplay.specs.Pieces.{PlaysNothing}
 -- ---- one turn
 
 turn-longer : (ordinal : ℕ) (c : Card) (xs ys : List ℕ) (n : Next) → decode xs ≡ n → turnOf ordinal c xs n .stop ≡ Went
-    → turn ordinal c (xs ++ ys) ≡ record { stop = Went; lines = turnOf ordinal c xs n .lines; after = turnOf ordinal c xs n .after; left = turnOf ordinal c xs n .left ++ ys }
+    → turn ordinal c (xs ++ ys) ≡ record { stop = Went; output = turnOf ordinal c xs n .output; after = turnOf ordinal c xs n .after; left = turnOf ordinal c xs n .left ++ ys }
 unfolding turn turnOf decode
 turn-longer ordinal c xs ys ended d e = let z : _≡_ {A = ℕ} 0 1 = cc in absurd (omega arith)
 turn-longer ordinal c xs ys refused d e = absurd (fault-stops xs e)
@@ -48,19 +48,19 @@ tried-idle false records c xs h = turn-idle (records + 1) c xs (decode xs) h
 
 -- A turn that goes does so whatever follows.
 tried-went : (full : Bool) (records : ℕ) (c : Card) (xs ys : List ℕ) (big : ℕ) → lineRoom ≤ big → let t : Turn = tried full records c xs in t .stop ≡ Went
-    → play records c (xs ++ ys) big ≡ behind (t .lines) (play (records + 1) (t .after) (t .left ++ ys) (big - length (t .lines)))
+    → play records c (xs ++ ys) big ≡ behind (t .output) (play (records + 1) (t .after) (t .left ++ ys) (big - length (t .output)))
 unfolding turn
 tried-went true records c xs ys big h e = let z : _≡_ {A = ℕ} 0 1 = cc in absurd (omega arith)
 tried-went false records c xs ys big h e =
     let longer = turn-longer (records + 1) c xs ys (decode xs) refl e in
     play-went records c (xs ++ ys) big h (ap (λ (t : Turn). t .stop) longer)
-    ∙ ap (λ (t : Turn). behind (t .lines) (play (records + 1) (t .after) (t .left) (big - length (t .lines)))) longer
+    ∙ ap (λ (t : Turn). behind (t .output) (play (records + 1) (t .after) (t .left) (big - length (t .output)))) longer
 
 -- ---- a play of the input's first part
 
 -- However far the play of the first part came, that of the whole goes on from there.
 abbrev Longer : Play → ℕ → Card → List ℕ → Type 0
-Longer p records c xs = (ys : List ℕ) (big : ℕ) → length (p .lines) + lineRoom ≤ big → play records c (xs ++ ys) big ≡ behind (p .lines) (play (p .records) (p .after) (p .left ++ ys) (big - length (p .lines)))
+Longer p records c xs = (ys : List ℕ) (big : ℕ) → length (p .output) + lineRoom ≤ big → play records c (xs ++ ys) big ≡ behind (p .output) (play (p .records) (p .after) (p .left ++ ys) (big - length (p .output)))
 
 longer-none : (stop : Stop) (records : ℕ) (c : Card) (xs : List ℕ) → Longer (stopped stop records c xs) records c xs
 longer-none stop records c xs ys big h = ap (play records c (xs ++ ys)) (sym (sub-zero big))
@@ -69,7 +69,7 @@ abbrev PlaysNothingAfter : Play → Type 0
 PlaysNothingAfter p = isFull (p .stop) ≡ false → PlaysNothing (p .stop) (p .records) (p .after) (p .left)
 
 behind-append : (us vs : List ℕ) (p : Play) → behind us (behind vs p) ≡ behind (us ++ vs) p
-behind-append us vs p = ap (λ (ls : List ℕ). record { stop = p .stop; lines = ls; records = p .records; after = p .after; left = p .left }) (sym (append-assoc us vs (p .lines)))
+behind-append us vs p = ap (λ (ls : List ℕ). record { stop = p .stop; output = ls; records = p .records; after = p .after; left = p .left }) (sym (append-assoc us vs (p .output)))
 
 pub behind-behind : (us vs : List ℕ) (big : ℕ) (records : ℕ) (c : Card) (xs : List ℕ)
     → behind us (behind vs (play records c xs (big - length us - length vs))) ≡ behind (us ++ vs) (play records c xs (big - length (us ++ vs)))
@@ -99,11 +99,11 @@ module _ (most records : ℕ) (c : Card) (xs : List ℕ) (small : ℕ) (full : B
       → Longer (goOn stop tries records (playWithin most) small) records c xs
   unfolding goOn
   goOn-longer Went e ih ys big h =
-      let p : Play = playWithin most (records + 1) (tries .after) (tries .left) (small - length (tries .lines)) in
-      let long : length (tries .lines ++ p .lines) ≡ length (tries .lines) + length (p .lines) = length-append (tries .lines) (p .lines) in
+      let p : Play = playWithin most (records + 1) (tries .after) (tries .left) (small - length (tries .output)) in
+      let long : length (tries .output ++ p .output) ≡ length (tries .output) + length (p .output) = length-append (tries .output) (p .output) in
       tried-went full records c xs ys big (omega arith) e
-      ∙ ap (behind (tries .lines)) (ih (records + 1) (tries .after) (tries .left) (small - length (tries .lines)) ys (big - length (tries .lines)) (omega arith))
-      ∙ behind-behind (tries .lines) (p .lines) big (p .records) (p .after) (p .left ++ ys)
+      ∙ ap (behind (tries .output)) (ih (records + 1) (tries .after) (tries .left) (small - length (tries .output)) ys (big - length (tries .output)) (omega arith))
+      ∙ behind-behind (tries .output) (p .output) big (p .records) (p .after) (p .left ++ ys)
   goOn-longer Ended e ih ys big h = subst (λ (p : Play). Longer p records c xs) (stops Ended e refl) (longer-none Ended records c xs) ys big h
   goOn-longer Short e ih ys big h = subst (λ (p : Play). Longer p records c xs) (stops Short e refl) (longer-none Short records c xs) ys big h
   goOn-longer Refused e ih ys big h = subst (λ (p : Play). Longer p records c xs) (stops Refused e refl) (longer-none Refused records c xs) ys big h
@@ -112,7 +112,7 @@ module _ (most records : ℕ) (c : Card) (xs : List ℕ) (small : ℕ) (full : B
   goOn-halted : (stop : Stop) → tries .stop ≡ stop → ((n : ℕ) (d : Card) (zs : List ℕ) (room : ℕ) → PlaysNothingAfter (playWithin most n d zs room))
       → PlaysNothingAfter (goOn stop tries records (playWithin most) small)
   unfolding goOn
-  goOn-halted Went e ih f = ih (records + 1) (tries .after) (tries .left) (small - length (tries .lines)) f
+  goOn-halted Went e ih f = ih (records + 1) (tries .after) (tries .left) (small - length (tries .output)) f
   goOn-halted Ended e ih f = subst PlaysNothingAfter (stops Ended e refl) (λ g. halted-here full records c xs Ended e refl g) f
   goOn-halted Short e ih f = subst PlaysNothingAfter (stops Short e refl) (λ g. halted-here full records c xs Short e refl g) f
   goOn-halted Refused e ih f = subst PlaysNothingAfter (stops Refused e refl) (λ g. halted-here full records c xs Refused e refl g) f

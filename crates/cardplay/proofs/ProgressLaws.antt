@@ -63,7 +63,7 @@ module _ {want : Play} {stop : Stop} {count : ℕ} {after : Card} {buffer : List
       let more : List ℕ = take (end - left) (drop left now) in
       let whole : left + (end - left) ≡ end = omega (arith, f .further) in
       let long : left ≡ length (want .left) = omega (arith, ap length (p .rests), length-take-le left buffer (p .within)) in
-      let ends : length (want .lines) ≡ written = sym (written-within (p .writes) .0) in
+      let ends : length (want .output) ≡ written = sym (written-within (p .writes) .0) in
       record {
         more = more;
         stops = p .stops;
@@ -75,7 +75,7 @@ module _ {want : Play} {stop : Stop} {count : ℕ} {after : Card} {buffer : List
             ∙ ap (λ (ys : List ℕ). ys ++ more) (f .keeps ∙ p .rests);
         idle = λ e. let none : end - left ≡ 0 = omega (arith, r .idle (ap (λ (t : Bool). wrote && t) a ∙ e) .1) in ap (λ (n : ℕ). take n (drop left now)) none;
         within = f .within;
-        writes = subst (Written before 0 (want .lines) to) (sym ends) (p .writes);
+        writes = subst (Written before 0 (want .output) to) (sym ends) (p .writes);
         goes = ap₂ (λ (t : Bool) (n : ℕ). wrote && (t || ltb n end)) b long;
       }
 

@@ -15,8 +15,8 @@ use Rattle.cardplay.specs.declared.Progress.{Progress}
 -- Some input has been read and some lines were written, and whatever follows is played from here.
 pub record Pieces (c₀ : Card) (records : ℕ) (c : Card) (left : List ℕ) : Type 0 where
   pub input : List ℕ
-  pub lines : List ℕ
-  pub total : (more : List ℕ) (room : ℕ) → length lines + lineRoom ≤ room → play 0 c₀ (input ++ more) room ≡ behind lines (play records c (left ++ more) (room - length lines))
+  pub output : List ℕ
+  pub total : (more : List ℕ) (room : ℕ) → length output + lineRoom ≤ room → play 0 c₀ (input ++ more) room ≡ behind output (play records c (left ++ more) (room - length output))
 
 -- Nothing of what is left is played, for this reason.
 abbrev pub PlaysNothing : Stop → ℕ → Card → List ℕ → Type 0
@@ -25,10 +25,10 @@ PlaysNothing stop records c left = (room : ℕ) → lineRoom ≤ room → play r
 -- The whole play of some input, which is what a player writes of it but for the last line.
 pub record PlayedWhole (c₀ : Card) (stop : Stop) (records : ℕ) (c : Card) : Type 0 where
   pub input : List ℕ
-  pub lines : List ℕ
+  pub output : List ℕ
   pub left : List ℕ
-  pub plays : (room : ℕ) → length lines + lineRoom ≤ room → play 0 c₀ input room ≡ record { stop = stop; lines = lines; records = records; after = c; left = left }
-  pub writes : (room : ℕ) → length lines + lineRoom ≤ room → transcript c₀ input room ≡ lines ++ lastLine records (endNumber stop)
+  pub plays : (room : ℕ) → length output + lineRoom ≤ room → play 0 c₀ input room ≡ record { stop = stop; output = output; records = records; after = c; left = left }
+  pub writes : (room : ℕ) → length output + lineRoom ≤ room → transcript c₀ input room ≡ output ++ lastLine records (endNumber stop)
 
 -- What the pieces come to. The play is whole once it does not go on and all lines could be written.
 pub record PlayedInPieces (c₀ : Card) (stop : Stop) (records : ℕ) (after : Card) (wrote on : Bool) : Type 0 where

@@ -40,7 +40,7 @@ pub record PieceIs (want : Play) (stop : Stop) (records : ℕ) (after : Card) (b
   pub leaves : after ≡ want .after
   pub rests : take filled buffer ≡ want .left
   pub within : filled ≤ length buffer
-  pub writes : Written before 0 (want .lines) to written
+  pub writes : Written before 0 (want .output) to written
 
 -- Nothing is read, and nothing changed, unless it is wanted.
 pub record ReadIs (wanted : Bool) (before : List ℕ) (filled : ℕ) (after : List ℕ) (end : ℕ) : Type 0 where
@@ -56,7 +56,7 @@ pub record ProgressIs (want : Play) (stop : Stop) (records : ℕ) (after : Card)
   pub rests : take filled buffer ≡ want .left ++ more
   pub idle : (wrote && needsInput stop) ≡ false → more ≡ []
   pub within : filled ≤ length buffer
-  pub writes : Written before 0 (want .lines) to (length (want .lines))
+  pub writes : Written before 0 (want .output) to (length (want .output))
   pub goes : on ≡ (wrote && (isFull stop || ltb (length (want .left)) filled))
 
 -- ---- on lent tables

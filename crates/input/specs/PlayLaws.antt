@@ -57,11 +57,11 @@ tried-left false records c xs w = turn-left (records + 1) c xs w
 
 -- Where the rest of the play is the same, so is the play.
 goOn-same : (stop : Stop) (t : Turn) → t .stop ≡ stop → (records room : ℕ) (f g : ℕ → Card → List ℕ → ℕ → Play)
-    → (t .stop ≡ Went → f (records + 1) (t .after) (t .left) (room - length (t .lines)) ≡ g (records + 1) (t .after) (t .left) (room - length (t .lines)))
+    → (t .stop ≡ Went → f (records + 1) (t .after) (t .left) (room - length (t .output)) ≡ g (records + 1) (t .after) (t .left) (room - length (t .output)))
     → goOn stop t records f room ≡ goOn stop t records g room
 unfolding goOn
 goOn-same Went t e records room f g h =
-    ap (λ (p : Play). record { stop = p .stop; lines = t .lines ++ p .lines; records = p .records; after = p .after; left = p .left }) (h e)
+    ap (λ (p : Play). record { stop = p .stop; output = t .output ++ p .output; records = p .records; after = p .after; left = p .left }) (h e)
 goOn-same Ended t e records room f g h = refl
 goOn-same Short t e records room f g h = refl
 goOn-same Refused t e records room f g h = refl
@@ -79,18 +79,18 @@ within-same (suc k) (suc m) records c xs room hk hm =
     let t = tried (ltb room lineRoom) records c xs in
     goOn-same (t .stop) t refl records room (playWithin (suc k)) (playWithin (suc m))
     (λ w.
-    within-same k m (records + 1) (t .after) (t .left) (room - length (t .lines)) (omega (arith, tried-left (ltb room lineRoom) records c xs w))
+    within-same k m (records + 1) (t .after) (t .left) (room - length (t .output)) (omega (arith, tried-left (ltb room lineRoom) records c xs w))
     (omega (arith, tried-left (ltb room lineRoom) records c xs w)))
 
 -- ---- a play, turn by turn
 
--- A play with lines before it.
+-- A play with output before it.
 abbrev pub behind : List ℕ → Play → Play
-behind lines p = record { stop = p .stop; lines = lines ++ p .lines; records = p .records; after = p .after; left = p .left }
+behind output p = record { stop = p .stop; output = output ++ p .output; records = p .records; after = p .after; left = p .left }
 
 -- A play that stops at once.
 abbrev pub stopped : Stop → ℕ → Card → List ℕ → Play
-stopped stop records c xs = record { stop = stop; lines = []; records = records; after = c; left = xs }
+stopped stop records c xs = record { stop = stop; output = []; records = records; after = c; left = xs }
 
 play-tried : (full : Bool) (records : ℕ) (c : Card) (xs : List ℕ) (room : ℕ) → ltb room lineRoom ≡ full
     → play records c xs room ≡ goOn (tried full records c xs .stop) (tried full records c xs) records (playWithin (length xs)) room
@@ -106,17 +106,17 @@ module _ (records : ℕ) (c : Card) (xs : List ℕ) (room : ℕ) (h : lineRoom �
   firstTurn = turn (records + 1) c xs
 
   -- The play goes on behind the turn's line.
-  pub play-went : firstTurn .stop ≡ Went → play records c xs room ≡ behind (firstTurn .lines) (play (records + 1) (firstTurn .after) (firstTurn .left) (room - length (firstTurn .lines)))
+  pub play-went : firstTurn .stop ≡ Went → play records c xs room ≡ behind (firstTurn .output) (play (records + 1) (firstTurn .after) (firstTurn .left) (room - length (firstTurn .output)))
   unfolding goOn play
   play-went w =
       play-tried false records c xs room (le-ltb room lineRoom h)
       ∙ ap (λ (s : Stop). goOn s firstTurn records (playWithin (length xs)) room) w
-      ∙ ap (behind (firstTurn .lines)) (shorter (length xs) (turn-left (records + 1) c xs w))
+      ∙ ap (behind (firstTurn .output)) (shorter (length xs) (turn-left (records + 1) c xs w))
     where
       shorter : (k : ℕ) → length (firstTurn .left) < k
-          → playWithin k (records + 1) (firstTurn .after) (firstTurn .left) (room - length (firstTurn .lines)) ≡ playWithin (suc (length (firstTurn .left))) (records + 1) (firstTurn .after) (firstTurn .left) (room - length (firstTurn .lines))
+          → playWithin k (records + 1) (firstTurn .after) (firstTurn .left) (room - length (firstTurn .output)) ≡ playWithin (suc (length (firstTurn .left))) (records + 1) (firstTurn .after) (firstTurn .left) (room - length (firstTurn .output))
       shorter zero l = absurd (omega arith)
-      shorter (suc k) l = within-same k (length (firstTurn .left)) (records + 1) (firstTurn .after) (firstTurn .left) (room - length (firstTurn .lines)) (omega arith) (omega arith)
+      shorter (suc k) l = within-same k (length (firstTurn .left)) (records + 1) (firstTurn .after) (firstTurn .left) (room - length (firstTurn .output)) (omega arith) (omega arith)
 
   -- The play stops with the turn.
   pub play-stopped : (stop : Stop) → (stop ≡ Went → ⊥) → firstTurn .stop ≡ stop → firstTurn .after ≡ c → firstTurn .left ≡ xs → play records c xs room ≡ stopped stop records c xs

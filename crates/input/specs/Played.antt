@@ -32,8 +32,8 @@ pub record TurnIs (want : Turn) (room : ℕ) (stop : Stop) (after : Card) (input
   pub leaves : after ≡ want .after
   pub rests : drop from input ≡ want .left
   pub within : from ≤ length input
-  pub writes : Written before at (want .lines) to behind
-  pub short : length (want .lines) ≤ room
+  pub writes : Written before at (want .output) to behind
+  pub short : length (want .output) ≤ room
 
 abbrev pub isWent : Stop → Bool
 isWent Went = true
@@ -51,7 +51,7 @@ pub record PlayedIs (want : Play) (stop : Stop) (records : ℕ) (after : Card) (
   pub leaves : after ≡ want .after
   pub rests : drop read input ≡ want .left
   pub within : read ≤ length input
-  pub writes : Written before 0 (want .lines) to written
+  pub writes : Written before 0 (want .output) to written
 
 -- ---- on lent tables
 

@@ -49,7 +49,7 @@ module _ (want : Turn) (room : ℕ) (c : Card) (input : List ℕ) (from : ℕ) (
     turn-nothing {stop = stop} f e = nothing-turned stop (subst (FoundIs input from) e f)
 
   -- A whole record was found, and its call was made.
-  pub turn-whole : {made : Card} {bytes : List ℕ} {small next : ℕ} {after : Card} {to : List ℕ} {behind : ℕ} → want ≡ record { stop = Went; lines = bytes; after = made; left = drop next input }
+  pub turn-whole : {made : Card} {bytes : List ℕ} {small next : ℕ} {after : Card} {to : List ℕ} {behind : ℕ} → want ≡ record { stop = Went; output = bytes; after = made; left = drop next input }
       → next ≤ length input → small ≤ room → WroteIs made bytes small after before at to behind → TurnIs want room Went after input next before at to behind
   turn-whole {bytes = bytes} {small} e h k w =
       let short : length bytes ≤ room = omega (arith, w .short) in

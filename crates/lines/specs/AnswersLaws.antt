@@ -12,11 +12,11 @@ use Rattle.card.specs.declared.Refusal.the-variants.{Misshapen, Unsound, NotAll
 use Rattle.card.specs.declared.Answer.{Answer}
 use Rattle.card.specs.declared.Answer.the-variants.{Refused, Done, Value}
 use Rattle.card.specs.declared.Call.{Call}
-use Rattle.lines.specs.declared.Shown.{Shown}
-use Rattle.lines.specs.declared.Shown.the-variants.{Nothing, Bytes, Blocks}
+use Rattle.lines.specs.declared.Filled.{Filled}
+use Rattle.lines.specs.declared.Filled.the-variants.{Neither, Bytes, Blocks}
 use Rattle.lines.specs.Lines.{space, newline, decimal, spaced, line, lineRoom, lastLine}
 use Rattle.lines.specs.LinesLaws.{decimal-length, spaced-one, spaced-length}
-use Rattle.lines.specs.Replied.{Lent, shownBy, valuesOf, replied, values-shown}
+use Rattle.lines.specs.Replied.{BuffersFit, filledBy, valuesOf, replied, values-filled}
 use Rattle.lines.specs.Written.{Written, written-join, written-length}
 
 -- ---- room
@@ -41,14 +41,14 @@ four-written {before} {one} {two} {at = at} {next = next} {behind = behind} {ws 
     let outer : length (xs ++ (ys ++ zs)) ≤ l + m + n = omega (arith, length-append xs (ys ++ zs)) in
     written-join a (written-join b (written-join c d (omega arith)) (omega arith)) (omega arith)
 
--- No more than 64 numbers are shown.
-values-few : (shown : Shown) {out places : List ℕ} → Lent out places → length (valuesOf shown out places) ≤ 64
-values-few Nothing lent = omega arith
-values-few Bytes {out} lent = omega (arith, length-take 8 out)
-values-few (Blocks n) {places = places} lent = omega (arith, length-take n places, lent .numbers)
+-- No more than 64 numbers are reported.
+values-few : (filled : Filled) {out places : List ℕ} → BuffersFit out places → length (valuesOf filled out places) ≤ 64
+values-few Neither fit = omega arith
+values-few Bytes {out} fit = omega (arith, length-take 8 out)
+values-few (Blocks n) {places = places} fit = omega (arith, length-take n places, fit .numbers)
 
-pub values-length : (shown : Shown) {out places : List ℕ} → Lent out places → length (spaced (valuesOf shown out places)) ≤ 1344
-values-length shown {out} {places} lent = omega (arith, spaced-length (valuesOf shown out places), values-few shown lent)
+pub values-length : (filled : Filled) {out places : List ℕ} → BuffersFit out places → length (spaced (valuesOf filled out places)) ≤ 1344
+values-length filled {out} {places} fit = omega (arith, spaced-length (valuesOf filled out places), values-few filled fit)
 
 -- ---- what is reported
 
@@ -68,13 +68,13 @@ reported-refused call TooFewPlaces out places = refl
 reported-refused call TimeEnds out places = refl
 reported-refused call BadRecord out places = refl
 
-pub reported-done : (call : Call) (out places : List ℕ) → reported call (replied Done out places) ≡ 0 ∷ valuesOf (shownBy call) out places
+pub reported-done : (call : Call) (out places : List ℕ) → reported call (replied Done out places) ≡ 0 ∷ valuesOf (filledBy call) out places
 unfolding reported
-reported-done call out places = ap (λ (xs : List ℕ). 0 ∷ xs) (values-shown call (replied Done out places))
+reported-done call out places = ap (λ (xs : List ℕ). 0 ∷ xs) (values-filled call (replied Done out places))
 
-pub reported-value : (call : Call) (v : ℕ) (out places : List ℕ) → reported call (replied (Value v) out places) ≡ 0 ∷ (v ∷ valuesOf (shownBy call) out places)
+pub reported-value : (call : Call) (v : ℕ) (out places : List ℕ) → reported call (replied (Value v) out places) ≡ 0 ∷ (v ∷ valuesOf (filledBy call) out places)
 unfolding reported
-reported-value call v out places = ap (λ (xs : List ℕ). 0 ∷ (v ∷ xs)) (values-shown call (replied (Value v) out places))
+reported-value call v out places = ap (λ (xs : List ℕ). 0 ∷ (v ∷ xs)) (values-filled call (replied (Value v) out places))
 
 spaced-cons : (n : ℕ) (ns : List ℕ) → spaced (n ∷ ns) ≡ (space ∷ decimal n) ++ spaced ns
 unfolding spaced
@@ -91,43 +91,43 @@ module _ (call : Call) (answer : Answer) (out places : List ℕ) where
       → Written before at (spaced (reported call (replied answer out places))) after behind
   answered-refused r e q w = rw (e, reported-refused call r out places, ← q, spaced-single) w
 
-  pub answered-done : {before middle after : List ℕ} {at next behind : ℕ} {shown : Shown} → Lent out places → answer ≡ Done → shown ≡ shownBy call
-      → at + 1386 ≤ length before → Written before at (space ∷ decimal 0) middle next → Written middle next (spaced (valuesOf shown out places)) after behind
+  pub answered-done : {before middle after : List ℕ} {at next behind : ℕ} {filled : Filled} → BuffersFit out places → answer ≡ Done → filled ≡ filledBy call
+      → at + 1386 ≤ length before → Written before at (space ∷ decimal 0) middle next → Written middle next (spaced (valuesOf filled out places)) after behind
       → Written before at (spaced (reported call (replied answer out places))) after behind
-  answered-done {shown = shown} lent e q h a b =
-      rw (e, reported-done call out places, ← q, spaced-cons) (written-join a b (omega (arith, spaced-one 0, values-length shown lent)))
+  answered-done {filled = filled} fit e q h a b =
+      rw (e, reported-done call out places, ← q, spaced-cons) (written-join a b (omega (arith, spaced-one 0, values-length filled fit)))
 
-  pub answered-value : {before middle further after : List ℕ} {at next last behind v : ℕ} {shown : Shown} → Lent out places → answer ≡ Value v → shown ≡ shownBy call
+  pub answered-value : {before middle further after : List ℕ} {at next last behind v : ℕ} {filled : Filled} → BuffersFit out places → answer ≡ Value v → filled ≡ filledBy call
       → at + 1386 ≤ length before → Written before at (space ∷ decimal 0) middle next → Written middle next (space ∷ decimal v) further last
-      → Written further last (spaced (valuesOf shown out places)) after behind
+      → Written further last (spaced (valuesOf filled out places)) after behind
       → Written before at (spaced (reported call (replied answer out places))) after behind
-  answered-value {before} {at = at} {v = v} {shown = shown} lent e q h a b d =
+  answered-value {before} {at = at} {v = v} {filled = filled} fit e q h a b d =
       let fits : at + 21 + 1365 ≤ length before = omega arith in
       rw (e, reported-value call v out places, ← q, spaced-cons, spaced-cons)
-      (written-join a (written-join b d (omega (arith, room-spaced 0 1365 a fits, spaced-one v, values-length shown lent)))
-      (omega (arith, spaced-one 0, spaced-one v, values-length shown lent, length-append (space ∷ decimal v) (spaced (valuesOf shown out places)))))
+      (written-join a (written-join b d (omega (arith, room-spaced 0 1365 a fits, spaced-one v, values-length filled fit)))
+      (omega (arith, spaced-one 0, spaced-one v, values-length filled fit, length-append (space ∷ decimal v) (spaced (valuesOf filled out places)))))
 
 -- ---- a line
 
-answer-length : (call : Call) (r : Reply) → Lent (r .out) (r .places) → (answer : Answer) → r .answer ≡ answer → length (spaced (reported call r)) ≤ 1386
-answer-length call r lent (Refused x) e =
+answer-length : (call : Call) (r : Reply) → BuffersFit (r .out) (r .places) → (answer : Answer) → r .answer ≡ answer → length (spaced (reported call r)) ≤ 1386
+answer-length call r fit (Refused x) e =
     rw (ap (λ (a : Answer). length (spaced (reported call (replied a (r .out) (r .places))))) e, reported-refused call x (r .out) (r .places), spaced-single)
     (omega (arith, spaced-one (refusalNumber x)))
-answer-length call r lent Done e =
+answer-length call r fit Done e =
     rw (ap (λ (a : Answer). length (spaced (reported call (replied a (r .out) (r .places))))) e, reported-done call (r .out) (r .places), spaced-cons)
-    (omega (arith, length-append (space ∷ decimal 0) (spaced (valuesOf (shownBy call) (r .out) (r .places))), spaced-one 0, values-length (shownBy call) lent))
-answer-length call r lent (Value v) e =
-    let values : List ℕ = valuesOf (shownBy call) (r .out) (r .places) in
+    (omega (arith, length-append (space ∷ decimal 0) (spaced (valuesOf (filledBy call) (r .out) (r .places))), spaced-one 0, values-length (filledBy call) fit))
+answer-length call r fit (Value v) e =
+    let values : List ℕ = valuesOf (filledBy call) (r .out) (r .places) in
     rw (ap (λ (a : Answer). length (spaced (reported call (replied a (r .out) (r .places))))) e, reported-value call v (r .out) (r .places), spaced-cons, spaced-cons)
     (omega
-    (arith, length-append (space ∷ decimal 0) ((space ∷ decimal v) ++ spaced values), length-append (space ∷ decimal v) (spaced values), spaced-one 0, spaced-one v, values-length (shownBy call) lent))
+    (arith, length-append (space ∷ decimal 0) ((space ∷ decimal v) ++ spaced values), length-append (space ∷ decimal v) (spaced values), spaced-one 0, spaced-one v, values-length (filledBy call) fit))
 
-module _ (ordinal kind : ℕ) (call : Call) (answer : Answer) (out places : List ℕ) (lent : Lent out places) where
+module _ (ordinal kind : ℕ) (call : Call) (answer : Answer) (out places : List ℕ) (fit : BuffersFit out places) where
   abbrev answer-bytes : List ℕ
   answer-bytes = spaced (reported call (replied answer out places))
 
   answer-short : length answer-bytes ≤ 1386
-  answer-short = answer-length call (replied answer out places) lent answer refl
+  answer-short = answer-length call (replied answer out places) fit answer refl
 
   -- Room for the newline.
   pub room-last : {before after : List ℕ} {at behind : ℕ} → Written before at answer-bytes after behind → at + 1386 + 1 ≤ length before → behind + 1 ≤ length after

@@ -21,13 +21,13 @@ use Rattle.input.specs.declared.Stop.the-variants.{Went, Full}
 
 -- ---- a turn that did not go changes nothing
 
-next-halts : (ordinal : ℕ) (c : Card) (xs : List ℕ) (n : Next) → isWent (turnOf ordinal c xs n .stop) ≡ false → (turnOf ordinal c xs n .after ≡ c) × (turnOf ordinal c xs n .left ≡ xs) × (turnOf ordinal c xs n .lines ≡ [])
+next-halts : (ordinal : ℕ) (c : Card) (xs : List ℕ) (n : Next) → isWent (turnOf ordinal c xs n .stop) ≡ false → (turnOf ordinal c xs n .after ≡ c) × (turnOf ordinal c xs n .left ≡ xs) × (turnOf ordinal c xs n .output ≡ [])
 unfolding turnOf
 next-halts ordinal c xs ended e = (refl, refl, refl)
 next-halts ordinal c xs refused e = (refl, refl, refl)
 next-halts ordinal c xs (sent port call payload rest) e = absurd (mathlib.Core.Bool.true≢false e)
 
-turn-halts : (ordinal : ℕ) (c : Card) (xs : List ℕ) → isWent (turn ordinal c xs .stop) ≡ false → (turn ordinal c xs .after ≡ c) × (turn ordinal c xs .left ≡ xs) × (turn ordinal c xs .lines ≡ [])
+turn-halts : (ordinal : ℕ) (c : Card) (xs : List ℕ) → isWent (turn ordinal c xs .stop) ≡ false → (turn ordinal c xs .after ≡ c) × (turn ordinal c xs .left ≡ xs) × (turn ordinal c xs .output ≡ [])
 unfolding turn
 turn-halts ordinal c xs e = next-halts ordinal c xs (decode xs) e
 
@@ -102,14 +102,14 @@ module _ (records₀ : ℕ) (c₀ : Card) (xs out₀ : List ℕ) where
       pub playing-more : isWent stop ≡ true → Playing records₀ c₀ xs out₀ (count + 1) after next next-at to
       playing-more w =
           let one : Turn = turn (count + 1) c (drop from xs) in
-          let rest : Play = play (count + 1) (one .after) (one .left) (length out₀ - length (p .done) - length (one .lines)) in
-          let long : length (p .done ++ one .lines) ≡ length (p .done) + length (one .lines) = length-append (p .done) (one .lines) in
-          let room-left : length out₀ - length (p .done) - length (one .lines) ≡ length out₀ - length (p .done ++ one .lines) = omega arith in
-          let same : rest ≡ play (count + 1) after (drop next xs) (length out₀ - length (p .done ++ one .lines)) =
-          ap₂ (λ (d : Card) (ys : List ℕ). play (count + 1) d ys (length out₀ - length (p .done) - length (one .lines))) (sym (t .leaves)) (sym (t .rests))
+          let rest : Play = play (count + 1) (one .after) (one .left) (length out₀ - length (p .done) - length (one .output)) in
+          let long : length (p .done ++ one .output) ≡ length (p .done) + length (one .output) = length-append (p .done) (one .output) in
+          let room-left : length out₀ - length (p .done) - length (one .output) ≡ length out₀ - length (p .done ++ one .output) = omega arith in
+          let same : rest ≡ play (count + 1) after (drop next xs) (length out₀ - length (p .done ++ one .output)) =
+          ap₂ (λ (d : Card) (ys : List ℕ). play (count + 1) d ys (length out₀ - length (p .done) - length (one .output))) (sym (t .leaves)) (sym (t .rests))
           ∙ ap (play (count + 1) after (drop next xs)) room-left in
           record {
-            done = p .done ++ one .lines;
+            done = p .done ++ one .output;
             within = t .within;
             counted = omega (arith, p .counted, playing-further w);
             fits = omega (arith, here, p .fits, t .short);
@@ -117,8 +117,8 @@ module _ (records₀ : ℕ) (c₀ : Card) (xs out₀ : List ℕ) where
             total =
                 p .total
                 ∙ ap (behind (p .done)) (play-went count c (drop from xs) (length out₀ - length (p .done)) here (went w))
-                ∙ ap (λ (ls : List ℕ). record { stop = rest .stop; lines = ls; records = rest .records; after = rest .after; left = rest .left }) (sym (append-assoc (p .done) (one .lines) (rest .lines)))
-                ∙ ap (behind (p .done ++ one .lines)) same;
+                ∙ ap (λ (ls : List ℕ). record { stop = rest .stop; output = ls; records = rest .records; after = rest .after; left = rest .left }) (sym (append-assoc (p .done) (one .output) (rest .output)))
+                ∙ ap (behind (p .done ++ one .output)) same;
           }
 
 -- ---- the loop's invariant

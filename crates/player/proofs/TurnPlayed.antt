@@ -12,7 +12,7 @@ use Rattle.card.specs.Session.{Reply, reply}
 use Rattle.card.specs.declared.Call.{Call}
 use Rattle.card.specs.declared.Answer.{Answer}
 use Rattle.lines.specs.Lines.{line, lineRoom}
-use Rattle.lines.specs.Replied.{Lent, replied}
+use Rattle.lines.specs.Replied.{BuffersFit, replied}
 use Rattle.lines.specs.AnswersLaws.{line-short}
 use Rattle.lines.specs.Written.{Written}
 use Rattle.input.specs.Play.{played, turnOf, turn}
@@ -25,15 +25,15 @@ use Rattle.input.specs.declared.Record.{Record}
 use Rattle.input.specs.declared.Found.{Found}
 use Rattle.input.specs.declared.Found.the-variants.{Whole, Nothing}
 
-pub call-played : (ordinal kind : ℕ) (call : Call) {want : Result} {answer : Answer} {after : Card} {out places before to : List ℕ} {at behind : ℕ} → Lent out places
+pub call-played : (ordinal kind : ℕ) (call : Call) {want : Result} {answer : Answer} {after : Card} {out places before to : List ℕ} {at behind : ℕ} → BuffersFit out places
     → Is want answer after out places → Written before at (line ordinal kind call (replied answer out places)) to behind
     → WroteIs (want .after) (line ordinal kind call (reply want)) lineRoom after before at to behind
-call-played ordinal kind call {want} {answer} {after} {out} {places} {before} {to} {at} {behind} lent i w =
+call-played ordinal kind call {want} {answer} {after} {out} {places} {before} {to} {at} {behind} fit i w =
     let same : replied answer out places ≡ reply want = λ k. record { answer = i .answers k; out = i .fillsOut k; places = i .fillsPlaces k } in
     record {
       leaves = i .leaves;
       writes = subst (λ (r : Reply). Written before at (line ordinal kind call r) to behind) same w;
-      short = subst (λ (r : Reply). length (line ordinal kind call r) ≤ lineRoom) same (line-short ordinal kind call answer out places lent);
+      short = subst (λ (r : Reply). length (line ordinal kind call r) ≤ lineRoom) same (line-short ordinal kind call answer out places fit);
     }
 
 -- ---- a turn, by what was found

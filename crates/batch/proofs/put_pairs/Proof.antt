@@ -6,7 +6,7 @@ use mathlib.Core.Path.{refl}
 use lib.ListN.{length, take}
 use Rattle.lines.specs.LinesLaws.{filling-none}
 use Rattle.batch.specs.Serve.{pairs}
-use Rattle.batch.proofs.Pieces.{Pairing, pairing-more, pairing-done}
+use Rattle.batch.proofs.AnswerBytesLaws.{Pairing, pairing-more, pairing-done}
 use Rattle.batch.proofs.put_pairs.Statement.{statement}
 use Rattle.batch.proofs.put_pairs.Tie as tie
 

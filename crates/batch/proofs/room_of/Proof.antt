@@ -1,6 +1,6 @@
 -- `batch::room_of` meets its contract. Assumes nothing.
 use native.Mathlib.Omega.{arith}
-use Rattle.batch.proofs.Pieces.{lent-most, room-read}
+use Rattle.batch.proofs.AnswerBytesLaws.{lent-most, room-read}
 use Rattle.batch.specs.Serve.{answerRoom}
 use borrow.Author.Needs.{needs}
 use Rattle.batch.proofs.room_of.Statement.{statement}

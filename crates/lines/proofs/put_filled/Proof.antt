@@ -1,4 +1,4 @@
--- `lines::put_shown` meets its contract. Assumes nothing.
+-- `lines::put_filled` meets its contract. Assumes nothing.
 use mathlib.Core.Path.{sym}
 use native.Mathlib.Omega.{arith}
 use lib.ListN.{length-take}
@@ -6,8 +6,8 @@ use lib.Seq.{length-take-le}
 use Rattle.lines.specs.Lines.{spaced}
 use Rattle.lines.specs.Written.{written-none}
 use borrow.Author.Needs.{needs}
-use Rattle.lines.proofs.put_shown.Statement.{statement}
-use Rattle.lines.proofs.put_shown.Tie as tie
+use Rattle.lines.proofs.put_filled.Statement.{statement}
+use Rattle.lines.proofs.put_filled.Tie as tie
 
 enum-told : tie.Need-enum-told
 enum-told c = search needs
@@ -21,8 +21,8 @@ slice-aggregate-put-bytes c = sym (length-take-le 8 (c .before .before .before .
 put-bytes-requires : tie.Need-put-bytes-requires
 put-bytes-requires c κs = omega (arith, length-take 8 (c .before .before .before .before .before .before .before .args .out .now))
 
-enum-known-shown : tie.Need-enum-known-shown
-enum-known-shown c = search needs
+enum-known-filled : tie.Need-enum-known-filled
+enum-known-filled c = search needs
 
 cast-put-first : tie.Need-cast-put-first
 cast-put-first c = search needs
@@ -44,17 +44,17 @@ same-length-2 : tie.Need-same-length-2
 same-length-2 c = search needs
 
 returns-3 : tie.Need-returns-3
-returns-3 c = rw (c .before .before .before .before .before .shown .given .1) (c .before .before .put-first .ensures)
+returns-3 c = rw (c .before .before .before .before .before .filled .given .1) (c .before .before .put-first .ensures)
 
-pub put-shown-spec : {M : Type 1} → statement M
-put-shown-spec =
+pub put-filled-spec : {M : Type 1} → statement M
+put-filled-spec =
     tie.close
     (tie.spec
     enum-told
     enum-told-2
     slice-aggregate-put-bytes
     put-bytes-requires
-    enum-known-shown
+    enum-known-filled
     cast-put-first
     put-first-requires
     returns

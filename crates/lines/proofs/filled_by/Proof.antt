@@ -1,7 +1,7 @@
--- `lines::shown_by` meets its contract. Assumes nothing.
+-- `lines::filled_by` meets its contract. Assumes nothing.
 use borrow.Author.Needs.{needs}
-use Rattle.lines.proofs.shown_by.Statement.{statement}
-use Rattle.lines.proofs.shown_by.Tie as tie
+use Rattle.lines.proofs.filled_by.Statement.{statement}
+use Rattle.lines.proofs.filled_by.Tie as tie
 
 enum-told : tie.Need-enum-told
 enum-told c = search needs
@@ -69,8 +69,8 @@ returns-10 c = search needs
 returns-11 : tie.Need-returns-11
 returns-11 c = search needs
 
-pub shown-by-spec : {M : Type 1} → statement M
-shown-by-spec =
+pub filled-by-spec : {M : Type 1} → statement M
+filled-by-spec =
     tie.close
     (tie.spec
     enum-told

@@ -22,16 +22,16 @@ use Rattle.card.specs.declared.Call.{Call}
 use Rattle.card.specs.declared.Call.the-variants.{Read}
 use Rattle.fields.specs.Bytes.{bytes}
 use Rattle.fields.specs.BytesLaws.{length-bytes}
-use Rattle.lines.specs.Replied.{shownBy, replied}
+use Rattle.lines.specs.Replied.{filledBy, replied}
 use Rattle.lines.specs.Written.{Written, written-none, written-join, written-length}
 use Rattle.lines.specs.LinesLaws.{Filling, filling-more}
-use Rattle.lines.specs.declared.Shown.{Shown}
-use Rattle.lines.specs.declared.Shown.the-variants.{Nothing, Bytes, Blocks}
-use Rattle.batch.specs.Serve.{pairs, shownBytes, answerBytes, lentBytes, lentSize, answerRoom}
+use Rattle.lines.specs.declared.Filled.{Filled}
+use Rattle.lines.specs.declared.Filled.the-variants.{Neither, Bytes, Blocks}
+use Rattle.batch.specs.Serve.{pairs, filledBytes, answerBytes, lentBytes, lentSize, answerRoom}
 
 -- ---- what is lent
 
-module _ (size : ℕ) (call : Call) {shown : Shown} (e : shown ≡ shownBy call) (b : shown ≡ Bytes) where
+module _ (size : ℕ) (call : Call) {filled : Filled} (e : filled ≡ filledBy call) (b : filled ≡ Bytes) where
   pub lent-whole : size ≤ 65536 → size ≡ lentSize size call
   unfolding lentSize
   lent-whole h = rw (← e, b, le-leb size 65536 h)
@@ -40,14 +40,14 @@ module _ (size : ℕ) (call : Call) {shown : Shown} (e : shown ≡ shownBy call)
   unfolding lentSize
   lent-none h = rw (← e, b, lt-leb size 65536 h)
 
-lent-shown : (size : ℕ) (shown : Shown) → lentBytes size shown ≤ 65536
-lent-shown size Nothing = omega arith
-lent-shown size Bytes = ⊎-elim (λ (e : leb size 65536 ≡ true). rw e (leb-true size 65536 e)) (λ (e : leb size 65536 ≡ false). rw e (omega arith)) (not-cases (leb size 65536))
-lent-shown size (Blocks n) = omega arith
+lent-filled : (size : ℕ) (filled : Filled) → lentBytes size filled ≤ 65536
+lent-filled size Neither = omega arith
+lent-filled size Bytes = ⊎-elim (λ (e : leb size 65536 ≡ true). rw e (leb-true size 65536 e)) (λ (e : leb size 65536 ≡ false). rw e (omega arith)) (not-cases (leb size 65536))
+lent-filled size (Blocks n) = omega arith
 
 pub lent-most : (size : ℕ) (call : Call) → lentSize size call ≤ 65536
 unfolding lentSize
-lent-most size call = lent-shown size (shownBy call)
+lent-most size call = lent-filled size (filledBy call)
 
 pub room-read : (size : ℕ) {call : Call} {o : ReadOperands} {n : ℕ} → call ≡ Read o → n ≡ lentSize size call → 1 + n ≡ answerRoom size call
 unfolding answerRoom
@@ -150,51 +150,51 @@ module _ {before middle : List ℕ} {at next : ℕ} (w : Written before at (byte
   number-size : (size : ℕ) → at + 1 + size ≤ length before → next + size ≤ length middle
   number-size size g = omega (arith, number-next, number-kept)
 
-  module _ (whole shown : List ℕ) (e : whole ≡ bytes 1 0 ++ shown) (fits : at + length whole ≤ length before) where
-    long : length whole ≡ 1 + length shown
-    long = ap length e ∙ length-append (bytes 1 0) shown ∙ ap (λ (n : ℕ). n + length shown) (length-bytes 1 0)
+  module _ (whole filled : List ℕ) (e : whole ≡ bytes 1 0 ++ filled) (fits : at + length whole ≤ length before) where
+    long : length whole ≡ 1 + length filled
+    long = ap length e ∙ length-append (bytes 1 0) filled ∙ ap (λ (n : ℕ). n + length filled) (length-bytes 1 0)
 
-    number-room : next + length shown ≤ length middle
-    number-room = number-size (length shown) (omega (arith, long))
+    number-room : next + length filled ≤ length middle
+    number-room = number-size (length filled) (omega (arith, long))
 
-    number-joined : {after : List ℕ} {behind : ℕ} → Written middle next shown after behind → Written before at whole after behind
+    number-joined : {after : List ℕ} {behind : ℕ} → Written middle next filled after behind → Written before at whole after behind
     number-joined {after} {behind} v =
         subst (λ (ys : List ℕ). Written before at ys after behind) (sym e) (written-join w v (omega (arith, long, length-bytes 1 0)))
 
 module _ (call : Call) (size : ℕ) (places : List ℕ) (answer : Answer) (before : List ℕ) (at : ℕ) where
   -- The answer, of which READ's bytes stand in the buffer.
-  abbrev whole : List ℕ
-  whole = answerBytes call (replied answer (take size (drop (at + 1) before)) places)
+  abbrev wholeAnswer : List ℕ
+  wholeAnswer = answerBytes call (replied answer (take size (drop (at + 1) before)) places)
 
-  pub answered-refused : {r : Refusal} {n : ℕ} {after : List ℕ} {behind : ℕ} → answer ≡ Refused r → n ≡ refusalNumber r → Written before at (bytes 1 n) after behind → Written before at whole after behind
+  pub answer-bytes-refused : {r : Refusal} {n : ℕ} {after : List ℕ} {behind : ℕ} → answer ≡ Refused r → n ≡ refusalNumber r → Written before at (bytes 1 n) after behind → Written before at wholeAnswer after behind
   unfolding answerBytes
-  answered-refused {r} e q w = rw (e, ← q, append-nil) w
+  answer-bytes-refused {r} e q w = rw (e, ← q, append-nil) w
 
-  module _ {middle : List ℕ} {next : ℕ} (w : Written before at (bytes 1 0) middle next) (h : at + 1 + size ≤ length before) (fits : at + length whole ≤ length before) where
-    one : at + 1 ≤ length before
-    one = omega arith
+  module _ {middle : List ℕ} {next : ℕ} (w : Written before at (bytes 1 0) middle next) (h : at + 1 + size ≤ length before) (fits : at + length wholeAnswer ≤ length before) where
+    number-fits : at + 1 ≤ length before
+    number-fits = omega arith
 
-    module _ (done : answer ≡ Done) {shown : Shown} (told : shown ≡ shownBy call) where
-      abbrev rest : List ℕ
-      rest = shownBytes shown (take size (drop next middle)) places
+    module _ (done : answer ≡ Done) {filled : Filled} (told : filled ≡ filledBy call) where
+      abbrev doneBytes : List ℕ
+      doneBytes = filledBytes filled (take size (drop next middle)) places
 
-      done-whole : whole ≡ bytes 1 0 ++ rest
+      done-whole : wholeAnswer ≡ bytes 1 0 ++ doneBytes
       unfolding answerBytes
-      done-whole = rw (done, number-behind w one, told)
+      done-whole = rw (done, number-behind w number-fits, told)
 
-      pub done-room : (next + size ≤ length middle) × (next + length rest ≤ length middle)
-      done-room = (number-size w one size h, number-room w one whole rest done-whole fits)
+      pub done-room : (next + size ≤ length middle) × (next + length doneBytes ≤ length middle)
+      done-room = (number-size w number-fits size h, number-room w number-fits wholeAnswer doneBytes done-whole fits)
 
-      pub answered-done : {after : List ℕ} {behind : ℕ} → Written middle next rest after behind → Written before at whole after behind
-      answered-done v = number-joined w one whole rest done-whole fits v
+      pub answer-bytes-done : {after : List ℕ} {behind : ℕ} → Written middle next doneBytes after behind → Written before at wholeAnswer after behind
+      answer-bytes-done v = number-joined w number-fits wholeAnswer doneBytes done-whole fits v
 
     module _ {v : ℕ} (valued : answer ≡ Value v) where
-      value-whole : whole ≡ bytes 1 0 ++ bytes 8 v
+      value-whole : wholeAnswer ≡ bytes 1 0 ++ bytes 8 v
       unfolding answerBytes
       value-whole = rw valued
 
       pub value-room : next + 8 ≤ length middle
-      value-room = omega (arith, number-room w one whole (bytes 8 v) value-whole fits, length-bytes 8 v)
+      value-room = omega (arith, number-room w number-fits wholeAnswer (bytes 8 v) value-whole fits, length-bytes 8 v)
 
-      pub answered-value : {after : List ℕ} {behind : ℕ} → Written middle next (bytes 8 v) after behind → Written before at whole after behind
-      answered-value v′ = number-joined w one whole (bytes 8 v) value-whole fits v′
+      pub answer-bytes-value : {after : List ℕ} {behind : ℕ} → Written middle next (bytes 8 v) after behind → Written before at wholeAnswer after behind
+      answer-bytes-value v′ = number-joined w number-fits wholeAnswer (bytes 8 v) value-whole fits v′

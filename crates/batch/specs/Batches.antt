@@ -42,47 +42,47 @@ tick n = 10 ∷ (zeros 7 ++ (n ∷ []))
 abbrev audit : List ℕ
 audit = 11 ∷ []
 
--- ---- the table
+-- ---- the batches
 
 -- What is told of a batch: why it stopped, the answers, the records served, and how many bytes of the input are left.
-pub record Told : Type 0 where
+pub record BatchTold : Type 0 where
   pub stop : Stop
   pub answers : List ℕ
   pub records : ℕ
   pub left : ℕ
 
-abbrev told : Play → Told
-told p = record { stop = p .stop; answers = p .lines; records = p .records; left = length (p .left) }
+abbrev told : Play → BatchTold
+told p = record { stop = p .stop; answers = p .output; records = p .records; left = length (p .left) }
 
 -- A card, an input and the room for its answers, and what is told of it.
-pub record Sample : Type 0 where
+pub record BatchSample : Type 0 where
   pub start : Card
   pub input : List ℕ
   pub room : ℕ
-  pub gives : Told
+  pub gives : BatchTold
 
-abbrev sample : Card → List ℕ → ℕ → Stop → List ℕ → ℕ → ℕ → Sample
-sample start input room stop answers records left = record { start = start; input = input; room = room; gives = record { stop = stop; answers = answers; records = records; left = left } }
+abbrev batchSample : Card → List ℕ → ℕ → Stop → List ℕ → ℕ → ℕ → BatchSample
+batchSample start input room stop answers records left = record { start = start; input = input; room = room; gives = record { stop = stop; answers = answers; records = records; left = left } }
 
-unfoldable pub table : List Sample
-table =
-    sample playerCard [] 0 Ended [] 0 0
+unfoldable pub batches : List BatchSample
+batches =
+    batchSample playerCard [] 0 Ended [] 0 0
     -- blocks 1 and 2, refusal 5, 13 blocks free, the bytes of block 0, the time 10, block 2 freed, and no result
-    ∷ sample playerCard (alloc ++ (read 1 ++ (free ++ (read 0 ++ (tick 10 ++ (delete 2 ++ audit)))))) 1000 Ended
+    ∷ batchSample playerCard (alloc ++ (read 1 ++ (free ++ (read 0 ++ (tick 10 ++ (delete 2 ++ audit)))))) 1000 Ended
     (0 ∷ 0 ∷ 1 ∷ 0 ∷ 2 ∷ 5 ∷ 0 ∷ (zeros 7 ++ (13 ∷ 0 ∷ (zeros 512 ++ (0 ∷ (zeros 7 ++ (10 ∷ 0 ∷ (zeros 7 ++ (1 ∷ 0 ∷ []))))))))) 7 0
     -- READ wants 513 bytes of room, whatever it answers; with one less the record is left
-    ∷ sample playerCard (free ++ read 1) 522 Ended (0 ∷ (zeros 7 ++ (15 ∷ 3 ∷ []))) 2 0
-    ∷ sample playerCard (free ++ read 1) 521 Full (0 ∷ (zeros 7 ++ (15 ∷ []))) 1 24
+    ∷ batchSample playerCard (free ++ read 1) 522 Ended (0 ∷ (zeros 7 ++ (15 ∷ 3 ∷ []))) 2 0
+    ∷ batchSample playerCard (free ++ read 1) 521 Full (0 ∷ (zeros 7 ++ (15 ∷ []))) 1 24
     -- a body cut short, and another kind
-    ∷ sample playerCard (audit ++ (10 ∷ 0 ∷ [])) 100 Short (0 ∷ []) 1 2
-    ∷ sample playerCard (audit ++ (12 ∷ 0 ∷ [])) 100 Refused (0 ∷ []) 1 2
+    ∷ batchSample playerCard (audit ++ (10 ∷ 0 ∷ [])) 100 Short (0 ∷ []) 1 2
+    ∷ batchSample playerCard (audit ++ (12 ∷ 0 ∷ [])) 100 Refused (0 ∷ []) 1 2
     -- before FORMAT the card is unsound, and every call is refused 2
-    ∷ sample blankCard (free ++ (read 0 ++ tick 10)) 600 Ended (2 ∷ 2 ∷ 2 ∷ []) 3 0
+    ∷ batchSample blankCard (free ++ (read 0 ++ tick 10)) 600 Ended (2 ∷ 2 ∷ 2 ∷ []) 3 0
     ∷ []
 
-abbrev found : Sample → Told
+abbrev found : BatchSample → BatchTold
 found s = told (serve (s .start) (s .input) (s .room))
 
-pub samples-hold : map found table ≡ map (λ s. s .gives) table
-unfolding rules playerCard number bytes zeroed row dataLength names kindNumber lengthOf operandsLength among kindOf kindLength bodyLength credential newKey withCredential createWith keyWith decodeCall decodeKnown decodeBody nameOf dataOf nextOf decode goOn isShort fault pairs answerBytes lentSize answerRoom served serveTurnOf serveTurn serveWithin serve table
-samples-hold = refl
+pub batches-hold : map found batches ≡ map (λ s. s .gives) batches
+unfolding rules playerCard number bytes zeroed row dataLength names kindNumber lengthOf operandsLength among kindOf kindLength bodyLength credential newKey withCredential createWith keyWith decodeCall decodeKnown decodeBody nameOf dataOf nextOf decode goOn isShort fault pairs answerBytes lentSize answerRoom served serveTurnOf serveTurn serveWithin serve batches
+batches-hold = refl

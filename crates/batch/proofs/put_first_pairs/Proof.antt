@@ -1,14 +1,14 @@
--- `batch::put_first` meets its contract. Assumes nothing.
+-- `batch::put_first_pairs` meets its contract. Assumes nothing.
 use mathlib.Core.Path.{sym, ap}
 use lib.ListN.{length, take}
 use mathlib.Core.Path.{sym}
 use native.Mathlib.Omega.{arith}
 use lib.ListN.{take}
 use lib.Seq.{length-take-le, take-all}
-use Rattle.batch.proofs.Pieces.{pairs-length, pairs-all}
+use Rattle.batch.proofs.AnswerBytesLaws.{pairs-length, pairs-all}
 use borrow.Author.Needs.{needs}
-use Rattle.batch.proofs.put_first.Statement.{statement}
-use Rattle.batch.proofs.put_first.Tie as tie
+use Rattle.batch.proofs.put_first_pairs.Statement.{statement}
+use Rattle.batch.proofs.put_first_pairs.Tie as tie
 
 slice-aggregate-put-pairs : tie.Need-slice-aggregate-put-pairs
 slice-aggregate-put-pairs c = sym (length-take-le (c .before .before .before .before .before .args .count) (c .before .before .before .before .before .args .values .now) (omega arith))
@@ -35,8 +35,8 @@ returns-2 c =
     let start = at-if1 .before .before .before in
     pairs-all (start .args .values .now) (start .args .count) (at-if1 .if1 .left) (at-put-pairs2 .put-pairs2 .ensures)
 
-pub put-first-spec : {M : Type 1} → statement M
-put-first-spec =
+pub put-first-pairs-spec : {M : Type 1} → statement M
+put-first-pairs-spec =
     tie.close
     (tie.spec
     slice-aggregate-put-pairs
