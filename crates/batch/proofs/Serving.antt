@@ -12,7 +12,7 @@ use Rattle.card.specs.Soundness.{verdict}
 use Rattle.card.specs.declared.Info.{Info}
 use Rattle.lines.specs.Written.{Written, written-none, written-join, written-length}
 use Rattle.input.specs.Play.{Turn, Play, goOn}
-use Rattle.input.specs.PlayLaws.{behind}
+use Rattle.input.specs.PlayLaws.{outputBefore}
 use Rattle.input.specs.Played.{TurnIs, PlayedIs, isWent}
 use Rattle.input.specs.PlayedLaws.{is-went}
 use Rattle.input.proofs.SameTables.{SameTables}
@@ -31,7 +31,7 @@ pub record Serving (c₀ : Card) (xs out₀ : List ℕ) (count : ℕ) (c : Card)
   pub judged : verdict c ≡ verdict c₀
   pub fits : length done ≤ length out₀
   pub written : Written out₀ 0 done out at
-  pub total : serve c₀ xs (length out₀) ≡ behind done (serveWithin (suc most) count c (drop from xs) (length out₀ - length done))
+  pub total : serve c₀ xs (length out₀) ≡ outputBefore done (serveWithin (suc most) count c (drop from xs) (length out₀ - length done))
 
 -- A turn that did not go ends the batch.
 goOn-halts : (stop : Stop) (t : Turn) (records room : ℕ) (rest : ℕ → Card → List ℕ → ℕ → Play) → isWent stop ≡ false
@@ -72,18 +72,18 @@ module _ (c₀ : Card) (xs out₀ : List ℕ) where
     abbrev nextTurn : Turn
     nextTurn = serveTurn (roomFrom out at) c (drop from xs)
 
-    next-turn : serve c₀ xs (length out₀) ≡ behind (p .done) (goOn (nextTurn .stop) nextTurn count (serveWithin (p .most)) (roomFrom out at))
+    next-turn : serve c₀ xs (length out₀) ≡ outputBefore (p .done) (goOn (nextTurn .stop) nextTurn count (serveWithin (p .most)) (roomFrom out at))
     unfolding serveWithin
     next-turn =
         let same : length out₀ - length (p .done) ≡ roomFrom out at = omega (arith, reached, kept) in
-        p .total ∙ ap (λ (n : ℕ). behind (p .done) (serveWithin (suc (p .most)) count c (drop from xs) n)) same
+        p .total ∙ ap (λ (n : ℕ). outputBefore (p .done) (serveWithin (suc (p .most)) count c (drop from xs) n)) same
 
     module _ {stop : Stop} {after : Card} {next next-at : ℕ} {to : List ℕ} (t : TurnIs nextTurn (roomFrom out at) stop after xs next out at to next-at) where
       -- The turn did not go: so the batch ends.
       pub serving-stopped : isWent stop ≡ false → PlayedIs (serve c₀ xs (length out₀)) stop count after xs next out₀ to next-at
       serving-stopped n =
           let halts : isWent (nextTurn .stop) ≡ false = ap isWent (sym (t .stops)) ∙ n in
-          let e = next-turn ∙ ap (behind (p .done)) (goOn-halts (nextTurn .stop) nextTurn count (roomFrom out at) (serveWithin (p .most)) halts) in
+          let e = next-turn ∙ ap (outputBefore (p .done)) (goOn-halts (nextTurn .stop) nextTurn count (roomFrom out at) (serveWithin (p .most)) halts) in
           let nothing : Written out at [] to next-at = subst (λ (bs : List ℕ). Written out at bs to next-at) (serve-turn-halts (roomFrom out at) c (drop from xs) halts) (t .writes) in
           rw e
           (record {
@@ -105,23 +105,23 @@ module _ (c₀ : Card) (xs out₀ : List ℕ) where
             let shorter = serve-turn-left (roomFrom out at) c (drop from xs) went in
             omega (arith, shorter, ap length (t .rests), length-drop next xs, length-drop from xs, t .within, p .within)
 
-        abbrev fewer : ℕ
-        fewer = p .most - 1
+        abbrev turnsLeft : ℕ
+        turnsLeft = p .most - 1
 
-        most-is : p .most ≡ suc fewer
+        most-is : p .most ≡ suc turnsLeft
         most-is = omega (arith, p .enough, serving-further, t .within)
 
         -- The rest of the batch, as the rule and as the loop have it.
         abbrev restOfBatch : Play
-        restOfBatch = serveWithin (suc fewer) (count + 1) (nextTurn .after) (nextTurn .left) (roomFrom out at - length (nextTurn .output))
+        restOfBatch = serveWithin (suc turnsLeft) (count + 1) (nextTurn .after) (nextTurn .left) (roomFrom out at - length (nextTurn .output))
 
-        rest-same : restOfBatch ≡ serveWithin (suc fewer) (count + 1) after (drop next xs) (length out₀ - length (p .done ++ nextTurn .output))
+        rest-same : restOfBatch ≡ serveWithin (suc turnsLeft) (count + 1) after (drop next xs) (length out₀ - length (p .done ++ nextTurn .output))
         rest-same =
             let room-left : roomFrom out at - length (nextTurn .output) ≡ length out₀ - length (p .done ++ nextTurn .output) = omega (arith, reached, kept, length-append (p .done) (nextTurn .output)) in
-            ap₂ (λ (d : Card) (ys : List ℕ). serveWithin (suc fewer) (count + 1) d ys (roomFrom out at - length (nextTurn .output))) (sym (t .leaves)) (sym (t .rests))
-            ∙ ap (serveWithin (suc fewer) (count + 1) after (drop next xs)) room-left
+            ap₂ (λ (d : Card) (ys : List ℕ). serveWithin (suc turnsLeft) (count + 1) d ys (roomFrom out at - length (nextTurn .output))) (sym (t .leaves)) (sym (t .rests))
+            ∙ ap (serveWithin (suc turnsLeft) (count + 1) after (drop next xs)) room-left
 
-        goes-on : goOn (nextTurn .stop) nextTurn count (serveWithin (p .most)) (roomFrom out at) ≡ behind (nextTurn .output) restOfBatch
+        goes-on : goOn (nextTurn .stop) nextTurn count (serveWithin (p .most)) (roomFrom out at) ≡ outputBefore (nextTurn .output) restOfBatch
         unfolding goOn
         goes-on = ap₂ (λ (s : Stop) (m : ℕ). goOn s nextTurn count (serveWithin m) (roomFrom out at)) went most-is
 
@@ -131,7 +131,7 @@ module _ (c₀ : Card) (xs out₀ : List ℕ) where
             let long : length (p .done ++ nextTurn .output) ≡ length (p .done) + length (nextTurn .output) = length-append (p .done) (nextTurn .output) in
             record {
               done = p .done ++ nextTurn .output;
-              most = fewer;
+              most = turnsLeft;
               within = t .within;
               enough = omega (arith, p .enough, serving-further);
               counted = omega (arith, p .counted, serving-further);
@@ -140,9 +140,9 @@ module _ (c₀ : Card) (xs out₀ : List ℕ) where
               written = written-join (p .written) (t .writes) (omega (arith, p .fits, t .short, reached, kept));
               total =
                   next-turn
-                  ∙ ap (behind (p .done)) goes-on
+                  ∙ ap (outputBefore (p .done)) goes-on
                   ∙ ap (λ (bs : List ℕ). record { stop = restOfBatch .stop; output = bs; records = restOfBatch .records; after = restOfBatch .after; left = restOfBatch .left }) (sym (append-assoc (p .done) (nextTurn .output) (restOfBatch .output)))
-                  ∙ ap (behind (p .done ++ nextTurn .output)) rest-same;
+                  ∙ ap (outputBefore (p .done ++ nextTurn .output)) rest-same;
             }
 
 -- ---- the loop's invariant

@@ -31,29 +31,29 @@ use Rattle.batch.proofs.Answered.{verdict-kept}
 -- ---- by what was found
 
 module _ (c : Card) (input : List ℕ) (from : ℕ) (fits : from ≤ length input) (before : List ℕ) (at : ℕ) where
-  abbrev tries : Turn
-  tries = serveTurn (roomFrom before at) c (drop from input)
+  abbrev turnHere : Turn
+  turnHere = serveTurn (roomFrom before at) c (drop from input)
 
-  pub nothing-served : {found : Found} {stop : Stop} → FoundIs input from found → found ≡ Nothing stop → TurnIs tries (roomFrom before at) stop c input from before at before at
+  pub nothing-served : {found : Found} {stop : Stop} → FoundIs input from found → found ≡ Nothing stop → TurnIs turnHere (roomFrom before at) stop c input from before at before at
   unfolding serveTurn serveTurnOf
-  nothing-served f e = turn-nothing tries (roomFrom before at) c input from fits before at (λ d. rw d) (λ d. rw d) f e
+  nothing-served f e = turn-nothing turnHere (roomFrom before at) c input from fits before at (λ d. rw d) (λ d. rw d) f e
 
   module _ {found : Found} {r : Record} (f : FoundIs input from found) (e : found ≡ Whole r) {n : ℕ} (told : n ≡ answerRoom (c .public .info .bytes) (r .call)) where
     abbrev found-record : WholeIs input from r
     found-record = subst (FoundIs input from) e f
 
     -- There is no room for the answer.
-    pub full-served : roomFrom before at < n → TurnIs tries (roomFrom before at) Full c input from before at before at
+    pub full-served : roomFrom before at < n → TurnIs turnHere (roomFrom before at) Full c input from before at before at
     unfolding serveTurn serveTurnOf
-    full-served h = turn-halted tries (roomFrom before at) c input from fits before at Full (rw (found-record .decodes, ← told, lt-ltb (roomFrom before at) n h))
+    full-served h = turn-halted turnHere (roomFrom before at) c input from fits before at Full (rw (found-record .decodes, ← told, lt-ltb (roomFrom before at) n h))
 
     pub whole-served : n ≤ roomFrom before at → {after : Card} {to : List ℕ} {behind : ℕ}
         → let want = served (r .port) c (r .call) (take (r .next - r .payload) (drop (r .payload) input)) in
         WroteIs (want .after) (answerBytes (r .call) (reply want)) (answerRoom (c .public .info .bytes) (r .call)) after before at to behind
-        → TurnIs tries (roomFrom before at) Went after input (r .next) before at to behind
+        → TurnIs turnHere (roomFrom before at) Went after input (r .next) before at to behind
     unfolding serveTurn serveTurnOf
     whole-served h a =
-        turn-whole tries (roomFrom before at) c input from fits before at (rw (found-record .decodes, ← told, le-ltb (roomFrom before at) n h)) (found-record .nextWithin) (omega arith) a
+        turn-whole turnHere (roomFrom before at) c input from fits before at (rw (found-record .decodes, ← told, le-ltb (roomFrom before at) n h)) (found-record .nextWithin) (omega arith) a
 
 -- ---- by what a turn does
 

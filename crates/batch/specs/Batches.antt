@@ -18,29 +18,29 @@ use Rattle.batch.specs.Serve.{pairs, answerBytes, lentSize, answerRoom, 
 
 -- ---- records in bytes
 
-abbrev nothing : List ℕ
-nothing = zeros 17
+abbrev noCredential : List ℕ
+noCredential = zeros 17
 
 -- ALLOC at root 0 at the service port, no hint, count 2.
-abbrev alloc : List ℕ
-alloc = 131 ∷ 0 ∷ 0 ∷ (nothing ++ (255 ∷ 255 ∷ 2 ∷ []))
+abbrev allocBytes : List ℕ
+allocBytes = 131 ∷ 0 ∷ 0 ∷ (noCredential ++ (255 ∷ 255 ∷ 2 ∷ []))
 
 -- A host's READ by nothing, interval 0.
-abbrev read : ℕ → List ℕ
-read b = 1 ∷ 0 ∷ b ∷ (nothing ++ zeros 4)
+abbrev readBytes : ℕ → List ℕ
+readBytes b = 1 ∷ 0 ∷ b ∷ (noCredential ++ zeros 4)
 
 -- DELETE of the pointer from root 0 at the service port.
-abbrev delete : ℕ → List ℕ
-delete b = 133 ∷ 0 ∷ 0 ∷ (nothing ++ (0 ∷ b ∷ []))
+abbrev deleteBytes : ℕ → List ℕ
+deleteBytes b = 133 ∷ 0 ∷ 0 ∷ (noCredential ++ (0 ∷ b ∷ []))
 
-abbrev free : List ℕ
-free = 9 ∷ []
+abbrev freeBytes : List ℕ
+freeBytes = 9 ∷ []
 
-abbrev tick : ℕ → List ℕ
-tick n = 10 ∷ (zeros 7 ++ (n ∷ []))
+abbrev tickBytes : ℕ → List ℕ
+tickBytes n = 10 ∷ (zeros 7 ++ (n ∷ []))
 
-abbrev audit : List ℕ
-audit = 11 ∷ []
+abbrev auditBytes : List ℕ
+auditBytes = 11 ∷ []
 
 -- ---- the batches
 
@@ -51,8 +51,8 @@ pub record BatchTold : Type 0 where
   pub records : ℕ
   pub left : ℕ
 
-abbrev told : Play → BatchTold
-told p = record { stop = p .stop; answers = p .output; records = p .records; left = length (p .left) }
+abbrev toldBy : Play → BatchTold
+toldBy p = record { stop = p .stop; answers = p .output; records = p .records; left = length (p .left) }
 
 -- A card, an input and the room for its answers, and what is told of it.
 pub record BatchSample : Type 0 where
@@ -68,21 +68,21 @@ unfoldable pub batches : List BatchSample
 batches =
     batchSample playerCard [] 0 Ended [] 0 0
     -- blocks 1 and 2, refusal 5, 13 blocks free, the bytes of block 0, the time 10, block 2 freed, and no result
-    ∷ batchSample playerCard (alloc ++ (read 1 ++ (free ++ (read 0 ++ (tick 10 ++ (delete 2 ++ audit)))))) 1000 Ended
+    ∷ batchSample playerCard (allocBytes ++ (readBytes 1 ++ (freeBytes ++ (readBytes 0 ++ (tickBytes 10 ++ (deleteBytes 2 ++ auditBytes)))))) 1000 Ended
     (0 ∷ 0 ∷ 1 ∷ 0 ∷ 2 ∷ 5 ∷ 0 ∷ (zeros 7 ++ (13 ∷ 0 ∷ (zeros 512 ++ (0 ∷ (zeros 7 ++ (10 ∷ 0 ∷ (zeros 7 ++ (1 ∷ 0 ∷ []))))))))) 7 0
     -- READ wants 513 bytes of room, whatever it answers; with one less the record is left
-    ∷ batchSample playerCard (free ++ read 1) 522 Ended (0 ∷ (zeros 7 ++ (15 ∷ 3 ∷ []))) 2 0
-    ∷ batchSample playerCard (free ++ read 1) 521 Full (0 ∷ (zeros 7 ++ (15 ∷ []))) 1 24
+    ∷ batchSample playerCard (freeBytes ++ readBytes 1) 522 Ended (0 ∷ (zeros 7 ++ (15 ∷ 3 ∷ []))) 2 0
+    ∷ batchSample playerCard (freeBytes ++ readBytes 1) 521 Full (0 ∷ (zeros 7 ++ (15 ∷ []))) 1 24
     -- a body cut short, and another kind
-    ∷ batchSample playerCard (audit ++ (10 ∷ 0 ∷ [])) 100 Short (0 ∷ []) 1 2
-    ∷ batchSample playerCard (audit ++ (12 ∷ 0 ∷ [])) 100 Refused (0 ∷ []) 1 2
+    ∷ batchSample playerCard (auditBytes ++ (10 ∷ 0 ∷ [])) 100 Short (0 ∷ []) 1 2
+    ∷ batchSample playerCard (auditBytes ++ (12 ∷ 0 ∷ [])) 100 Refused (0 ∷ []) 1 2
     -- before FORMAT the card is unsound, and every call is refused 2
-    ∷ batchSample blankCard (free ++ (read 0 ++ tick 10)) 600 Ended (2 ∷ 2 ∷ 2 ∷ []) 3 0
+    ∷ batchSample blankCard (freeBytes ++ (readBytes 0 ++ tickBytes 10)) 600 Ended (2 ∷ 2 ∷ 2 ∷ []) 3 0
     ∷ []
 
-abbrev found : BatchSample → BatchTold
-found s = told (serve (s .start) (s .input) (s .room))
+abbrev toldOf : BatchSample → BatchTold
+toldOf s = toldBy (serve (s .start) (s .input) (s .room))
 
-pub batches-hold : map found batches ≡ map (λ s. s .gives) batches
+pub batches-hold : map toldOf batches ≡ map (λ s. s .gives) batches
 unfolding rules playerCard number bytes zeroed row dataLength names kindNumber lengthOf operandsLength among kindOf kindLength bodyLength credential newKey withCredential createWith keyWith decodeCall decodeKnown decodeBody nameOf dataOf nextOf decode goOn isShort fault pairs answerBytes lentSize answerRoom served serveTurnOf serveTurn serveWithin serve batches
 batches-hold = refl

@@ -41,16 +41,11 @@ fn room_of(info: Info, call: Call) -> usize
 {
     match call {
         Call::Read(_) => 1 + lent_size(info, call),
-        Call::Write(_) => 1,
         Call::Alloc(_) => 129,
-        Call::Create(_) => 1,
         Call::Delete(_) => 9,
-        Call::Key(_) => 1,
-        Call::Renew(_) => 1,
-        Call::Force(_) => 1,
         Call::Free => 9,
         Call::Tick(_) => 9,
-        Call::Audit => 1,
+        _ => 1,
     }
 }
 

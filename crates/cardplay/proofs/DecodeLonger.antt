@@ -41,64 +41,64 @@ agree-drop n from k xs ys a h i b = getD-drop from xs i 0 ∙ a (from + i) (omeg
 
 module _ (xs ys : List ℕ) (a : Agree 17 xs ys) where
   -- A number within the 17 bytes.
-  within : (from k : ℕ) → from + k ≤ 17 → number k (drop from xs) ≡ number k (drop from ys)
-  within from k h = number-same k (drop from xs) (drop from ys) (agree-drop 17 from k xs ys a h)
+  number-within : (from k : ℕ) → from + k ≤ 17 → number k (drop from xs) ≡ number k (drop from ys)
+  number-within from k h = number-same k (drop from xs) (drop from ys) (agree-drop 17 from k xs ys a h)
 
-  filler : (from k : ℕ) → from + k ≤ 17 → zeroed k (drop from xs) ≡ zeroed k (drop from ys)
-  filler from k h = zeroed-same k (drop from xs) (drop from ys) (agree-drop 17 from k xs ys a h)
+  filler-same : (from k : ℕ) → from + k ≤ 17 → zeroed k (drop from xs) ≡ zeroed k (drop from ys)
+  filler-same from k h = zeroed-same k (drop from xs) (drop from ys) (agree-drop 17 from k xs ys a h)
 
   credential-same : credential xs ≡ credential ys
   unfolding credential
-  credential-same = rw (a 0 (omega arith), filler 1 16 (omega arith), filler 3 14 (omega arith), within 1 2 (omega arith), within 1 8 (omega arith), within 9 8 (omega arith))
+  credential-same = rw (a 0 (omega arith), filler-same 1 16 (omega arith), filler-same 3 14 (omega arith), number-within 1 2 (omega arith), number-within 1 8 (omega arith), number-within 9 8 (omega arith))
 
   newKey-same : newKey xs ≡ newKey ys
   unfolding newKey
-  newKey-same = rw (a 0 (omega arith), filler 1 16 (omega arith), within 1 8 (omega arith), within 9 8 (omega arith))
+  newKey-same = rw (a 0 (omega arith), filler-same 1 16 (omega arith), number-within 1 8 (omega arith), number-within 9 8 (omega arith))
 
 -- ---- a body
 
 module _ (n : ℕ) (xs ys : List ℕ) (a : Agree n xs ys) where
-  first : (k : ℕ) → k ≤ n → number k xs ≡ number k ys
-  first k h = number-same k xs ys (λ i b. a i (omega arith))
+  first-same : (k : ℕ) → k ≤ n → number k xs ≡ number k ys
+  first-same k h = number-same k xs ys (λ i b. a i (omega arith))
 
-  operand : (from k : ℕ) → from + k ≤ n → number k (drop from xs) ≡ number k (drop from ys)
-  operand from k h = number-same k (drop from xs) (drop from ys) (agree-drop n from k xs ys a h)
+  operand-same : (from k : ℕ) → from + k ≤ n → number k (drop from xs) ≡ number k (drop from ys)
+  operand-same from k h = number-same k (drop from xs) (drop from ys) (agree-drop n from k xs ys a h)
 
-  presented : (from : ℕ) → from + 17 ≤ n → credential (drop from xs) ≡ credential (drop from ys)
-  presented from h = credential-same (drop from xs) (drop from ys) (agree-drop n from 17 xs ys a h)
+  presented-same : (from : ℕ) → from + 17 ≤ n → credential (drop from xs) ≡ credential (drop from ys)
+  presented-same from h = credential-same (drop from xs) (drop from ys) (agree-drop n from 17 xs ys a h)
 
-  replacing : (from : ℕ) → from + 17 ≤ n → newKey (drop from xs) ≡ newKey (drop from ys)
-  replacing from h = newKey-same (drop from xs) (drop from ys) (agree-drop n from 17 xs ys a h)
+  replacing-same : (from : ℕ) → from + 17 ≤ n → newKey (drop from xs) ≡ newKey (drop from ys)
+  replacing-same from h = newKey-same (drop from xs) (drop from ys) (agree-drop n from 17 xs ys a h)
 
 call-same : (port : Port) (name : Name) (xs ys : List ℕ) → Agree (lengthOf name) xs ys → decodeCall port name xs ≡ decodeCall port name ys
 unfolding decodeCall lengthOf row
-call-same port READ xs ys a = rw (first 23 xs ys a 2 (omega arith), operand 23 xs ys a 19 4 (omega arith), presented 23 xs ys a 2 (omega arith))
-call-same port WRITE xs ys a = rw (first 535 xs ys a 2 (omega arith), operand 535 xs ys a 19 4 (omega arith), presented 535 xs ys a 2 (omega arith))
-call-same port ALLOC xs ys a = rw (first 22 xs ys a 2 (omega arith), operand 22 xs ys a 19 2 (omega arith), presented 22 xs ys a 2 (omega arith), a 21 (omega arith))
-call-same port CREATE xs ys a = rw (first 38 xs ys a 2 (omega arith), operand 38 xs ys a 19 2 (omega arith), presented 38 xs ys a 2 (omega arith), presented 38 xs ys a 21 (omega arith))
-call-same port DELETE xs ys a = rw (first 21 xs ys a 2 (omega arith), operand 21 xs ys a 19 2 (omega arith), presented 21 xs ys a 2 (omega arith))
-call-same port KEY xs ys a = rw (first 53 xs ys a 2 (omega arith), presented 53 xs ys a 2 (omega arith), replacing 53 xs ys a 19 (omega arith), replacing 53 xs ys a 36 (omega arith))
+call-same port READ xs ys a = rw (first-same 23 xs ys a 2 (omega arith), operand-same 23 xs ys a 19 4 (omega arith), presented-same 23 xs ys a 2 (omega arith))
+call-same port WRITE xs ys a = rw (first-same 535 xs ys a 2 (omega arith), operand-same 535 xs ys a 19 4 (omega arith), presented-same 535 xs ys a 2 (omega arith))
+call-same port ALLOC xs ys a = rw (first-same 22 xs ys a 2 (omega arith), operand-same 22 xs ys a 19 2 (omega arith), presented-same 22 xs ys a 2 (omega arith), a 21 (omega arith))
+call-same port CREATE xs ys a = rw (first-same 38 xs ys a 2 (omega arith), operand-same 38 xs ys a 19 2 (omega arith), presented-same 38 xs ys a 2 (omega arith), presented-same 38 xs ys a 21 (omega arith))
+call-same port DELETE xs ys a = rw (first-same 21 xs ys a 2 (omega arith), operand-same 21 xs ys a 19 2 (omega arith), presented-same 21 xs ys a 2 (omega arith))
+call-same port KEY xs ys a = rw (first-same 53 xs ys a 2 (omega arith), presented-same 53 xs ys a 2 (omega arith), replacing-same 53 xs ys a 19 (omega arith), replacing-same 53 xs ys a 36 (omega arith))
 call-same port RENEW xs ys a =
-    rw (a 0 (omega arith), operand 23 xs ys a 1 2 (omega arith), operand 23 xs ys a 3 8 (omega arith), operand 23 xs ys a 11 8 (omega arith), operand 23 xs ys a 19 4 (omega arith))
-call-same port FORCE xs ys a = rw (first 2 xs ys a 2 (omega arith))
+    rw (a 0 (omega arith), operand-same 23 xs ys a 1 2 (omega arith), operand-same 23 xs ys a 3 8 (omega arith), operand-same 23 xs ys a 11 8 (omega arith), operand-same 23 xs ys a 19 4 (omega arith))
+call-same port FORCE xs ys a = rw (first-same 2 xs ys a 2 (omega arith))
 call-same port FREE xs ys a = refl
-call-same port TICK xs ys a = rw (first 8 xs ys a 8 (omega arith))
+call-same port TICK xs ys a = rw (first-same 8 xs ys a 8 (omega arith))
 call-same port AUDIT xs ys a = refl
 
 -- The data lie within the body.
-data-within : (name : Name) → operandsLength name + dataLength name ≤ lengthOf name
+data-in-body : (name : Name) → operandsLength name + dataLength name ≤ lengthOf name
 unfolding operandsLength lengthOf dataLength row
-data-within READ = omega arith
-data-within WRITE = omega arith
-data-within ALLOC = omega arith
-data-within CREATE = omega arith
-data-within DELETE = omega arith
-data-within KEY = omega arith
-data-within RENEW = omega arith
-data-within FORCE = omega arith
-data-within FREE = omega arith
-data-within TICK = omega arith
-data-within AUDIT = omega arith
+data-in-body READ = omega arith
+data-in-body WRITE = omega arith
+data-in-body ALLOC = omega arith
+data-in-body CREATE = omega arith
+data-in-body DELETE = omega arith
+data-in-body KEY = omega arith
+data-in-body RENEW = omega arith
+data-in-body FORCE = omega arith
+data-in-body FREE = omega arith
+data-in-body TICK = omega arith
+data-in-body AUDIT = omega arith
 
 -- ---- a record
 
@@ -123,7 +123,7 @@ module _ (kind : ℕ) (xs ys : List ℕ) {port : Port} {call : Call} (e : Decode
   data-longer : dataOf (nameOf call) (xs ++ ys) ≡ dataOf (nameOf call) xs
   unfolding dataOf
   data-longer =
-      let fits : operandsLength (nameOf call) + dataLength (nameOf call) ≤ length xs = omega (arith, data-within (nameOf call), known .whole) in
+      let fits : operandsLength (nameOf call) + dataLength (nameOf call) ≤ length xs = omega (arith, data-in-body (nameOf call), known .whole) in
       ap (take (dataLength (nameOf call))) (drop-append-le (operandsLength (nameOf call)) xs ys (omega arith))
       ∙ take-append-le (dataLength (nameOf call)) (drop (operandsLength (nameOf call)) xs) ys (omega (arith, length-drop (operandsLength (nameOf call)) xs))
 

@@ -39,24 +39,24 @@ module _ (before : List ℕ) (from filled : ℕ) where
   moved-none h = record { most = omega arith; holds = refl }
 
   module _ {i : ℕ} {now : List ℕ} (fits : filled ≤ length before) (m : Moved before from filled i now) where
-    abbrev source : List ℕ
-    source = drop from before
+    abbrev bytesFrom : List ℕ
+    bytesFrom = drop from before
 
-    front : length (take i source) ≡ i
-    front = length-take-le i source (omega (arith, m .most, length-drop from before))
+    front : length (take i bytesFrom) ≡ i
+    front = length-take-le i bytesFrom (omega (arith, m .most, length-drop from before))
 
     pub moved-length : length now ≡ length before
-    moved-length = omega (arith, ap length (m .holds), length-append (take i source) (drop i before), front, m .most, length-drop i before)
+    moved-length = omega (arith, ap length (m .holds), length-append (take i bytesFrom) (drop i before), front, m .most, length-drop i before)
 
     module _ (h : from + i < filled) where
       -- The bytes that are still to be moved stand where they did.
-      unmoved : getD now (from + i) 0 ≡ getD source i 0
+      unmoved : getD now (from + i) 0 ≡ getD bytesFrom i 0
       unmoved =
-          let place : from + i ≡ length (take i source) + from = omega (arith, front) in
+          let place : from + i ≡ length (take i bytesFrom) + from = omega (arith, front) in
           let swapped : i + from ≡ from + i = omega arith in
           ap (λ (xs : List ℕ). getD xs (from + i) 0) (m .holds)
-          ∙ ap (λ (n : ℕ). getD (take i source ++ drop i before) n 0) place
-          ∙ getD-append-add (take i source) (drop i before) from 0
+          ∙ ap (λ (n : ℕ). getD (take i bytesFrom ++ drop i before) n 0) place
+          ∙ getD-append-add (take i bytesFrom) (drop i before) from 0
           ∙ getD-drop i before from 0
           ∙ ap (λ (n : ℕ). getD before n 0) swapped
           ∙ sym (getD-drop from before i 0)
@@ -65,19 +65,19 @@ module _ (before : List ℕ) (from filled : ℕ) where
       moved-more = record {
         most = omega arith;
         holds =
-            ap₂ (λ (xs : List ℕ) (x : ℕ). set xs i x) (m .holds ∙ ap (λ (ys : List ℕ). take i source ++ ys) (drop-cons before i 0 (omega arith))) unmoved
-            ∙ set-at (take i source) (getD before i 0) (drop (suc i) before) (getD source i 0) i front
-            ∙ sym (append-snoc (take i source) (getD source i 0) (drop (suc i) before))
-            ∙ ap (λ (ys : List ℕ). ys ++ drop (suc i) before) (sym (take-suc source i 0 (omega (arith, length-drop from before))))
-            ∙ ap (λ (n : ℕ). take n source ++ drop n before) (sym (add-one i));
+            ap₂ (λ (xs : List ℕ) (x : ℕ). set xs i x) (m .holds ∙ ap (λ (ys : List ℕ). take i bytesFrom ++ ys) (drop-cons before i 0 (omega arith))) unmoved
+            ∙ set-at (take i bytesFrom) (getD before i 0) (drop (suc i) before) (getD bytesFrom i 0) i front
+            ∙ sym (append-snoc (take i bytesFrom) (getD bytesFrom i 0) (drop (suc i) before))
+            ∙ ap (λ (ys : List ℕ). ys ++ drop (suc i) before) (sym (take-suc bytesFrom i 0 (omega (arith, length-drop from before))))
+            ∙ ap (λ (n : ℕ). take n bytesFrom ++ drop n before) (sym (add-one i));
       }
 
-    pub moved-all : filled - from ≤ i → Written before 0 (take (filled - from) source) now i
+    pub moved-all : filled - from ≤ i → Written before 0 (take (filled - from) bytesFrom) now i
     unfolding overwrite
     moved-all h =
         let whole : i ≡ filled - from = omega (arith, m .most) in
-        let place : i ≡ 0 + length (take i source) = omega (arith, front) in
-        subst (λ (n : ℕ). Written before 0 (take n source) now i) whole (record {
-          holds = m .holds ∙ ap (λ (n : ℕ). take i source ++ drop n before) place;
+        let place : i ≡ 0 + length (take i bytesFrom) = omega (arith, front) in
+        subst (λ (n : ℕ). Written before 0 (take n bytesFrom) now i) whole (record {
+          holds = m .holds ∙ ap (λ (n : ℕ). take i bytesFrom ++ drop n before) place;
           ends = place;
         })

@@ -10,10 +10,10 @@ use lib.ListN.{length, length-append}
 use Rattle.card.specs.Card.{Card}
 use Rattle.lines.specs.Lines.{lineRoom, lastLine}
 use Rattle.input.specs.Play.{Play, play, endNumber, transcript}
-use Rattle.input.specs.PlayLaws.{behind}
+use Rattle.input.specs.PlayLaws.{outputBefore}
 use Rattle.input.specs.declared.Stop.{Stop}
 use Rattle.cardplay.specs.Pieces.{Pieces, PlaysNothing, PlayedWhole, PlayedInPieces}
-use Rattle.cardplay.proofs.PlayLonger.{behind-behind, play-longer}
+use Rattle.cardplay.proofs.PlayLonger.{output-output, play-longer}
 
 -- ---- piece by piece
 
@@ -28,7 +28,7 @@ module _ {c₀ : Card} {records : ℕ} {c : Card} {left : List ℕ} (s : Pieces 
     total = λ more room h.
         ap (λ (zs : List ℕ). play 0 c₀ zs room) (append-assoc (s .input) ys more)
         ∙ s .total (ys ++ more) room h
-        ∙ ap (λ (zs : List ℕ). behind (s .output) (play records c zs (room - length (s .output)))) (sym (append-assoc left ys more));
+        ∙ ap (λ (zs : List ℕ). outputBefore (s .output) (play records c zs (room - length (s .output)))) (sym (append-assoc left ys more));
   }
 
   pub pieces-played : (small : ℕ) → let p : Play = play records c left small in Pieces c₀ (p .records) (p .after) (p .left)
@@ -40,8 +40,8 @@ module _ {c₀ : Card} {records : ℕ} {c : Card} {left : List ℕ} (s : Pieces 
         output = s .output ++ p .output;
         total = λ more room h.
             s .total more room (omega arith)
-            ∙ ap (behind (s .output)) (play-longer records c left small more (room - length (s .output)) (omega arith))
-            ∙ behind-behind (s .output) (p .output) room (p .records) (p .after) (p .left ++ more);
+            ∙ ap (outputBefore (s .output)) (play-longer records c left small more (room - length (s .output)) (omega arith))
+            ∙ output-output (s .output) (p .output) room (p .records) (p .after) (p .left ++ more);
       }
 
   module _ {stop : Stop} (halts : PlaysNothing stop records c left) where
@@ -49,8 +49,8 @@ module _ {c₀ : Card} {records : ℕ} {c : Card} {left : List ℕ} (s : Pieces 
     ends room h =
         ap (λ (zs : List ℕ). play 0 c₀ zs room) (sym (append-nil (s .input)))
         ∙ s .total [] room h
-        ∙ ap (λ (zs : List ℕ). behind (s .output) (play records c zs (room - length (s .output)))) (append-nil left)
-        ∙ ap (behind (s .output)) (halts (room - length (s .output)) (omega arith))
+        ∙ ap (λ (zs : List ℕ). outputBefore (s .output) (play records c zs (room - length (s .output)))) (append-nil left)
+        ∙ ap (outputBefore (s .output)) (halts (room - length (s .output)) (omega arith))
         ∙ ap (λ (ls : List ℕ). record { stop = stop; output = ls; records = records; after = c; left = left }) (append-nil (s .output))
 
     -- What was written is the whole play of what was read.

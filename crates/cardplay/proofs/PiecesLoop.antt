@@ -32,9 +32,9 @@ pub record PiecesLoop (c₀ : Card) (flags₀ keys₀ counts₀ pointers₀ wind
 
 -- ---- one piece more
 
-none : (xs : List ℕ) → length xs ≤ 0 → xs ≡ []
-none [] h = refl
-none (x ∷ xs) h = absurd (omega arith)
+no-bytes : (xs : List ℕ) → length xs ≤ 0 → xs ≡ []
+no-bytes [] h = refl
+no-bytes (x ∷ xs) h = absurd (omega arith)
 
 module _ (n : ℕ) (c : Card) (xs : List ℕ) (small : ℕ) {stop : Stop} {records : ℕ} {after : Card} {buffer : List ℕ} {filled : ℕ} {before to : List ℕ} {wrote on : Bool}
     (t : ProgressIs (play n c xs small) stop records after buffer filled before to wrote on) where
@@ -50,7 +50,7 @@ module _ (n : ℕ) (c : Card) (xs : List ℕ) (small : ℕ) {stop : Stop} {recor
       let idle : (isFull stop || ltb (length (piece .left)) filled) ≡ false = sym (ap (λ (b : Bool). b && (isFull stop || ltb (length (piece .left)) filled)) w) ∙ sym (t .goes) ∙ o in
       let unread : ltb (length (piece .left)) filled ≡ false = or-false-right (isFull stop) (ltb (length (piece .left)) filled) idle in
       let long : length (piece .left) + length (t .more) ≡ length (take filled buffer) = sym (ap length (t .rests) ∙ length-append (piece .left) (t .more)) in
-      let nothing : t .more ≡ [] = none (t .more) (omega (arith, long, length-take-le filled buffer (t .within), ltb-false (length (piece .left)) filled unread)) in
+      let nothing : t .more ≡ [] = no-bytes (t .more) (omega (arith, long, length-take-le filled buffer (t .within), ltb-false (length (piece .left)) filled unread)) in
       let same : take filled buffer ≡ piece .left = t .rests ∙ ap (λ (ys : List ℕ). piece .left ++ ys) nothing ∙ append-nil (piece .left) in
       rw (t .counts, t .leaves, same, t .stops) (play-halted n c xs small (ap isFull (sym (t .stops)) ∙ or-false-left (isFull stop) (ltb (length (piece .left)) filled) idle))
 

@@ -12,7 +12,7 @@ use Rattle.card.specs.Card.{Card}
 use Rattle.records.specs.Decode.{Next, ended, refused, sent, decode}
 use Rattle.lines.specs.Lines.{lineRoom}
 use Rattle.input.specs.Play.{Turn, turnOf, turn, Play, goOn, playWithin, play}
-use Rattle.input.specs.PlayLaws.{behind, stopped, tried, play-went, play-stopped, fault-stops}
+use Rattle.input.specs.PlayLaws.{outputBefore, stopped, tried, play-went, play-stopped, fault-stops}
 use Rattle.input.specs.declared.Stop.{Stop}
 use Rattle.input.specs.declared.Stop.the-variants.{Went, Ended, Short, Refused, Full}
 use Rattle.input.specs.Played.{isWent}
@@ -48,19 +48,19 @@ tried-idle false records c xs h = turn-idle (records + 1) c xs (decode xs) h
 
 -- A turn that goes does so whatever follows.
 tried-went : (full : Bool) (records : ℕ) (c : Card) (xs ys : List ℕ) (big : ℕ) → lineRoom ≤ big → let t : Turn = tried full records c xs in t .stop ≡ Went
-    → play records c (xs ++ ys) big ≡ behind (t .output) (play (records + 1) (t .after) (t .left ++ ys) (big - length (t .output)))
+    → play records c (xs ++ ys) big ≡ outputBefore (t .output) (play (records + 1) (t .after) (t .left ++ ys) (big - length (t .output)))
 unfolding turn
 tried-went true records c xs ys big h e = let z : _≡_ {A = ℕ} 0 1 = cc in absurd (omega arith)
 tried-went false records c xs ys big h e =
     let longer = turn-longer (records + 1) c xs ys (decode xs) refl e in
     play-went records c (xs ++ ys) big h (ap (λ (t : Turn). t .stop) longer)
-    ∙ ap (λ (t : Turn). behind (t .output) (play (records + 1) (t .after) (t .left) (big - length (t .output)))) longer
+    ∙ ap (λ (t : Turn). outputBefore (t .output) (play (records + 1) (t .after) (t .left) (big - length (t .output)))) longer
 
 -- ---- a play of the input's first part
 
 -- However far the play of the first part came, that of the whole goes on from there.
 abbrev Longer : Play → ℕ → Card → List ℕ → Type 0
-Longer p records c xs = (ys : List ℕ) (big : ℕ) → length (p .output) + lineRoom ≤ big → play records c (xs ++ ys) big ≡ behind (p .output) (play (p .records) (p .after) (p .left ++ ys) (big - length (p .output)))
+Longer p records c xs = (ys : List ℕ) (big : ℕ) → length (p .output) + lineRoom ≤ big → play records c (xs ++ ys) big ≡ outputBefore (p .output) (play (p .records) (p .after) (p .left ++ ys) (big - length (p .output)))
 
 longer-none : (stop : Stop) (records : ℕ) (c : Card) (xs : List ℕ) → Longer (stopped stop records c xs) records c xs
 longer-none stop records c xs ys big h = ap (play records c (xs ++ ys)) (sym (sub-zero big))
@@ -68,15 +68,15 @@ longer-none stop records c xs ys big h = ap (play records c (xs ++ ys)) (sym (su
 abbrev PlaysNothingAfter : Play → Type 0
 PlaysNothingAfter p = isFull (p .stop) ≡ false → PlaysNothing (p .stop) (p .records) (p .after) (p .left)
 
-behind-append : (us vs : List ℕ) (p : Play) → behind us (behind vs p) ≡ behind (us ++ vs) p
-behind-append us vs p = ap (λ (ls : List ℕ). record { stop = p .stop; output = ls; records = p .records; after = p .after; left = p .left }) (sym (append-assoc us vs (p .output)))
+output-append : (us vs : List ℕ) (p : Play) → outputBefore us (outputBefore vs p) ≡ outputBefore (us ++ vs) p
+output-append us vs p = ap (λ (ls : List ℕ). record { stop = p .stop; output = ls; records = p .records; after = p .after; left = p .left }) (sym (append-assoc us vs (p .output)))
 
-pub behind-behind : (us vs : List ℕ) (big : ℕ) (records : ℕ) (c : Card) (xs : List ℕ)
-    → behind us (behind vs (play records c xs (big - length us - length vs))) ≡ behind (us ++ vs) (play records c xs (big - length (us ++ vs)))
-behind-behind us vs big records c xs =
+pub output-output : (us vs : List ℕ) (big : ℕ) (records : ℕ) (c : Card) (xs : List ℕ)
+    → outputBefore us (outputBefore vs (play records c xs (big - length us - length vs))) ≡ outputBefore (us ++ vs) (play records c xs (big - length (us ++ vs)))
+output-output us vs big records c xs =
     let same : big - length us - length vs ≡ big - length (us ++ vs) = omega (arith, length-append us vs) in
-    subst (λ (n : ℕ). behind us (behind vs (play records c xs (big - length us - length vs))) ≡ behind (us ++ vs) (play records c xs n)) same
-    (behind-append us vs (play records c xs (big - length us - length vs)))
+    subst (λ (n : ℕ). outputBefore us (outputBefore vs (play records c xs (big - length us - length vs))) ≡ outputBefore (us ++ vs) (play records c xs n)) same
+    (output-append us vs (play records c xs (big - length us - length vs)))
 
 -- Where there was room for a line, the whole play stops there too.
 halted-here : (full : Bool) (records : ℕ) (c : Card) (xs : List ℕ) (stop : Stop) → tried full records c xs .stop ≡ stop → isWent stop ≡ false → isFull stop ≡ false → PlaysNothing stop records c xs
@@ -102,8 +102,8 @@ module _ (most records : ℕ) (c : Card) (xs : List ℕ) (small : ℕ) (full : B
       let p : Play = playWithin most (records + 1) (tries .after) (tries .left) (small - length (tries .output)) in
       let long : length (tries .output ++ p .output) ≡ length (tries .output) + length (p .output) = length-append (tries .output) (p .output) in
       tried-went full records c xs ys big (omega arith) e
-      ∙ ap (behind (tries .output)) (ih (records + 1) (tries .after) (tries .left) (small - length (tries .output)) ys (big - length (tries .output)) (omega arith))
-      ∙ behind-behind (tries .output) (p .output) big (p .records) (p .after) (p .left ++ ys)
+      ∙ ap (outputBefore (tries .output)) (ih (records + 1) (tries .after) (tries .left) (small - length (tries .output)) ys (big - length (tries .output)) (omega arith))
+      ∙ output-output (tries .output) (p .output) big (p .records) (p .after) (p .left ++ ys)
   goOn-longer Ended e ih ys big h = subst (λ (p : Play). Longer p records c xs) (stops Ended e refl) (longer-none Ended records c xs) ys big h
   goOn-longer Short e ih ys big h = subst (λ (p : Play). Longer p records c xs) (stops Short e refl) (longer-none Short records c xs) ys big h
   goOn-longer Refused e ih ys big h = subst (λ (p : Play). Longer p records c xs) (stops Refused e refl) (longer-none Refused records c xs) ys big h

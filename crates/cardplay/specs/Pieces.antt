@@ -8,7 +8,7 @@ use Rattle.card.specs.Card.{Card}
 use Rattle.card.specs.Lent.{Lent, atExit}
 use Rattle.lines.specs.Lines.{lineRoom, lastLine}
 use Rattle.input.specs.Play.{play, endNumber, transcript}
-use Rattle.input.specs.PlayLaws.{behind, stopped}
+use Rattle.input.specs.PlayLaws.{outputBefore, stopped}
 use Rattle.input.specs.declared.Stop.{Stop}
 use Rattle.cardplay.specs.declared.Progress.{Progress}
 
@@ -16,7 +16,7 @@ use Rattle.cardplay.specs.declared.Progress.{Progress}
 pub record Pieces (c₀ : Card) (records : ℕ) (c : Card) (left : List ℕ) : Type 0 where
   pub input : List ℕ
   pub output : List ℕ
-  pub total : (more : List ℕ) (room : ℕ) → length output + lineRoom ≤ room → play 0 c₀ (input ++ more) room ≡ behind output (play records c (left ++ more) (room - length output))
+  pub total : (more : List ℕ) (room : ℕ) → length output + lineRoom ≤ room → play 0 c₀ (input ++ more) room ≡ outputBefore output (play records c (left ++ more) (room - length output))
 
 -- Nothing of what is left is played, for this reason.
 abbrev pub PlaysNothing : Stop → ℕ → Card → List ℕ → Type 0

@@ -85,8 +85,8 @@ within-same (suc k) (suc m) records c xs room hk hm =
 -- ---- a play, turn by turn
 
 -- A play with output before it.
-abbrev pub behind : List ℕ → Play → Play
-behind output p = record { stop = p .stop; output = output ++ p .output; records = p .records; after = p .after; left = p .left }
+abbrev pub outputBefore : List ℕ → Play → Play
+outputBefore output p = record { stop = p .stop; output = output ++ p .output; records = p .records; after = p .after; left = p .left }
 
 -- A play that stops at once.
 abbrev pub stopped : Stop → ℕ → Card → List ℕ → Play
@@ -106,12 +106,12 @@ module _ (records : ℕ) (c : Card) (xs : List ℕ) (room : ℕ) (h : lineRoom �
   firstTurn = turn (records + 1) c xs
 
   -- The play goes on behind the turn's line.
-  pub play-went : firstTurn .stop ≡ Went → play records c xs room ≡ behind (firstTurn .output) (play (records + 1) (firstTurn .after) (firstTurn .left) (room - length (firstTurn .output)))
+  pub play-went : firstTurn .stop ≡ Went → play records c xs room ≡ outputBefore (firstTurn .output) (play (records + 1) (firstTurn .after) (firstTurn .left) (room - length (firstTurn .output)))
   unfolding goOn play
   play-went w =
       play-tried false records c xs room (le-ltb room lineRoom h)
       ∙ ap (λ (s : Stop). goOn s firstTurn records (playWithin (length xs)) room) w
-      ∙ ap (behind (firstTurn .output)) (shorter (length xs) (turn-left (records + 1) c xs w))
+      ∙ ap (outputBefore (firstTurn .output)) (shorter (length xs) (turn-left (records + 1) c xs w))
     where
       shorter : (k : ℕ) → length (firstTurn .left) < k
           → playWithin k (records + 1) (firstTurn .after) (firstTurn .left) (room - length (firstTurn .output)) ≡ playWithin (suc (length (firstTurn .left))) (records + 1) (firstTurn .after) (firstTurn .left) (room - length (firstTurn .output))

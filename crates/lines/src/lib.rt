@@ -133,15 +133,7 @@ pub fn filled_by(call: Call) -> Filled
     match call {
         Call::Read(_) => Filled::Bytes,
         Call::Alloc(o) => Filled::Blocks(o.count),
-        Call::Write(_) => Filled::Neither,
-        Call::Create(_) => Filled::Neither,
-        Call::Delete(_) => Filled::Neither,
-        Call::Key(_) => Filled::Neither,
-        Call::Renew(_) => Filled::Neither,
-        Call::Force(_) => Filled::Neither,
-        Call::Free => Filled::Neither,
-        Call::Tick(_) => Filled::Neither,
-        Call::Audit => Filled::Neither,
+        _ => Filled::Neither,
     }
 }
 

@@ -12,7 +12,7 @@ use Rattle.records.specs.Decode.{Next, ended, refused, sent, decode}
 use Rattle.lines.specs.Lines.{lineRoom}
 use Rattle.lines.specs.Written.{Written, written-none, written-join, written-length}
 use Rattle.input.specs.Play.{Turn, turnOf, turn, Play, play}
-use Rattle.input.specs.PlayLaws.{behind, play-full, play-went, play-stopped, turn-left}
+use Rattle.input.specs.PlayLaws.{outputBefore, play-full, play-went, play-stopped, turn-left}
 use Rattle.input.specs.Played.{TurnIs, PlayedIs, isWent}
 use Rattle.input.specs.PlayedLaws.{is-went, not-went}
 use Rattle.input.proofs.SameTables.{SameTables}
@@ -40,7 +40,7 @@ pub record Playing (records₀ : ℕ) (c₀ : Card) (xs out₀ : List ℕ) (coun
   pub counted : count ≤ records₀ + from
   pub fits : length done ≤ length out₀
   pub written : Written out₀ 0 done out at
-  pub total : play records₀ c₀ xs (length out₀) ≡ behind done (play count c (drop from xs) (length out₀ - length done))
+  pub total : play records₀ c₀ xs (length out₀) ≡ outputBefore done (play count c (drop from xs) (length out₀ - length done))
 
 module _ (records₀ : ℕ) (c₀ : Card) (xs out₀ : List ℕ) where
   pub playing-none : Playing records₀ c₀ xs out₀ records₀ c₀ 0 0 out₀
@@ -66,7 +66,7 @@ module _ (records₀ : ℕ) (c₀ : Card) (xs out₀ : List ℕ) where
     -- No room for another line.
     pub playing-full : length out - at < lineRoom → PlayedIs (play records₀ c₀ xs (length out₀)) Full count c xs from out₀ out at
     playing-full h =
-        let e = p .total ∙ ap (behind (p .done)) (play-full count c (drop from xs) (length out₀ - length (p .done)) (omega (arith, reached, kept))) in
+        let e = p .total ∙ ap (outputBefore (p .done)) (play-full count c (drop from xs) (length out₀ - length (p .done)) (omega (arith, reached, kept))) in
         rw e (record { stops = refl; counts = refl; leaves = refl; rests = refl; within = p .within; writes = rw (mathlib.Core.List.append-nil (p .done)) (p .written) })
 
     module _ {stop : Stop} {after : Card} {next next-at : ℕ} {to : List ℕ} (room : lineRoom ≤ length out - at)
@@ -78,7 +78,7 @@ module _ (records₀ : ℕ) (c₀ : Card) (xs out₀ : List ℕ) where
       pub playing-stopped : isWent stop ≡ false → PlayedIs (play records₀ c₀ xs (length out₀)) stop count after xs next out₀ to next-at
       playing-stopped n =
           let halts = turn-halts (count + 1) c (drop from xs) (ap isWent (sym (t .stops)) ∙ n) in
-          let e = p .total ∙ ap (behind (p .done)) (play-stopped count c (drop from xs) (length out₀ - length (p .done)) here stop (not-went stop n) (sym (t .stops)) (halts .0) (halts .1)) in
+          let e = p .total ∙ ap (outputBefore (p .done)) (play-stopped count c (drop from xs) (length out₀ - length (p .done)) here stop (not-went stop n) (sym (t .stops)) (halts .0) (halts .1)) in
           rw e
           (record {
             stops = refl;
@@ -116,9 +116,9 @@ module _ (records₀ : ℕ) (c₀ : Card) (xs out₀ : List ℕ) where
             written = written-join (p .written) (t .writes) (omega (arith, here, p .fits, t .short));
             total =
                 p .total
-                ∙ ap (behind (p .done)) (play-went count c (drop from xs) (length out₀ - length (p .done)) here (went w))
+                ∙ ap (outputBefore (p .done)) (play-went count c (drop from xs) (length out₀ - length (p .done)) here (went w))
                 ∙ ap (λ (ls : List ℕ). record { stop = rest .stop; output = ls; records = rest .records; after = rest .after; left = rest .left }) (sym (append-assoc (p .done) (one .output) (rest .output)))
-                ∙ ap (behind (p .done ++ one .output)) same;
+                ∙ ap (outputBefore (p .done ++ one .output)) same;
           }
 
 -- ---- the loop's invariant

@@ -1,7 +1,7 @@
 -- `cardplay::play_all` meets its contract. Assumes nothing.
 use Prim.Native.Nat.{ℕ}
 use native.Mathlib.Omega.{arith}
-use mathlib.Core.Path.{refl, sym, _∙_}
+use mathlib.Core.Path.{sym, _∙_}
 use mathlib.Core.Bool.{true≢false}
 use lib.ListN.{length-replicate}
 use Rattle.card.specs.Card.{card}

@@ -1,40 +1,40 @@
 -- `lines::filled_by` meets its contract. Assumes nothing.
+use Prim.Native.Nat.{ℕ}
+use mathlib.Core.List.{List, [], _∷_}
+use mathlib.Core.Path.{_≡_, refl}
+use types.Run.{OneOf, miss}
+use denote.Enum.Declared.{tagOf}
 use borrow.Author.Needs.{needs}
+use Rattle.card.proofs.Call.{the-type}
+use Rattle.card.specs.declared.Call.{Call}
+use Rattle.card.specs.declared.Call.the-variants.{Read, Write, Alloc, Create, Delete, Key, Renew, Force, Free, Tick, Audit}
+use Rattle.lines.specs.Replied.{filledBy}
+use Rattle.lines.specs.declared.Filled.the-variants.{Neither}
 use Rattle.lines.proofs.filled_by.Statement.{statement}
 use Rattle.lines.proofs.filled_by.Tie as tie
+
+-- The places among the variants of the calls but READ and ALLOC.
+abbrev callsFillingNeither : List ℕ
+callsFillingNeither = 1 ∷ 3 ∷ 4 ∷ 5 ∷ 6 ∷ 7 ∷ 8 ∷ 9 ∷ 10 ∷ []
+
+fills-neither : (call : Call) → OneOf callsFillingNeither (tagOf the-type call) → Neither ≡ filledBy call
+fills-neither (Read o) h = absurd (miss callsFillingNeither 0 tt h)
+fills-neither (Write o) h = refl
+fills-neither (Alloc o) h = absurd (miss callsFillingNeither 2 tt h)
+fills-neither (Create o) h = refl
+fills-neither (Delete o) h = refl
+fills-neither (Key o) h = refl
+fills-neither (Renew o) h = refl
+fills-neither (Force o) h = refl
+fills-neither Free h = refl
+fills-neither (Tick o) h = refl
+fills-neither Audit h = refl
 
 enum-told : tie.Need-enum-told
 enum-told c = search needs
 
 enum-known-call : tie.Need-enum-known-call
 enum-known-call c = search needs
-
-enum-told-2 : tie.Need-enum-told-2
-enum-told-2 c = search needs
-
-enum-told-3 : tie.Need-enum-told-3
-enum-told-3 c = search needs
-
-enum-told-4 : tie.Need-enum-told-4
-enum-told-4 c = search needs
-
-enum-told-5 : tie.Need-enum-told-5
-enum-told-5 c = search needs
-
-enum-told-6 : tie.Need-enum-told-6
-enum-told-6 c = search needs
-
-enum-told-7 : tie.Need-enum-told-7
-enum-told-7 c = search needs
-
-enum-told-8 : tie.Need-enum-told-8
-enum-told-8 c = search needs
-
-enum-told-9 : tie.Need-enum-told-9
-enum-told-9 c = search needs
-
-enum-told-10 : tie.Need-enum-told-10
-enum-told-10 c = search needs
 
 returns : tie.Need-returns
 returns c = search needs
@@ -43,55 +43,7 @@ returns-2 : tie.Need-returns-2
 returns-2 c = rw (c .before .call .given .1)
 
 returns-3 : tie.Need-returns-3
-returns-3 c = search needs
-
-returns-4 : tie.Need-returns-4
-returns-4 c = search needs
-
-returns-5 : tie.Need-returns-5
-returns-5 c = search needs
-
-returns-6 : tie.Need-returns-6
-returns-6 c = search needs
-
-returns-7 : tie.Need-returns-7
-returns-7 c = search needs
-
-returns-8 : tie.Need-returns-8
-returns-8 c = search needs
-
-returns-9 : tie.Need-returns-9
-returns-9 c = search needs
-
-returns-10 : tie.Need-returns-10
-returns-10 c = search needs
-
-returns-11 : tie.Need-returns-11
-returns-11 c = search needs
+returns-3 c = fills-neither (c .before .args .call) (c .match .keys3)
 
 pub filled-by-spec : {M : Type 1} → statement M
-filled-by-spec =
-    tie.close
-    (tie.spec
-    enum-told
-    enum-known-call
-    enum-told-2
-    enum-told-3
-    enum-told-4
-    enum-told-5
-    enum-told-6
-    enum-told-7
-    enum-told-8
-    enum-told-9
-    enum-told-10
-    returns
-    returns-2
-    returns-3
-    returns-4
-    returns-5
-    returns-6
-    returns-7
-    returns-8
-    returns-9
-    returns-10
-    returns-11)
+filled-by-spec = tie.close (tie.spec enum-told enum-known-call returns returns-2 returns-3)
