@@ -24,7 +24,7 @@ use Rattle.fields.specs.Bytes.{bytes}
 use Rattle.fields.specs.BytesLaws.{length-bytes}
 use Rattle.lines.specs.Replied.{filledBy, replied}
 use Rattle.lines.specs.Written.{Written, written-none, written-join, written-length}
-use Rattle.lines.specs.LinesLaws.{Filling, filling-more}
+use Rattle.lines.proofs.WrittenPart.{WrittenPart, part-more}
 use Rattle.lines.specs.declared.Filled.{Filled}
 use Rattle.lines.specs.declared.Filled.the-variants.{Neither, Bytes, Blocks}
 use Rattle.batch.specs.Serve.{pairs, filledBytes, answerBytes, lentBytes, lentSize, answerRoom}
@@ -91,12 +91,12 @@ pairs-more xs i h = rw (add-one, take-suc xs i 0 h, pairs-append) (ap (λ (zs : 
 
 -- The first i numbers are written.
 abbrev pub Pairing : List ℕ → List ℕ → ℕ → List ℕ → ℕ → ℕ → Type 0
-Pairing values = Filling 2 (length values) (λ k. pairs (take k values))
+Pairing values = WrittenPart 2 (length values) (λ k. pairs (take k values))
 
 pub pairing-more : (values before : List ℕ) (at : ℕ) {to after : List ℕ} {next behind i n : ℕ} → Pairing values before at to next i → i < length values
     → n ≡ getD values i 0 → Written to next (bytes 2 n) after behind → Pairing values before at after behind (i + 1)
 pairing-more values before at {i = i} {n = n} f h e w =
-    filling-more 2 (length values) (λ k. pairs (take k values)) before at (bytes 2 n) f h (omega (arith, length-bytes 2 n))
+    part-more 2 (length values) (λ k. pairs (take k values)) before at (bytes 2 n) f h (omega (arith, length-bytes 2 n))
     (pairs-more values i h ∙ ap (λ (k : ℕ). pairs (take i values) ++ bytes 2 k) (sym e)) w
 
 pub pairing-done : (values : List ℕ) {before to : List ℕ} {at next i : ℕ} → Pairing values before at to next i → length values ≤ i → Written before at (pairs values) to next

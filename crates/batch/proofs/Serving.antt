@@ -11,8 +11,7 @@ use Rattle.card.specs.Card.{Card, card}
 use Rattle.card.specs.Soundness.{verdict}
 use Rattle.card.specs.declared.Info.{Info}
 use Rattle.lines.specs.Written.{Written, written-none, written-join, written-length}
-use Rattle.input.specs.Play.{Turn, Play, goOn}
-use Rattle.input.specs.PlayLaws.{outputBefore}
+use Rattle.input.specs.Play.{Turn, Play, outputBefore, stopped, goOn}
 use Rattle.input.specs.Played.{TurnIs, PlayedIs, isWent}
 use Rattle.input.specs.PlayedLaws.{is-went}
 use Rattle.input.proofs.SameTables.{SameTables}
@@ -35,7 +34,7 @@ pub record Serving (c₀ : Card) (xs out₀ : List ℕ) (count : ℕ) (c : Card)
 
 -- A turn that did not go ends the batch.
 goOn-halts : (stop : Stop) (t : Turn) (records room : ℕ) (rest : ℕ → Card → List ℕ → ℕ → Play) → isWent stop ≡ false
-    → goOn stop t records rest room ≡ record { stop = stop; output = []; records = records; after = t .after; left = t .left }
+    → goOn stop t records rest room ≡ stopped stop records (t .after) (t .left)
 unfolding goOn
 goOn-halts Went t records room rest e = absurd (true≢false e)
 goOn-halts Ended t records room rest e = refl

@@ -19,7 +19,7 @@ use Rattle.records.specs.Decode.{Next, ended, refused, sent, decode}
 use Rattle.lines.specs.Replied.{filledBy}
 use Rattle.lines.specs.declared.Filled.{Filled}
 use Rattle.lines.specs.declared.Filled.the-variants.{Neither, Bytes, Blocks}
-use Rattle.input.specs.Play.{Turn, halted, fault, Play, goOn}
+use Rattle.input.specs.Play.{Turn, halted, fault, Play, stopped, goOn}
 use Rattle.input.specs.declared.Stop.the-variants.{Went, Ended, Full}
 
 -- ---- the bytes of an answer
@@ -105,7 +105,7 @@ roomFrom to at = length to - at
 
 -- Record after record, while there is room for the answer. Each record takes a byte of the input at least, so that it has at most as many.
 unfoldable pub serveWithin : ℕ → ℕ → Card → List ℕ → ℕ → Play
-serveWithin zero records c xs room = record { stop = Full; output = []; records = records; after = c; left = xs }
+serveWithin zero records c xs room = stopped Full records c xs
 serveWithin (suc most) records c xs room = let t = serveTurn room c xs in goOn (t .stop) t records (serveWithin most) room
 
 unfoldable pub serve : Card → List ℕ → ℕ → Play

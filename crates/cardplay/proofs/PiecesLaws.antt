@@ -9,11 +9,10 @@ use native.Mathlib.Nat.{sub-zero}
 use lib.ListN.{length, length-append}
 use Rattle.card.specs.Card.{Card}
 use Rattle.lines.specs.Lines.{lineRoom, lastLine}
-use Rattle.input.specs.Play.{Play, play, endNumber, transcript}
-use Rattle.input.specs.PlayLaws.{outputBefore}
+use Rattle.input.specs.Play.{Play, outputBefore, play, endNumber, transcript}
 use Rattle.input.specs.declared.Stop.{Stop}
-use Rattle.cardplay.specs.Pieces.{Pieces, PlaysNothing, PlayedWhole, PlayedInPieces}
-use Rattle.cardplay.proofs.PlayLonger.{output-output, play-longer}
+use Rattle.cardplay.specs.Pieces.{Pieces, PlayedWhole, PlayedInPieces}
+use Rattle.cardplay.proofs.PlayLonger.{PlaysNothing, output-output, play-longer}
 
 -- ---- piece by piece
 

@@ -16,9 +16,9 @@ use Rattle.input.specs.Play.{Play, play}
 use Rattle.input.specs.declared.Stop.{Stop}
 use Rattle.input.proofs.SameTables.{SameTables}
 use Rattle.cardplay.specs.Progress.{isFull, ProgressIs}
-use Rattle.cardplay.specs.Pieces.{Pieces, PlaysNothing}
+use Rattle.cardplay.specs.Pieces.{Pieces}
 use Rattle.cardplay.proofs.PiecesLaws.{pieces-read, pieces-played}
-use Rattle.cardplay.proofs.PlayLonger.{play-halted}
+use Rattle.cardplay.proofs.PlayLonger.{PlaysNothing, play-halted}
 
 -- The loop's invariant: tables and buffers keep their lengths, and the play has come so far.
 pub record PiecesLoop (c₀ : Card) (flags₀ keys₀ counts₀ pointers₀ windows₀ contents₀ flags keys counts pointers windows contents buffer output : List ℕ)

@@ -11,15 +11,14 @@ use lib.ListN.{length, length-append}
 use Rattle.card.specs.Card.{Card}
 use Rattle.records.specs.Decode.{Next, ended, refused, sent, decode}
 use Rattle.lines.specs.Lines.{lineRoom}
-use Rattle.input.specs.Play.{Turn, turnOf, turn, Play, goOn, playWithin, play}
-use Rattle.input.specs.PlayLaws.{outputBefore, stopped, tried, play-went, play-stopped, fault-stops}
+use Rattle.input.specs.Play.{Turn, turnOf, turn, Play, outputBefore, stopped, goOn, playWithin, play}
+use Rattle.input.specs.PlayLaws.{tried, play-went, play-stopped, fault-stops}
 use Rattle.input.specs.declared.Stop.{Stop}
 use Rattle.input.specs.declared.Stop.the-variants.{Went, Ended, Short, Refused, Full}
 use Rattle.input.specs.Played.{isWent}
 use Rattle.input.specs.PlayedLaws.{not-went}
 use Rattle.cardplay.specs.Progress.{isFull}
 use Rattle.cardplay.proofs.DecodeLonger.{decode-longer}
-use Rattle.cardplay.specs.Pieces.{PlaysNothing}
 
 -- ---- one turn
 
@@ -64,6 +63,10 @@ Longer p records c xs = (ys : List ℕ) (big : ℕ) → length (p .output) + lin
 
 longer-none : (stop : Stop) (records : ℕ) (c : Card) (xs : List ℕ) → Longer (stopped stop records c xs) records c xs
 longer-none stop records c xs ys big h = ap (play records c (xs ++ ys)) (sym (sub-zero big))
+
+-- Nothing of what is left is played, for this reason.
+abbrev pub PlaysNothing : Stop → ℕ → Card → List ℕ → Type 0
+PlaysNothing stop records c left = (room : ℕ) → lineRoom ≤ room → play records c left room ≡ stopped stop records c left
 
 abbrev PlaysNothingAfter : Play → Type 0
 PlaysNothingAfter p = isFull (p .stop) ≡ false → PlaysNothing (p .stop) (p .records) (p .after) (p .left)

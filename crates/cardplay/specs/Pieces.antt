@@ -7,8 +7,7 @@ use lib.ListN.{length}
 use Rattle.card.specs.Card.{Card}
 use Rattle.card.specs.Lent.{Lent, atExit}
 use Rattle.lines.specs.Lines.{lineRoom, lastLine}
-use Rattle.input.specs.Play.{play, endNumber, transcript}
-use Rattle.input.specs.PlayLaws.{outputBefore, stopped}
+use Rattle.input.specs.Play.{outputBefore, play, endNumber, transcript}
 use Rattle.input.specs.declared.Stop.{Stop}
 use Rattle.cardplay.specs.declared.Progress.{Progress}
 
@@ -17,10 +16,6 @@ pub record Pieces (c₀ : Card) (records : ℕ) (c : Card) (left : List ℕ) : T
   pub input : List ℕ
   pub output : List ℕ
   pub total : (more : List ℕ) (room : ℕ) → length output + lineRoom ≤ room → play 0 c₀ (input ++ more) room ≡ outputBefore output (play records c (left ++ more) (room - length output))
-
--- Nothing of what is left is played, for this reason.
-abbrev pub PlaysNothing : Stop → ℕ → Card → List ℕ → Type 0
-PlaysNothing stop records c left = (room : ℕ) → lineRoom ≤ room → play records c left room ≡ stopped stop records c left
 
 -- The whole play of some input, which is what a player writes of it but for the last line.
 pub record PlayedWhole (c₀ : Card) (stop : Stop) (records : ℕ) (c : Card) : Type 0 where

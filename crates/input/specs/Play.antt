@@ -64,19 +64,25 @@ pub record Play : Type 0 where
   pub after : Card
   pub left : List ℕ
 
+-- A play with output before it.
+abbrev pub outputBefore : List ℕ → Play → Play
+outputBefore output p = record { stop = p .stop; output = output ++ p .output; records = p .records; after = p .after; left = p .left }
+
+-- A play that stops at once.
+abbrev pub stopped : Stop → ℕ → Card → List ℕ → Play
+stopped stop records c xs = record { stop = stop; output = []; records = records; after = c; left = xs }
+
 -- What one turn and, where it went, the rest of the play come to.
 unfoldable pub goOn : Stop → Turn → ℕ → (ℕ → Card → List ℕ → ℕ → Play) → ℕ → Play
-goOn Went t records rest room =
-    let p = rest (records + 1) (t .after) (t .left) (room - length (t .output)) in
-    record { stop = p .stop; output = t .output ++ p .output; records = p .records; after = p .after; left = p .left }
-goOn Ended t records rest room = record { stop = Ended; output = []; records = records; after = t .after; left = t .left }
-goOn Short t records rest room = record { stop = Short; output = []; records = records; after = t .after; left = t .left }
-goOn Refused t records rest room = record { stop = Refused; output = []; records = records; after = t .after; left = t .left }
-goOn Full t records rest room = record { stop = Full; output = []; records = records; after = t .after; left = t .left }
+goOn Went t records rest room = outputBefore (t .output) (rest (records + 1) (t .after) (t .left) (room - length (t .output)))
+goOn Ended t records rest room = stopped Ended records (t .after) (t .left)
+goOn Short t records rest room = stopped Short records (t .after) (t .left)
+goOn Refused t records rest room = stopped Refused records (t .after) (t .left)
+goOn Full t records rest room = stopped Full records (t .after) (t .left)
 
 -- Record after record, while there is room for a line. Each record takes a byte of the input at least, so that it has at most as many.
 unfoldable pub playWithin : ℕ → ℕ → Card → List ℕ → ℕ → Play
-playWithin zero records c xs room = record { stop = Full; output = []; records = records; after = c; left = xs }
+playWithin zero records c xs room = stopped Full records c xs
 playWithin (suc most) records c xs room =
     let t = cond (ltb room lineRoom) (halted Full c xs) (turn (records + 1) c xs) in
     goOn (t .stop) t records (playWithin most) room

@@ -3,7 +3,7 @@
 use Prim.Native.Nat.{ℕ, zero, suc, _+_, _-_, _≤_, _<_}
 use mathlib.Core.Path.{_≡_, refl, ap, ap₂, _∙_}
 use mathlib.Core.Bool.{Bool, true, false, cond}
-use mathlib.Core.List.{List, [], _∷_, _++_}
+use mathlib.Core.List.{List, [], _∷_}
 use native.Mathlib.Omega.{arith}
 use lib.Dec.{ltb}
 use lib.ListN.{length}
@@ -13,7 +13,7 @@ use Rattle.records.specs.Decode.{Next, ended, refused, sent, decode}
 use Rattle.kinds.specs.Kinds.{bodyLength}
 use Rattle.records.specs.DecodeLaws.{decode-shorter}
 use Rattle.lines.specs.Lines.{lineRoom}
-use Rattle.input.specs.Play.{isShort, fault, Turn, halted, turnOf, turn, Play, goOn, playWithin, play}
+use Rattle.input.specs.Play.{isShort, fault, Turn, halted, turnOf, turn, Play, outputBefore, stopped, goOn, playWithin, play}
 use Rattle.input.specs.declared.Stop.{Stop}
 use Rattle.input.specs.declared.Stop.the-variants.{Went, Ended, Short, Refused, Full}
 
@@ -61,7 +61,7 @@ goOn-same : (stop : Stop) (t : Turn) → t .stop ≡ stop → (records room : �
     → goOn stop t records f room ≡ goOn stop t records g room
 unfolding goOn
 goOn-same Went t e records room f g h =
-    ap (λ (p : Play). record { stop = p .stop; output = t .output ++ p .output; records = p .records; after = p .after; left = p .left }) (h e)
+    ap (outputBefore (t .output)) (h e)
 goOn-same Ended t e records room f g h = refl
 goOn-same Short t e records room f g h = refl
 goOn-same Refused t e records room f g h = refl
@@ -83,14 +83,6 @@ within-same (suc k) (suc m) records c xs room hk hm =
     (omega (arith, tried-left (ltb room lineRoom) records c xs w)))
 
 -- ---- a play, turn by turn
-
--- A play with output before it.
-abbrev pub outputBefore : List ℕ → Play → Play
-outputBefore output p = record { stop = p .stop; output = output ++ p .output; records = p .records; after = p .after; left = p .left }
-
--- A play that stops at once.
-abbrev pub stopped : Stop → ℕ → Card → List ℕ → Play
-stopped stop records c xs = record { stop = stop; output = []; records = records; after = c; left = xs }
 
 play-tried : (full : Bool) (records : ℕ) (c : Card) (xs : List ℕ) (room : ℕ) → ltb room lineRoom ≡ full
     → play records c xs room ≡ goOn (tried full records c xs .stop) (tried full records c xs) records (playWithin (length xs)) room

@@ -20,7 +20,7 @@ pub written-one : (xs : List ℕ) (at byte : ℕ) → at + 1 ≤ length xs → W
 unfolding overwrite
 written-one xs at byte h = record { holds = rw add-one (set-split xs at byte (omega arith)); ends = refl }
 
--- Neither written.
+-- Nothing written.
 pub written-none : (xs : List ℕ) (at : ℕ) → Written xs at [] xs at
 unfolding overwrite
 written-none xs at = record { holds = rw add-zero (sym (take-append-drop at xs)); ends = omega arith }

@@ -11,8 +11,8 @@ use Rattle.card.specs.declared.Info.{Info}
 use Rattle.records.specs.Decode.{Next, ended, refused, sent, decode}
 use Rattle.lines.specs.Lines.{lineRoom}
 use Rattle.lines.specs.Written.{Written, written-none, written-join, written-length}
-use Rattle.input.specs.Play.{Turn, turnOf, turn, Play, play}
-use Rattle.input.specs.PlayLaws.{outputBefore, play-full, play-went, play-stopped, turn-left}
+use Rattle.input.specs.Play.{Turn, turnOf, turn, Play, outputBefore, play}
+use Rattle.input.specs.PlayLaws.{play-full, play-went, play-stopped, turn-left}
 use Rattle.input.specs.Played.{TurnIs, PlayedIs, isWent}
 use Rattle.input.specs.PlayedLaws.{is-went, not-went}
 use Rattle.input.proofs.SameTables.{SameTables}

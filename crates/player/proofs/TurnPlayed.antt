@@ -13,7 +13,7 @@ use Rattle.card.specs.declared.Call.{Call}
 use Rattle.card.specs.declared.Answer.{Answer}
 use Rattle.lines.specs.Lines.{line, lineRoom}
 use Rattle.lines.specs.Replied.{BuffersFit, replied}
-use Rattle.lines.specs.AnswersLaws.{line-short}
+use Rattle.lines.proofs.AnswersWritten.{line-short}
 use Rattle.lines.specs.Written.{Written}
 use Rattle.input.specs.Play.{played, turnOf, turn}
 use Rattle.input.specs.Played.{WroteIs, TurnIs}

@@ -2,7 +2,7 @@
 use Prim.Native.Nat.{_+_, _≤_}
 use native.Mathlib.Omega.{arith}
 use lib.ListN.{length}
-use Rattle.lines.specs.AnswersLaws.{room-spaced, answered-refused, answered-done, answered-value}
+use Rattle.lines.proofs.AnswersWritten.{room-spaced, answered-refused, answered-done, answered-value}
 use borrow.Author.Needs.{needs}
 use Rattle.lines.proofs.put_answer.Statement.{statement}
 use Rattle.lines.proofs.put_answer.Tie as tie

@@ -123,14 +123,14 @@ answer-length call r fit (Value v) e =
     (arith, length-append (space ∷ decimal 0) ((space ∷ decimal v) ++ spaced values), length-append (space ∷ decimal v) (spaced values), spaced-one 0, spaced-one v, values-length (filledBy call) fit))
 
 module _ (ordinal kind : ℕ) (call : Call) (answer : Answer) (out places : List ℕ) (fit : BuffersFit out places) where
-  abbrev answer-bytes : List ℕ
-  answer-bytes = spaced (reported call (replied answer out places))
+  abbrev answerText : List ℕ
+  answerText = spaced (reported call (replied answer out places))
 
-  answer-short : length answer-bytes ≤ 1386
+  answer-short : length answerText ≤ 1386
   answer-short = answer-length call (replied answer out places) fit answer refl
 
   -- Room for the newline.
-  pub room-last : {before after : List ℕ} {at behind : ℕ} → Written before at answer-bytes after behind → at + 1386 + 1 ≤ length before → behind + 1 ≤ length after
+  pub room-last : {before after : List ℕ} {at behind : ℕ} → Written before at answerText after behind → at + 1386 + 1 ≤ length before → behind + 1 ≤ length after
   room-last w h = room-behind 1386 1 w answer-short h
 
   -- No line is longer than the room that is kept for it.
@@ -139,15 +139,15 @@ module _ (ordinal kind : ℕ) (call : Call) (answer : Answer) (out places : List
   line-short =
       rw spaced-cons
       (omega
-      (arith, length-append (decimal ordinal) (((space ∷ decimal kind) ++ answer-bytes) ++ (newline ∷ [])), length-append ((space ∷ decimal kind) ++ answer-bytes) (newline ∷ []), length-append (space ∷ decimal kind) answer-bytes, decimal-length ordinal, spaced-one kind, answer-short))
+      (arith, length-append (decimal ordinal) (((space ∷ decimal kind) ++ answerText) ++ (newline ∷ [])), length-append ((space ∷ decimal kind) ++ answerText) (newline ∷ []), length-append (space ∷ decimal kind) answerText, decimal-length ordinal, spaced-one kind, answer-short))
 
   pub line-written : {before one two three after : List ℕ} {at next behind last end : ℕ} → at + 2048 ≤ length before → Written before at (decimal ordinal) one next
-      → Written one next (space ∷ decimal kind) two behind → Written two behind answer-bytes three last → Written three last (newline ∷ []) after end
+      → Written one next (space ∷ decimal kind) two behind → Written two behind answerText three last → Written three last (newline ∷ []) after end
       → Written before at (line ordinal kind call (replied answer out places)) after end
   unfolding line
   line-written {before} {after = after} {at = at} {end = end} h a b c d =
       rw spaced-cons
-      (subst (λ (bytes : List ℕ). Written before at (decimal ordinal ++ bytes) after end) (sym (append-assoc (space ∷ decimal kind) answer-bytes (newline ∷ [])))
+      (subst (λ (bytes : List ℕ). Written before at (decimal ordinal ++ bytes) after end) (sym (append-assoc (space ∷ decimal kind) answerText (newline ∷ [])))
       (four-written 20 21 1386 1 a b c d (decimal-length ordinal) (spaced-one kind) answer-short (omega arith) (omega arith)))
 
 -- ---- the last line
