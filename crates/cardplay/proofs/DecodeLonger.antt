@@ -64,20 +64,20 @@ module _ (n : ℕ) (xs ys : List ℕ) (a : Agree n xs ys) where
   operand-same : (from k : ℕ) → from + k ≤ n → number k (drop from xs) ≡ number k (drop from ys)
   operand-same from k h = number-same k (drop from xs) (drop from ys) (agree-drop n from k xs ys a h)
 
-  presented-same : (from : ℕ) → from + 17 ≤ n → credential (drop from xs) ≡ credential (drop from ys)
-  presented-same from h = credential-same (drop from xs) (drop from ys) (agree-drop n from 17 xs ys a h)
+  credential-within : (from : ℕ) → from + 17 ≤ n → credential (drop from xs) ≡ credential (drop from ys)
+  credential-within from h = credential-same (drop from xs) (drop from ys) (agree-drop n from 17 xs ys a h)
 
-  replacing-same : (from : ℕ) → from + 17 ≤ n → newKey (drop from xs) ≡ newKey (drop from ys)
-  replacing-same from h = newKey-same (drop from xs) (drop from ys) (agree-drop n from 17 xs ys a h)
+  new-key-within : (from : ℕ) → from + 17 ≤ n → newKey (drop from xs) ≡ newKey (drop from ys)
+  new-key-within from h = newKey-same (drop from xs) (drop from ys) (agree-drop n from 17 xs ys a h)
 
 call-same : (port : Port) (name : Name) (xs ys : List ℕ) → Agree (lengthOf name) xs ys → decodeCall port name xs ≡ decodeCall port name ys
 unfolding decodeCall lengthOf row
-call-same port READ xs ys a = rw (first-same 23 xs ys a 2 (omega arith), operand-same 23 xs ys a 19 4 (omega arith), presented-same 23 xs ys a 2 (omega arith))
-call-same port WRITE xs ys a = rw (first-same 535 xs ys a 2 (omega arith), operand-same 535 xs ys a 19 4 (omega arith), presented-same 535 xs ys a 2 (omega arith))
-call-same port ALLOC xs ys a = rw (first-same 22 xs ys a 2 (omega arith), operand-same 22 xs ys a 19 2 (omega arith), presented-same 22 xs ys a 2 (omega arith), a 21 (omega arith))
-call-same port CREATE xs ys a = rw (first-same 38 xs ys a 2 (omega arith), operand-same 38 xs ys a 19 2 (omega arith), presented-same 38 xs ys a 2 (omega arith), presented-same 38 xs ys a 21 (omega arith))
-call-same port DELETE xs ys a = rw (first-same 21 xs ys a 2 (omega arith), operand-same 21 xs ys a 19 2 (omega arith), presented-same 21 xs ys a 2 (omega arith))
-call-same port KEY xs ys a = rw (first-same 53 xs ys a 2 (omega arith), presented-same 53 xs ys a 2 (omega arith), replacing-same 53 xs ys a 19 (omega arith), replacing-same 53 xs ys a 36 (omega arith))
+call-same port READ xs ys a = rw (first-same 23 xs ys a 2 (omega arith), operand-same 23 xs ys a 19 4 (omega arith), credential-within 23 xs ys a 2 (omega arith))
+call-same port WRITE xs ys a = rw (first-same 535 xs ys a 2 (omega arith), operand-same 535 xs ys a 19 4 (omega arith), credential-within 535 xs ys a 2 (omega arith))
+call-same port ALLOC xs ys a = rw (first-same 22 xs ys a 2 (omega arith), operand-same 22 xs ys a 19 2 (omega arith), credential-within 22 xs ys a 2 (omega arith), a 21 (omega arith))
+call-same port CREATE xs ys a = rw (first-same 38 xs ys a 2 (omega arith), operand-same 38 xs ys a 19 2 (omega arith), credential-within 38 xs ys a 2 (omega arith), credential-within 38 xs ys a 21 (omega arith))
+call-same port DELETE xs ys a = rw (first-same 21 xs ys a 2 (omega arith), operand-same 21 xs ys a 19 2 (omega arith), credential-within 21 xs ys a 2 (omega arith))
+call-same port KEY xs ys a = rw (first-same 53 xs ys a 2 (omega arith), credential-within 53 xs ys a 2 (omega arith), new-key-within 53 xs ys a 19 (omega arith), new-key-within 53 xs ys a 36 (omega arith))
 call-same port RENEW xs ys a =
     rw (a 0 (omega arith), operand-same 23 xs ys a 1 2 (omega arith), operand-same 23 xs ys a 3 8 (omega arith), operand-same 23 xs ys a 11 8 (omega arith), operand-same 23 xs ys a 19 4 (omega arith))
 call-same port FORCE xs ys a = rw (first-same 2 xs ys a 2 (omega arith))
