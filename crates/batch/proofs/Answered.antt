@@ -30,9 +30,9 @@ use Rattle.card.proofs.Guarantees.KeepsSound.{done-sound}
 use Rattle.fields.specs.Bytes.{bytes}
 use Rattle.lines.specs.Replied.{replied}
 use Rattle.lines.specs.Written.{Written}
+use Rattle.input.specs.Played.{WroteIs}
 use Rattle.batch.specs.Serve.{pairs, answerBytes, lentSize, lentPlaces, answerRoom, served}
-use Rattle.batch.specs.Served.{AnsweredIs}
-use Rattle.batch.proofs.Pieces.{pairs-length}
+use Rattle.batch.proofs.AnswerBytesLaws.{pairs-length}
 
 -- ---- the verdict
 
@@ -48,20 +48,20 @@ verdict-kept port c q = go (verdict c) refl
 -- ---- what READ's buffer held
 
 -- Two results that a host is told alike and that leave the same card.
-pub record Alike (call : Call) (r s : Result) : Type 0 where
+pub record ToldAlike (call : Call) (r s : Result) : Type 0 where
   pub leaves : r .after ≡ s .after
   pub tells : answerBytes call (reply r) ≡ answerBytes call (reply s)
 
 module _ (port : Port) (c : Card) (call : Call) (input places : List ℕ) where
-  abbrev lending : List ℕ → Buffers
-  lending out = request call input out places .lent
+  abbrev lentWith : List ℕ → Buffers
+  lentWith out = request call input out places .lent
 
   -- A call is judged by the length of READ's buffer alone.
-  plan-alike : (out other : List ℕ) → length out ≡ length other → plan port c call (lending out) ≡ plan port c call (lending other)
+  plan-alike : (out other : List ℕ) → length out ≡ length other → plan port c call (lentWith out) ≡ plan port c call (lentWith other)
   unfolding plan
   plan-alike out other e = go call
     where
-      go : (call : Call) → plan port c call (lending out) ≡ plan port c call (lending other)
+      go : (call : Call) → plan port c call (lentWith out) ≡ plan port c call (lentWith other)
       go (Read o) = rw e
       go (Write o) = refl
       go (Alloc o) = refl
@@ -92,34 +92,34 @@ done-alike port c Audit lent out other places answer = refl
 
 module _ (port : Port) (c : Card) (call : Call) (input places out other : List ℕ) where
   settle-alike : (lent : Buffers) (o : Option Refusal)
-      → Alike call (settle c (request call input out places .lent) (plan port c call lent) o) (settle c (request call input other places .lent) (plan port c call lent) o)
+      → ToldAlike call (settle c (request call input out places .lent) (plan port c call lent) o) (settle c (request call input other places .lent) (plan port c call lent) o)
   unfolding settle answerBytes
   settle-alike lent none = record { leaves = refl; tells = done-alike port c call lent out other (placesAfter (plan port c call lent .shown) places) (plan port c call lent .answer) }
   settle-alike lent (some r) = record { leaves = refl; tells = refl }
 
-  pub perform-alike : length out ≡ length other → Alike call (perform port c (request call input out places)) (perform port c (request call input other places))
+  pub perform-alike : length out ≡ length other → ToldAlike call (perform port c (request call input out places)) (perform port c (request call input other places))
   unfolding perform judge
   perform-alike e =
       let p : Plan = plan port c call (request call input out places .lent) in
-      subst (λ (q : Plan). Alike call (settle c (request call input out places .lent) p (first (audited c (p .checks)))) (settle c (request call input other places .lent) q (first (audited c (q .checks)))))
+      subst (λ (q : Plan). ToldAlike call (settle c (request call input out places .lent) p (first (audited c (p .checks)))) (settle c (request call input other places .lent) q (first (audited c (q .checks)))))
       (plan-alike port c call input places out other e) (settle-alike (request call input out places .lent) (first (audited c (p .checks))))
 
 -- ---- how long an answer is
 
 module _ (size : ℕ) where
-  room-one : (call : Call) → 1 ≤ answerRoom size call
+  room-number : (call : Call) → 1 ≤ answerRoom size call
   unfolding answerRoom
-  room-one (Read o) = omega arith
-  room-one (Write o) = omega arith
-  room-one (Alloc o) = omega arith
-  room-one (Create o) = omega arith
-  room-one (Delete o) = omega arith
-  room-one (Key o) = omega arith
-  room-one (Renew o) = omega arith
-  room-one (Force o) = omega arith
-  room-one Free = omega arith
-  room-one (Tick o) = omega arith
-  room-one Audit = omega arith
+  room-number (Read o) = omega arith
+  room-number (Write o) = omega arith
+  room-number (Alloc o) = omega arith
+  room-number (Create o) = omega arith
+  room-number (Delete o) = omega arith
+  room-number (Key o) = omega arith
+  room-number (Renew o) = omega arith
+  room-number (Force o) = omega arith
+  room-number Free = omega arith
+  room-number (Tick o) = omega arith
+  room-number Audit = omega arith
 
   -- READ's bytes fit behind the number.
   room-lent : (call : Call) → 1 + lentSize size call ≤ answerRoom size call
@@ -160,7 +160,7 @@ module _ (port : Port) (c : Card) (size : ℕ) where
 
   refused-short : (call : Call) (r : Refusal) (out places : List ℕ) → length (answerBytes call (replied (Refused r) out places)) ≤ answerRoom size call
   unfolding answerBytes bytes
-  refused-short call r out places = room-one size call
+  refused-short call r out places = room-number size call
 
   settle-short : (call : Call) (lent : Buffers) (o : Option Refusal) (r : Result) → r ≡ settle c lent (plan port c call lent) o → length (r .out) ≡ lentSize size call → length (r .places) ≡ lentPlaces
       → length (answerBytes call (reply r)) ≤ answerRoom size call
@@ -206,17 +206,17 @@ module _ (port : Port) (c : Card) (call : Call) (payload before : List ℕ) (at 
   end = at + 1 + size
 
   -- The part that is lent.
-  abbrev lent-part : List ℕ
-  lent-part = take (end - (at + 1)) (drop (at + 1) before)
+  abbrev readPart : List ℕ
+  readPart = take (end - (at + 1)) (drop (at + 1) before)
 
   within : end ≤ length before
   within = part-within (c .public .info .bytes) call at told fits
 
-  part-length : length lent-part ≡ size
-  part-length = length-take-le (end - (at + 1)) (drop (at + 1) before) (omega (arith, length-drop (at + 1) before, within)) ∙ omega arith
+  read-part-length : length readPart ≡ size
+  read-part-length = length-take-le (end - (at + 1)) (drop (at + 1) before) (omega (arith, length-drop (at + 1) before, within)) ∙ omega arith
 
-  module _ {answer : Answer} {after : Card} {out places : List ℕ} (i : Is (perform port c (request call payload lent-part (zeros lentPlaces))) answer after out places)
-      (kept : length out ≡ length lent-part) (few : length places ≡ lentPlaces) where
+  module _ {answer : Answer} {after : Card} {out places : List ℕ} (i : Is (perform port c (request call payload readPart (zeros lentPlaces))) answer after out places)
+      (kept : length out ≡ length readPart) (few : length places ≡ lentPlaces) where
     -- The buffer with READ's bytes, and without the number.
     abbrev middle : List ℕ
     middle = putMid (at + 1) (end - (at + 1)) before out
@@ -227,14 +227,14 @@ module _ (port : Port) (c : Card) (call : Call) (payload before : List ℕ) (at 
     stands : take size (drop (at + 1) middle) ≡ out
     stands =
         ap (take size) (drop-at (take (at + 1) before) _ (at + 1) (length-take-le (at + 1) before (omega (arith, within))))
-        ∙ take-at out _ size (kept ∙ part-length)
+        ∙ take-at out _ size (kept ∙ read-part-length)
 
     unfoldable result : Result
-    result = perform port c (request call payload lent-part (zeros lentPlaces))
+    result = perform port c (request call payload readPart (zeros lentPlaces))
 
-    alike : Alike call result (served port c call payload)
+    alike : ToldAlike call result (served port c call payload)
     unfolding served result
-    alike = perform-alike port c call payload (zeros lentPlaces) lent-part (zeros (lentSize (c .public .info .bytes) call)) (part-length ∙ told ∙ sym (length-replicate (lentSize (c .public .info .bytes) call) 0))
+    alike = perform-alike port c call payload (zeros lentPlaces) readPart (zeros (lentSize (c .public .info .bytes) call)) (read-part-length ∙ told ∙ sym (length-replicate (lentSize (c .public .info .bytes) call) 0))
 
     abbrev told-bytes : List ℕ
     told-bytes = answerBytes call (replied answer (take size (drop (at + 1) middle)) places)
@@ -249,16 +249,16 @@ module _ (port : Port) (c : Card) (call : Call) (payload before : List ℕ) (at 
     unfolding result
     short =
         rw tells
-        (perform-short port c (c .public .info .bytes) call payload lent-part (zeros lentPlaces) (ap length (sym (i .fillsOut)) ∙ kept ∙ part-length ∙ told) (ap length (sym (i .fillsPlaces)) ∙ few))
+        (perform-short port c (c .public .info .bytes) call payload readPart (zeros lentPlaces) (ap length (sym (i .fillsOut)) ∙ kept ∙ read-part-length ∙ told) (ap length (sym (i .fillsPlaces)) ∙ few))
 
     pub answer-room : (at + 1 + size ≤ length middle) × (at + length told-bytes ≤ length middle)
     answer-room = (omega (arith, middle-length, within), omega (arith, middle-length, short))
 
     -- What is written over READ's bytes is as if they had never stood there.
-    covered : (ys : List ℕ) → 1 + length out ≤ length ys → at + length ys ≤ length before → overwrite middle at ys ≡ overwrite before at ys
+    covered-same : (ys : List ℕ) → 1 + length out ≤ length ys → at + length ys ≤ length before → overwrite middle at ys ≡ overwrite before at ys
     unfolding overwrite
-    covered ys h g =
-        let size-is : length out ≡ size = kept ∙ part-length in
+    covered-same ys h g =
+        let size-is : length out ≡ size = kept ∙ read-part-length in
         let rest : ℕ = at + length ys - end in
         let total : end + rest ≡ at + length ys = omega arith in
         let front : take at middle ≡ take at before =
@@ -275,13 +275,14 @@ module _ (port : Port) (c : Card) (call : Call) (payload before : List ℕ) (at 
     unfolding result
     over =
         ⊎-elim
-        (λ (e : result .out ≡ lent-part).
+        (λ (e : result .out ≡ readPart).
         ap (λ (xs : List ℕ). overwrite xs at told-bytes) (ap (putMid (at + 1) (end - (at + 1)) before) (i .fillsOut ∙ e) ∙ put-same (at + 1) (end - (at + 1)) before))
         (λ (h : 1 + length (result .out) ≤ length (answerBytes call (reply result))).
-        covered told-bytes (rw tells (rw (i .fillsOut) h)) (omega (arith, short)))
-        (perform-covers port c call payload lent-part (zeros lentPlaces))
+        covered-same told-bytes (rw tells (rw (i .fillsOut) h)) (omega (arith, short)))
+        (perform-covers port c call payload readPart (zeros lentPlaces))
 
-    pub answered : {to : List ℕ} {behind : ℕ} → Written middle at told-bytes to behind → AnsweredIs call (served port c call payload) (answerRoom (c .public .info .bytes) call) after before at to behind
+    pub answered : {to : List ℕ} {behind : ℕ} → Written middle at told-bytes to behind
+        → WroteIs (served port c call payload .after) (answerBytes call (reply (served port c call payload))) (answerRoom (c .public .info .bytes) call) after before at to behind
     unfolding result
     answered {to} {behind} w =
         let same : told-bytes ≡ answerBytes call (reply (served port c call payload)) = tells ∙ alike .tells in

@@ -11,14 +11,14 @@ use Rattle.card.specs.Card.{Card, card}
 use Rattle.card.specs.Soundness.{verdict}
 use Rattle.card.specs.declared.Info.{Info}
 use Rattle.lines.specs.Written.{Written, written-none, written-join, written-length}
-use Rattle.input.specs.Play.{Turn, Play, goOn}
-use Rattle.input.specs.PlayLaws.{behind}
-use Rattle.input.specs.Played.{PlayedIs, isWent, is-went}
+use Rattle.input.specs.Play.{Turn, Play, outputBefore, stopped, goOn}
+use Rattle.input.specs.Played.{TurnIs, PlayedIs, isWent}
+use Rattle.input.specs.PlayedLaws.{is-went}
+use Rattle.input.proofs.SameTables.{SameTables}
 use Rattle.input.specs.declared.Stop.{Stop}
 use Rattle.input.specs.declared.Stop.the-variants.{Went, Ended, Short, Refused, Full}
-use Rattle.batch.specs.Serve.{turn, serveWithin, serve}
-use Rattle.batch.specs.Served.{TurnIs}
-use Rattle.batch.proofs.Turns.{turn-left, turn-halts, turn-verdict}
+use Rattle.batch.specs.Serve.{serveTurn, roomFrom, serveWithin, serve}
+use Rattle.batch.proofs.TurnServed.{serve-turn-left, serve-turn-halts, serve-turn-verdict}
 
 -- Some answers are written, and the batch goes on from here, by at most so many turns after the next.
 pub record Serving (c₀ : Card) (xs out₀ : List ℕ) (count : ℕ) (c : Card) (from at : ℕ) (out : List ℕ) : Type 0 where
@@ -30,11 +30,11 @@ pub record Serving (c₀ : Card) (xs out₀ : List ℕ) (count : ℕ) (c : Card)
   pub judged : verdict c ≡ verdict c₀
   pub fits : length done ≤ length out₀
   pub written : Written out₀ 0 done out at
-  pub total : serve c₀ xs (length out₀) ≡ behind done (serveWithin (suc most) count c (drop from xs) (length out₀ - length done))
+  pub total : serve c₀ xs (length out₀) ≡ outputBefore done (serveWithin (suc most) count c (drop from xs) (length out₀ - length done))
 
 -- A turn that did not go ends the batch.
 goOn-halts : (stop : Stop) (t : Turn) (records room : ℕ) (rest : ℕ → Card → List ℕ → ℕ → Play) → isWent stop ≡ false
-    → goOn stop t records rest room ≡ record { stop = stop; lines = []; records = records; after = t .after; left = t .left }
+    → goOn stop t records rest room ≡ stopped stop records (t .after) (t .left)
 unfolding goOn
 goOn-halts Went t records room rest e = absurd (true≢false e)
 goOn-halts Ended t records room rest e = refl
@@ -67,26 +67,23 @@ module _ (c₀ : Card) (xs out₀ : List ℕ) where
     pub serving-at : at ≤ length out
     serving-at = omega (arith, reached, kept, p .fits)
 
-    abbrev room : ℕ
-    room = length out - at
-
     -- The turn that is tried next.
-    abbrev one : Turn
-    one = turn c (drop from xs) room
+    abbrev nextTurn : Turn
+    nextTurn = serveTurn (roomFrom out at) c (drop from xs)
 
-    next-turn : serve c₀ xs (length out₀) ≡ behind (p .done) (goOn (one .stop) one count (serveWithin (p .most)) room)
+    next-turn : serve c₀ xs (length out₀) ≡ outputBefore (p .done) (goOn (nextTurn .stop) nextTurn count (serveWithin (p .most)) (roomFrom out at))
     unfolding serveWithin
     next-turn =
-        let same : length out₀ - length (p .done) ≡ room = omega (arith, reached, kept) in
-        p .total ∙ ap (λ (n : ℕ). behind (p .done) (serveWithin (suc (p .most)) count c (drop from xs) n)) same
+        let same : length out₀ - length (p .done) ≡ roomFrom out at = omega (arith, reached, kept) in
+        p .total ∙ ap (λ (n : ℕ). outputBefore (p .done) (serveWithin (suc (p .most)) count c (drop from xs) n)) same
 
-    module _ {stop : Stop} {after : Card} {next next-at : ℕ} {to : List ℕ} (t : TurnIs one room stop after xs next out at to next-at) where
+    module _ {stop : Stop} {after : Card} {next next-at : ℕ} {to : List ℕ} (t : TurnIs nextTurn (roomFrom out at) stop after xs next out at to next-at) where
       -- The turn did not go: so the batch ends.
       pub serving-stopped : isWent stop ≡ false → PlayedIs (serve c₀ xs (length out₀)) stop count after xs next out₀ to next-at
       serving-stopped n =
-          let halts : isWent (one .stop) ≡ false = ap isWent (sym (t .stops)) ∙ n in
-          let e = next-turn ∙ ap (behind (p .done)) (goOn-halts (one .stop) one count room (serveWithin (p .most)) halts) in
-          let nothing : Written out at [] to next-at = subst (λ (bs : List ℕ). Written out at bs to next-at) (turn-halts c (drop from xs) room halts) (t .writes) in
+          let halts : isWent (nextTurn .stop) ≡ false = ap isWent (sym (t .stops)) ∙ n in
+          let e = next-turn ∙ ap (outputBefore (p .done)) (goOn-halts (nextTurn .stop) nextTurn count (roomFrom out at) (serveWithin (p .most)) halts) in
+          let nothing : Written out at [] to next-at = subst (λ (bs : List ℕ). Written out at bs to next-at) (serve-turn-halts (roomFrom out at) c (drop from xs) halts) (t .writes) in
           rw e
           (record {
             stops = t .stops;
@@ -98,65 +95,60 @@ module _ (c₀ : Card) (xs out₀ : List ℕ) where
           })
 
       module _ (w : isWent stop ≡ true) where
-        went : one .stop ≡ Went
+        went : nextTurn .stop ≡ Went
         went = sym (t .stops) ∙ is-went stop w
 
         -- Each record takes a byte at least.
         pub serving-further : from < next
         serving-further =
-            let shorter = turn-left c (drop from xs) room went in
+            let shorter = serve-turn-left (roomFrom out at) c (drop from xs) went in
             omega (arith, shorter, ap length (t .rests), length-drop next xs, length-drop from xs, t .within, p .within)
 
-        abbrev fewer : ℕ
-        fewer = p .most - 1
+        abbrev turnsLeft : ℕ
+        turnsLeft = p .most - 1
 
-        most-is : p .most ≡ suc fewer
+        most-is : p .most ≡ suc turnsLeft
         most-is = omega (arith, p .enough, serving-further, t .within)
 
         -- The rest of the batch, as the rule and as the loop have it.
-        abbrev rest : Play
-        rest = serveWithin (suc fewer) (count + 1) (one .after) (one .left) (room - length (one .lines))
+        abbrev restOfBatch : Play
+        restOfBatch = serveWithin (suc turnsLeft) (count + 1) (nextTurn .after) (nextTurn .left) (roomFrom out at - length (nextTurn .output))
 
-        rest-same : rest ≡ serveWithin (suc fewer) (count + 1) after (drop next xs) (length out₀ - length (p .done ++ one .lines))
+        rest-same : restOfBatch ≡ serveWithin (suc turnsLeft) (count + 1) after (drop next xs) (length out₀ - length (p .done ++ nextTurn .output))
         rest-same =
-            let room-left : room - length (one .lines) ≡ length out₀ - length (p .done ++ one .lines) = omega (arith, reached, kept, length-append (p .done) (one .lines)) in
-            ap₂ (λ (d : Card) (ys : List ℕ). serveWithin (suc fewer) (count + 1) d ys (room - length (one .lines))) (sym (t .leaves)) (sym (t .rests))
-            ∙ ap (serveWithin (suc fewer) (count + 1) after (drop next xs)) room-left
+            let room-left : roomFrom out at - length (nextTurn .output) ≡ length out₀ - length (p .done ++ nextTurn .output) = omega (arith, reached, kept, length-append (p .done) (nextTurn .output)) in
+            ap₂ (λ (d : Card) (ys : List ℕ). serveWithin (suc turnsLeft) (count + 1) d ys (roomFrom out at - length (nextTurn .output))) (sym (t .leaves)) (sym (t .rests))
+            ∙ ap (serveWithin (suc turnsLeft) (count + 1) after (drop next xs)) room-left
 
-        goes-on : goOn (one .stop) one count (serveWithin (p .most)) room ≡ behind (one .lines) rest
+        goes-on : goOn (nextTurn .stop) nextTurn count (serveWithin (p .most)) (roomFrom out at) ≡ outputBefore (nextTurn .output) restOfBatch
         unfolding goOn
-        goes-on = ap₂ (λ (s : Stop) (m : ℕ). goOn s one count (serveWithin m) room) went most-is
+        goes-on = ap₂ (λ (s : Stop) (m : ℕ). goOn s nextTurn count (serveWithin m) (roomFrom out at)) went most-is
 
         -- The turn went: its answer stands behind the others.
         pub serving-more : Serving c₀ xs out₀ (count + 1) after next next-at to
         serving-more =
-            let long : length (p .done ++ one .lines) ≡ length (p .done) + length (one .lines) = length-append (p .done) (one .lines) in
+            let long : length (p .done ++ nextTurn .output) ≡ length (p .done) + length (nextTurn .output) = length-append (p .done) (nextTurn .output) in
             record {
-              done = p .done ++ one .lines;
-              most = fewer;
+              done = p .done ++ nextTurn .output;
+              most = turnsLeft;
               within = t .within;
               enough = omega (arith, p .enough, serving-further);
               counted = omega (arith, p .counted, serving-further);
-              judged = ap verdict (t .leaves) ∙ turn-verdict c (drop from xs) room ∙ p .judged;
+              judged = ap verdict (t .leaves) ∙ serve-turn-verdict (roomFrom out at) c (drop from xs) ∙ p .judged;
               fits = omega (arith, p .fits, t .short, reached, kept);
               written = written-join (p .written) (t .writes) (omega (arith, p .fits, t .short, reached, kept));
               total =
                   next-turn
-                  ∙ ap (behind (p .done)) goes-on
-                  ∙ ap (λ (bs : List ℕ). record { stop = rest .stop; lines = bs; records = rest .records; after = rest .after; left = rest .left }) (sym (append-assoc (p .done) (one .lines) (rest .lines)))
-                  ∙ ap (behind (p .done ++ one .lines)) rest-same;
+                  ∙ ap (outputBefore (p .done)) goes-on
+                  ∙ ap (λ (bs : List ℕ). record { stop = restOfBatch .stop; output = bs; records = restOfBatch .records; after = restOfBatch .after; left = restOfBatch .left }) (sym (append-assoc (p .done) (nextTurn .output) (restOfBatch .output)))
+                  ∙ ap (outputBefore (p .done ++ nextTurn .output)) rest-same;
             }
 
 -- ---- the loop's invariant
 
 -- The tables and the answers keep their lengths, and the batch has come so far.
-pub record Loop (info₀ : Info) (flags₀ keys₀ counts₀ pointers₀ windows₀ contents₀ input answers₀ : List ℕ)
+pub record ServeLoop (info₀ : Info) (flags₀ keys₀ counts₀ pointers₀ windows₀ contents₀ input answers₀ : List ℕ)
     (info : Info) (flags keys counts pointers windows contents answers : List ℕ) (count from at : ℕ) : Type 0 where
-  pub sameFlags : length flags ≡ length flags₀
-  pub sameKeys : length keys ≡ length keys₀
-  pub sameCounts : length counts ≡ length counts₀
-  pub samePointers : length pointers ≡ length pointers₀
-  pub sameWindows : length windows ≡ length windows₀
-  pub sameContents : length contents ≡ length contents₀
+  pub tables : SameTables flags₀ keys₀ counts₀ pointers₀ windows₀ contents₀ flags keys counts pointers windows contents
   pub sameAnswers : length answers ≡ length answers₀
   pub serving : Serving (card info₀ flags₀ keys₀ counts₀ pointers₀ windows₀ contents₀) input answers₀ count (card info flags keys counts pointers windows contents) from at answers

@@ -1,3 +1,2 @@
 pub mod Serve
-pub mod Served
-pub mod Samples
+pub mod Batches

@@ -1,5 +1,5 @@
 -- A batch of call records: the card that it leaves and the bytes of its answers, every call with its own audit.
-use Prim.Native.Nat.{ℕ, zero, suc, _+_, _*_}
+use Prim.Native.Nat.{ℕ, zero, suc, _+_, _-_, _*_}
 use mathlib.Core.Bool.{cond}
 use mathlib.Core.List.{List, [], _∷_, _++_}
 use lib.Dec.{ltb, leb}
@@ -16,10 +16,10 @@ use Rattle.card.specs.declared.Call.{Call}
 use Rattle.card.specs.declared.Call.the-variants.{Read, Write, Alloc, Create, Delete, Key, Renew, Force, Free, Tick, Audit}
 use Rattle.fields.specs.Bytes.{bytes}
 use Rattle.records.specs.Decode.{Next, ended, refused, sent, decode}
-use Rattle.lines.specs.Replied.{shownBy}
-use Rattle.lines.specs.declared.Shown.{Shown}
-use Rattle.lines.specs.declared.Shown.the-variants.{Nothing, Bytes, Blocks}
-use Rattle.input.specs.Play.{Turn, halted, fault, Play, goOn}
+use Rattle.lines.specs.Replied.{filledBy}
+use Rattle.lines.specs.declared.Filled.{Filled}
+use Rattle.lines.specs.declared.Filled.the-variants.{Neither, Bytes, Blocks}
+use Rattle.input.specs.Play.{Turn, halted, fault, Play, stopped, goOn}
 use Rattle.input.specs.declared.Stop.the-variants.{Went, Ended, Full}
 
 -- ---- the bytes of an answer
@@ -29,33 +29,33 @@ unfoldable pub pairs : List ℕ → List ℕ
 pairs [] = []
 pairs (n ∷ ns) = bytes 2 n ++ pairs ns
 
--- What a done call leaves in a lent buffer: READ the block's bytes, ALLOC the numbers of the blocks.
-abbrev pub shownBytes : Shown → List ℕ → List ℕ → List ℕ
-shownBytes Nothing out places = []
-shownBytes Bytes out places = out
-shownBytes (Blocks n) out places = pairs (take n places)
+-- What a done call leaves in the buffer that it fills: READ the block's bytes, ALLOC the numbers of the blocks.
+abbrev pub filledBytes : Filled → List ℕ → List ℕ → List ℕ
+filledBytes Neither out places = []
+filledBytes Bytes out places = out
+filledBytes (Blocks n) out places = pairs (take n places)
 
 -- A done call's results: what it left in a buffer, or its value in 8 bytes, big-endian.
 abbrev pub resultBytes : Answer → List ℕ → List ℕ
-resultBytes (Refused r) shown = []
-resultBytes Done shown = shown
-resultBytes (Value v) shown = bytes 8 v
+resultBytes (Refused r) filled = []
+resultBytes Done filled = filled
+resultBytes (Value v) filled = bytes 8 v
 
 -- The answer's number in one byte and, if done, the results.
 unfoldable pub answerBytes : Call → Reply → List ℕ
-answerBytes call r = bytes 1 (answerNumber (r .answer)) ++ resultBytes (r .answer) (shownBytes (shownBy call) (r .out) (r .places))
+answerBytes call r = bytes 1 (answerNumber (r .answer)) ++ resultBytes (r .answer) (filledBytes (filledBy call) (r .out) (r .places))
 
 -- ---- what is lent with a call, and the room for its answer
 
 -- READ is lent as many bytes as a block has. A card with larger blocks is misshapen, so that its READ is refused whatever is lent.
-abbrev pub lentBytes : ℕ → Shown → ℕ
-lentBytes size Nothing = 0
+abbrev pub lentBytes : ℕ → Filled → ℕ
+lentBytes size Neither = 0
 lentBytes size Bytes = cond (leb size 65536) size 0
 lentBytes size (Blocks n) = 0
 
 -- The bytes lent with a call on a card with blocks of so many bytes.
 unfoldable pub lentSize : ℕ → Call → ℕ
-lentSize size call = lentBytes size (shownBy call)
+lentSize size call = lentBytes size (filledBy call)
 
 -- ALLOC is lent so many places.
 abbrev pub lentPlaces : ℕ
@@ -81,28 +81,32 @@ answerRoom size Audit = 1
 unfoldable pub served : Port → Card → Call → List ℕ → Result
 served port c call payload = perform port c (request call payload (zeros (lentSize (c .public .info .bytes) call)) (zeros lentPlaces))
 
--- A turn that serves a record. Its lines are the bytes of the answer.
+-- A turn that serves a record: the bytes of the answer are written.
 abbrev pub answering : Port → Card → Call → List ℕ → List ℕ → Turn
 answering port c call payload rest =
     let r = served port c call payload in
-    record { stop = Went; lines = answerBytes call (reply r); after = r .after; left = rest }
+    record { stop = Went; output = answerBytes call (reply r); after = r .after; left = rest }
 
 -- What an input's first record leads to where there is so much room for answers.
-unfoldable pub turnOf : Card → List ℕ → ℕ → Next → Turn
-turnOf c xs room ended = halted Ended c xs
-turnOf c xs room refused = halted (fault xs) c xs
-turnOf c xs room (sent port call payload rest) =
+unfoldable pub serveTurnOf : ℕ → Card → List ℕ → Next → Turn
+serveTurnOf room c xs ended = halted Ended c xs
+serveTurnOf room c xs refused = halted (fault xs) c xs
+serveTurnOf room c xs (sent port call payload rest) =
     cond (ltb room (answerRoom (c .public .info .bytes) call)) (halted Full c xs) (answering port c call payload rest)
 
-unfoldable pub turn : Card → List ℕ → ℕ → Turn
-turn c xs room = turnOf c xs room (decode xs)
+unfoldable pub serveTurn : ℕ → Card → List ℕ → Turn
+serveTurn room c xs = serveTurnOf room c xs (decode xs)
+
+-- The room from a place on.
+abbrev pub roomFrom : List ℕ → ℕ → ℕ
+roomFrom to at = length to - at
 
 -- ---- an input
 
 -- Record after record, while there is room for the answer. Each record takes a byte of the input at least, so that it has at most as many.
 unfoldable pub serveWithin : ℕ → ℕ → Card → List ℕ → ℕ → Play
-serveWithin zero records c xs room = record { stop = Full; lines = []; records = records; after = c; left = xs }
-serveWithin (suc most) records c xs room = let t = turn c xs room in goOn (t .stop) t records (serveWithin most) room
+serveWithin zero records c xs room = stopped Full records c xs
+serveWithin (suc most) records c xs room = let t = serveTurn room c xs in goOn (t .stop) t records (serveWithin most) room
 
 unfoldable pub serve : Card → List ℕ → ℕ → Play
 serve c xs room = serveWithin (suc (length xs)) 0 c xs room

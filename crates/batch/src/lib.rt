@@ -10,19 +10,17 @@ use input::Part;
 use input::Stop;
 use input::Turned;
 use input::Wrote;
-use lines::Shown;
-ghost use Prim.Native.Nat.{_+_, _-_, _*_, _≤_};
+use lines::Filled;
+ghost use Prim.Native.Nat.{_+_, _*_, _≤_};
 ghost use lib.ListN.{length, take, drop};
 ghost use mathlib.Core.Path.{_≡_};
-ghost use Rattle.card.specs.Lent.{lent, atEntry, atExit};
-ghost use Rattle.card.specs.Card.{card};
+ghost use Rattle.card.specs.Lent.{lent};
 ghost use Rattle.card.specs.Soundness.{verdict};
 ghost use Rattle.fields.specs.Bytes.{bytes};
 ghost use Rattle.lines.specs.Replied.{replied};
 ghost use Rattle.lines.specs.Written.{Written};
-ghost use Rattle.input.specs.Played.{PlayedIs};
-ghost use Rattle.batch.specs.Serve.{pairs, shownBytes, answerBytes, lentSize, answerRoom, served, turn, serve};
-ghost use Rattle.batch.specs.Served.{AnsweredIs, TurnIs};
+ghost use Rattle.input.specs.Played.{Writes, Turns, Plays};
+ghost use Rattle.batch.specs.Serve.{pairs, filledBytes, answerBytes, lentSize, answerRoom, served, serveTurn, roomFrom, serve};
 
 // ---- the room for an answer
 
@@ -30,10 +28,10 @@ ghost use Rattle.batch.specs.Served.{AnsweredIs, TurnIs};
 fn lent_size(info: Info, call: Call) -> usize
     ensures { λ r. ⌜ r ≡ lentSize (info .bytes) call ⌝ }
 {
-    match lines::shown_by(call) {
-        Shown::Nothing => 0,
-        Shown::Bytes => if info.bytes <= 65536 { info.bytes } else { 0 },
-        Shown::Blocks(_) => 0,
+    match lines::filled_by(call) {
+        Filled::Neither => 0,
+        Filled::Bytes => if info.bytes <= 65536 { info.bytes } else { 0 },
+        Filled::Blocks(_) => 0,
     }
 }
 
@@ -43,16 +41,11 @@ fn room_of(info: Info, call: Call) -> usize
 {
     match call {
         Call::Read(_) => 1 + lent_size(info, call),
-        Call::Write(_) => 1,
         Call::Alloc(_) => 129,
-        Call::Create(_) => 1,
         Call::Delete(_) => 9,
-        Call::Key(_) => 1,
-        Call::Renew(_) => 1,
-        Call::Force(_) => 1,
         Call::Free => 9,
         Call::Tick(_) => 9,
-        Call::Audit => 1,
+        _ => 1,
     }
 }
 
@@ -86,7 +79,7 @@ fn put_pairs(to: &mut [u8], at: usize, values: &[u16]) -> usize
 }
 
 // The first so many numbers of a table, or all.
-fn put_first(to: &mut [u8], at: usize, values: &[u16], count: usize) -> usize
+fn put_first_pairs(to: &mut [u8], at: usize, values: &[u16], count: usize) -> usize
     requires { ⌜ at + length (pairs (take count (now values))) ≤ length (now to) ⌝ }
     ensures { λ r. ⌜ Written (now (to .entry)) at (pairs (take count (now (values .entry)))) (now (to .exit)) r ⌝ }
 {
@@ -98,19 +91,19 @@ fn put_first(to: &mut [u8], at: usize, values: &[u16], count: usize) -> usize
 }
 
 // What a done call left in a buffer: READ's bytes, which stand here already, or ALLOC's numbers.
-fn put_shown(to: &mut [u8], at: usize, shown: Shown, size: usize, places: &[u16]) -> usize
-    requires { ⌜ at + size ≤ length (now to) ⌝ ∗ ⌜ at + length (shownBytes shown (take size (drop at (now to))) (now places)) ≤ length (now to) ⌝ }
-    ensures { λ r. ⌜ Written (now (to .entry)) at (shownBytes shown (take size (drop at (now (to .entry)))) (now (places .entry))) (now (to .exit)) r ⌝ }
+fn put_filled_bytes(to: &mut [u8], at: usize, filled: Filled, size: usize, places: &[u16]) -> usize
+    requires { ⌜ at + size ≤ length (now to) ⌝ ∗ ⌜ at + length (filledBytes filled (take size (drop at (now to))) (now places)) ≤ length (now to) ⌝ }
+    ensures { λ r. ⌜ Written (now (to .entry)) at (filledBytes filled (take size (drop at (now (to .entry)))) (now (places .entry))) (now (to .exit)) r ⌝ }
 {
-    match shown {
-        Shown::Nothing => at,
-        Shown::Bytes => at + size,
-        Shown::Blocks(n) => put_first(to, at, places, n as usize),
+    match filled {
+        Filled::Neither => at,
+        Filled::Bytes => at + size,
+        Filled::Blocks(n) => put_first_pairs(to, at, places, n as usize),
     }
 }
 
 // The answer to a call. READ's bytes stand behind the place of the number already.
-fn put_answer(
+fn put_answer_bytes(
     to: &mut [u8],
     at: usize,
     call: Call,
@@ -125,7 +118,7 @@ fn put_answer(
         Answer::Refused(r) => put_big_endian(to, at, 1, lines::refusal_number(r)),
         Answer::Done => {
             let next = put_big_endian(to, at, 1, 0);
-            put_shown(to, next, lines::shown_by(call), size, places)
+            put_filled_bytes(to, next, lines::filled_by(call), size, places)
         }
         Answer::Value(v) => {
             let next = put_big_endian(to, at, 1, 0);
@@ -153,7 +146,7 @@ fn answer_call(
     at: usize,
 ) -> Wrote
     requires { ⌜ found ≡ verdict (lent info flags keys counts pointers windows contents) ⌝ ∗ ⌜ at + answerRoom (info .bytes) call ≤ length (now to) ⌝ }
-    ensures { λ r. ⌜ AnsweredIs call (served port (atEntry info flags keys counts pointers windows contents) call (now (payload .entry))) (answerRoom (info .bytes) call) (atExit (r .info) flags keys counts pointers windows contents) (now (to .entry)) at (now (to .exit)) (r .at) ⌝ }
+    ensures { λ r. ⌜ Writes (λ c. served port c call (now (payload .entry))) (answerBytes call) (answerRoom (info .bytes) call) info flags keys counts pointers windows contents to at r ⌝ }
 {
     let mut places = [0u16; 64];
     let size = lent_size(info, call);
@@ -175,7 +168,7 @@ fn answer_call(
         &mut places,
     );
     let answer = outcome.answer;
-    let next = put_answer(to, at, call, answer, size, &places);
+    let next = put_answer_bytes(to, at, call, answer, size, &places);
     let left = outcome.info;
     Wrote {
         info: left,
@@ -199,7 +192,7 @@ fn serve_turn(
     at: usize,
 ) -> Turned
     requires { ⌜ found ≡ verdict (lent info flags keys counts pointers windows contents) ⌝ ∗ ⌜ from ≤ length (now input) ⌝ ∗ ⌜ at ≤ length (now to) ⌝ }
-    ensures { λ r. ⌜ TurnIs (turn (atEntry info flags keys counts pointers windows contents) (drop from (now (input .entry))) (length (now (to .entry)) - at)) (length (now (to .entry)) - at) (r .stop) (atExit (r .info) flags keys counts pointers windows contents) (now (input .entry)) (r .from) (now (to .entry)) at (now (to .exit)) (r .at) ⌝ }
+    ensures { λ r. ⌜ Turns (serveTurn (roomFrom (now (to .entry)) at)) (roomFrom (now (to .entry)) at) info flags keys counts pointers windows contents input from to at r ⌝ }
 {
     let sent = input::find(input, from);
     match sent {
@@ -263,7 +256,7 @@ pub fn serve(
     input: &[u8],
     answers: &mut [u8],
 ) -> Part
-    ensures { λ r. ⌜ PlayedIs (serve (atEntry info flags keys counts pointers windows contents) (now (input .entry)) (length (now (answers .entry)))) (r .stop) (r .records) (atExit (r .info) flags keys counts pointers windows contents) (now (input .entry)) (r .read) (now (answers .entry)) (now (answers .exit)) (r .written) ⌝ }
+    ensures { λ r. ⌜ Plays serve info flags keys counts pointers windows contents input answers r ⌝ }
 {
     let found = audit::audit(info, flags, keys, counts, pointers, windows, contents);
     let mut left = info;

@@ -1,10 +1,3 @@
-pub mod Buffers
-pub mod BuffersLaws
+pub mod InputBuffer
 pub mod Progress
-pub mod Awaited
-pub mod ProgressLaws
-pub mod DecodeLonger
-pub mod Session
-pub mod PlayLonger
-pub mod SessionLaws
-pub mod SessionLoop
+pub mod Pieces

@@ -6,15 +6,14 @@ ghost use Prim.Native.Nat.{_-_, _≤_, _<_};
 ghost use mathlib.Core.Bool.{true};
 ghost use mathlib.Core.Path.{_≡_};
 ghost use lib.ListN.{length, take, drop};
-ghost use Rattle.card.specs.Lent.{atEntry, atExit};
+ghost use Rattle.card.specs.Lent.{atEntry};
 ghost use Rattle.card.specs.Calls.{format};
-ghost use Rattle.card.specs.Card.{card};
 ghost use Rattle.lines.specs.Lines.{lineRoom, lastLine};
 ghost use Rattle.lines.specs.Written.{Written};
-ghost use Rattle.input.specs.Play.{play, endNumber};
-ghost use Rattle.cardplay.specs.Buffers.{recordRoom, FilledIs};
-ghost use Rattle.cardplay.specs.Progress.{isFull, needsInput, ReadIs, PlayedIs, TurnIs};
-ghost use Rattle.cardplay.specs.Session.{SessionIs};
+ghost use Rattle.input.specs.Play.{endNumber};
+ghost use Rattle.cardplay.specs.InputBuffer.{recordRoom, GrownIs};
+ghost use Rattle.cardplay.specs.Progress.{isFull, needsInput, ReadIs, PlaysPiece, Progresses};
+ghost use Rattle.cardplay.specs.Pieces.{PlaysInPieces};
 
 // Moves the bytes from a place to the end of a buffer's filled part to the front. Returns how many there are.
 fn keep(buffer: &mut [u8], from: usize, filled: usize) -> usize
@@ -33,7 +32,7 @@ fn keep(buffer: &mut [u8], from: usize, filled: usize) -> usize
 // Reads once into the buffer behind its filled part. Returns where that part then ends: where it did at the end of the input.
 fn fill(buffer: &mut [u8], filled: usize) -> usize
     requires { ⌜ filled < length (now buffer) ⌝ }
-    ensures { λ r. ⌜ FilledIs (now (buffer .entry)) filled (now (buffer .exit)) r ⌝ }
+    ensures { λ r. ⌜ GrownIs (now (buffer .entry)) filled (now (buffer .exit)) r ⌝ }
 {
     let rest = &mut buffer[filled..];
     let got = libc::read(0, rest);
@@ -41,7 +40,7 @@ fn fill(buffer: &mut [u8], filled: usize) -> usize
 }
 
 // What a play of the buffer's filled part comes to.
-struct Played {
+struct Piece {
     stop: Stop,
     info: Info,
     records: u64,
@@ -64,9 +63,9 @@ fn play_some(
     buffer: &mut [u8],
     filled: usize,
     output: &mut [u8],
-) -> Played
+) -> Piece
     requires { ⌜ records < 9223372036854775808 ⌝ ∗ ⌜ filled ≤ length (now buffer) ⌝ }
-    ensures { λ r. ⌜ PlayedIs (play records (atEntry info flags keys counts pointers windows contents) (take filled (now (buffer .entry))) (length (now (output .entry)))) (r .stop) (r .records) (atExit (r .info) flags keys counts pointers windows contents) (now (buffer .exit)) (r .filled) (now (output .entry)) (now (output .exit)) (r .written) ⌝ }
+    ensures { λ r. ⌜ PlaysPiece records info flags keys counts pointers windows contents buffer filled output r ⌝ }
 {
     let part = player::play(
         info,
@@ -83,7 +82,7 @@ fn play_some(
     let left = keep(buffer, part.read, filled);
     let stop = part.stop;
     let after = part.info;
-    Played {
+    Piece {
         stop,
         info: after,
         records: part.records,
@@ -126,7 +125,7 @@ fn read_on(wanted: bool, buffer: &mut [u8], filled: usize) -> usize
     if wanted { fill(buffer, filled) } else { filled }
 }
 
-// Where a session stands.
+// How far the input is played.
 struct Progress {
     stop: Stop,
     info: Info,
@@ -139,7 +138,7 @@ struct Progress {
 }
 
 // Plays the filled part of the buffer, writes the lines, and reads on where the play stopped for want of input.
-fn turn(
+fn play_on(
     info: Info,
     flags: &mut [u8],
     keys: &mut [u64],
@@ -153,7 +152,7 @@ fn turn(
     output: &mut [u8],
 ) -> Progress
     requires { ⌜ records < 9223372036854775808 ⌝ ∗ ⌜ filled ≤ length (now buffer) ⌝ ∗ ⌜ recordRoom ≤ length (now buffer) ⌝ }
-    ensures { λ r. ⌜ TurnIs (play records (atEntry info flags keys counts pointers windows contents) (take filled (now (buffer .entry))) (length (now (output .entry)))) (r .stop) (r .records) (atExit (r .info) flags keys counts pointers windows contents) (now (buffer .exit)) (r .filled) (now (output .entry)) (now (output .exit)) (r .wrote) (r .on) ⌝ }
+    ensures { λ r. ⌜ Progresses records info flags keys counts pointers windows contents buffer filled output r ⌝ }
 {
     let played = play_some(
         info,
@@ -196,7 +195,7 @@ fn play_all(
     windows: &mut [u64],
     contents: &mut [u8],
 ) -> Progress
-    ensures { λ r. ⌜ SessionIs (atEntry info flags keys counts pointers windows contents) (r .stop) (r .records) (atExit (r .info) flags keys counts pointers windows contents) (r .wrote) (r .on) ⌝ }
+    ensures { λ r. ⌜ PlaysInPieces (atEntry info flags keys counts pointers windows contents) flags keys counts pointers windows contents r ⌝ }
 {
     let mut buffer = [0u8; 65536];
     let mut output = [0u8; 65536];
@@ -211,7 +210,7 @@ fn play_all(
     let mut turns = u64::MAX;
     while progress.on & (turns > 0) & (progress.records < 9223372036854775808) {
         let left = progress.info;
-        progress = turn(
+        progress = play_on(
             left,
             flags,
             keys,
@@ -239,7 +238,7 @@ fn play_fresh(
     windows: &mut [u64],
     contents: &mut [u8],
 ) -> Progress
-    ensures { λ r. ⌜ SessionIs (format 16 1 512 (atEntry info flags keys counts pointers windows contents) .after) (r .stop) (r .records) (atExit (r .info) flags keys counts pointers windows contents) (r .wrote) (r .on) ⌝ }
+    ensures { λ r. ⌜ PlaysInPieces (format 16 1 512 (atEntry info flags keys counts pointers windows contents) .after) flags keys counts pointers windows contents r ⌝ }
 {
     let formatted = format::format(
         info,

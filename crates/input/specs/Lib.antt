@@ -3,3 +3,4 @@ pub mod PlayLaws
 pub mod Found
 pub mod FoundLaws
 pub mod Played
+pub mod PlayedLaws

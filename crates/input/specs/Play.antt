@@ -24,15 +24,15 @@ use Rattle.input.specs.declared.Stop.the-variants.{Went, Ended, Short, R
 unfoldable pub played : Port → Card → Call → List ℕ → Result
 played port c call payload = perform port c (request call payload (zeros 512) (zeros 64))
 
--- What an input's first record leads to: its line, the card after it and the input that is left, or why nothing was played.
+-- What an input's first record leads to: what is written of it, the card after it and the input that is left, or why nothing was done.
 pub record Turn : Type 0 where
   pub stop : Stop
-  pub lines : List ℕ
+  pub output : List ℕ
   pub after : Card
   pub left : List ℕ
 
 abbrev pub halted : Stop → Card → List ℕ → Turn
-halted stop c xs = record { stop = stop; lines = []; after = c; left = xs }
+halted stop c xs = record { stop = stop; output = []; after = c; left = xs }
 
 -- The bytes of a body are fewer than its kind fixes.
 unfoldable pub isShort : Length → ℕ → Bool
@@ -49,34 +49,40 @@ turnOf ordinal c xs ended = halted Ended c xs
 turnOf ordinal c xs refused = halted (fault xs) c xs
 turnOf ordinal c xs (sent port call payload rest) =
     let r = played port c call payload in
-    record { stop = Went; lines = line ordinal (getD xs 0 0) call (reply r); after = r .after; left = rest }
+    record { stop = Went; output = line ordinal (getD xs 0 0) call (reply r); after = r .after; left = rest }
 
 unfoldable pub turn : ℕ → Card → List ℕ → Turn
 turn ordinal c xs = turnOf ordinal c xs (decode xs)
 
 -- ---- an input
 
--- The lines of an input, how many records were played, the card after them, what is left of the input, and why.
+-- What is written of an input, how many records were played, the card after them, what is left of the input, and why.
 pub record Play : Type 0 where
   pub stop : Stop
-  pub lines : List ℕ
+  pub output : List ℕ
   pub records : ℕ
   pub after : Card
   pub left : List ℕ
 
+-- A play with output before it.
+abbrev pub outputBefore : List ℕ → Play → Play
+outputBefore output p = record { stop = p .stop; output = output ++ p .output; records = p .records; after = p .after; left = p .left }
+
+-- A play that stops at once.
+abbrev pub stopped : Stop → ℕ → Card → List ℕ → Play
+stopped stop records c xs = record { stop = stop; output = []; records = records; after = c; left = xs }
+
 -- What one turn and, where it went, the rest of the play come to.
 unfoldable pub goOn : Stop → Turn → ℕ → (ℕ → Card → List ℕ → ℕ → Play) → ℕ → Play
-goOn Went t records rest room =
-    let p = rest (records + 1) (t .after) (t .left) (room - length (t .lines)) in
-    record { stop = p .stop; lines = t .lines ++ p .lines; records = p .records; after = p .after; left = p .left }
-goOn Ended t records rest room = record { stop = Ended; lines = []; records = records; after = t .after; left = t .left }
-goOn Short t records rest room = record { stop = Short; lines = []; records = records; after = t .after; left = t .left }
-goOn Refused t records rest room = record { stop = Refused; lines = []; records = records; after = t .after; left = t .left }
-goOn Full t records rest room = record { stop = Full; lines = []; records = records; after = t .after; left = t .left }
+goOn Went t records rest room = outputBefore (t .output) (rest (records + 1) (t .after) (t .left) (room - length (t .output)))
+goOn Ended t records rest room = stopped Ended records (t .after) (t .left)
+goOn Short t records rest room = stopped Short records (t .after) (t .left)
+goOn Refused t records rest room = stopped Refused records (t .after) (t .left)
+goOn Full t records rest room = stopped Full records (t .after) (t .left)
 
 -- Record after record, while there is room for a line. Each record takes a byte of the input at least, so that it has at most as many.
 unfoldable pub playWithin : ℕ → ℕ → Card → List ℕ → ℕ → Play
-playWithin zero records c xs room = record { stop = Full; lines = []; records = records; after = c; left = xs }
+playWithin zero records c xs room = stopped Full records c xs
 playWithin (suc most) records c xs room =
     let t = cond (ltb room lineRoom) (halted Full c xs) (turn (records + 1) c xs) in
     goOn (t .stop) t records (playWithin most) room
@@ -94,4 +100,4 @@ endNumber Full = 13
 
 -- The whole of what a player writes of an input that it has room for.
 unfoldable pub transcript : Card → List ℕ → ℕ → List ℕ
-transcript c xs room = let p = play 0 c xs room in p .lines ++ lastLine (p .records) (endNumber (p .stop))
+transcript c xs room = let p = play 0 c xs room in p .output ++ lastLine (p .records) (endNumber (p .stop))

@@ -3,7 +3,7 @@
 use Prim.Native.Nat.{ℕ, zero, suc, _+_, _-_, _≤_, _<_}
 use mathlib.Core.Path.{_≡_, refl, ap, ap₂, _∙_}
 use mathlib.Core.Bool.{Bool, true, false, cond}
-use mathlib.Core.List.{List, [], _∷_, _++_}
+use mathlib.Core.List.{List, [], _∷_}
 use native.Mathlib.Omega.{arith}
 use lib.Dec.{ltb}
 use lib.ListN.{length}
@@ -13,7 +13,7 @@ use Rattle.records.specs.Decode.{Next, ended, refused, sent, decode}
 use Rattle.kinds.specs.Kinds.{bodyLength}
 use Rattle.records.specs.DecodeLaws.{decode-shorter}
 use Rattle.lines.specs.Lines.{lineRoom}
-use Rattle.input.specs.Play.{isShort, fault, Turn, halted, turnOf, turn, Play, goOn, playWithin, play}
+use Rattle.input.specs.Play.{isShort, fault, Turn, halted, turnOf, turn, Play, outputBefore, stopped, goOn, playWithin, play}
 use Rattle.input.specs.declared.Stop.{Stop}
 use Rattle.input.specs.declared.Stop.the-variants.{Went, Ended, Short, Refused, Full}
 
@@ -48,7 +48,7 @@ turn-left ordinal c xs w = next-left ordinal c xs (decode xs) refl w
 -- ---- however many turns are allowed
 
 -- The turn that is tried where there is room for a line.
-abbrev tried : Bool → ℕ → Card → List ℕ → Turn
+abbrev pub tried : Bool → ℕ → Card → List ℕ → Turn
 tried full records c xs = cond full (halted Full c xs) (turn (records + 1) c xs)
 
 tried-left : (full : Bool) (records : ℕ) (c : Card) (xs : List ℕ) → tried full records c xs .stop ≡ Went → length (tried full records c xs .left) < length xs
@@ -57,11 +57,11 @@ tried-left false records c xs w = turn-left (records + 1) c xs w
 
 -- Where the rest of the play is the same, so is the play.
 goOn-same : (stop : Stop) (t : Turn) → t .stop ≡ stop → (records room : ℕ) (f g : ℕ → Card → List ℕ → ℕ → Play)
-    → (t .stop ≡ Went → f (records + 1) (t .after) (t .left) (room - length (t .lines)) ≡ g (records + 1) (t .after) (t .left) (room - length (t .lines)))
+    → (t .stop ≡ Went → f (records + 1) (t .after) (t .left) (room - length (t .output)) ≡ g (records + 1) (t .after) (t .left) (room - length (t .output)))
     → goOn stop t records f room ≡ goOn stop t records g room
 unfolding goOn
 goOn-same Went t e records room f g h =
-    ap (λ (p : Play). record { stop = p .stop; lines = t .lines ++ p .lines; records = p .records; after = p .after; left = p .left }) (h e)
+    ap (outputBefore (t .output)) (h e)
 goOn-same Ended t e records room f g h = refl
 goOn-same Short t e records room f g h = refl
 goOn-same Refused t e records room f g h = refl
@@ -79,18 +79,10 @@ within-same (suc k) (suc m) records c xs room hk hm =
     let t = tried (ltb room lineRoom) records c xs in
     goOn-same (t .stop) t refl records room (playWithin (suc k)) (playWithin (suc m))
     (λ w.
-    within-same k m (records + 1) (t .after) (t .left) (room - length (t .lines)) (omega (arith, tried-left (ltb room lineRoom) records c xs w))
+    within-same k m (records + 1) (t .after) (t .left) (room - length (t .output)) (omega (arith, tried-left (ltb room lineRoom) records c xs w))
     (omega (arith, tried-left (ltb room lineRoom) records c xs w)))
 
 -- ---- a play, turn by turn
-
--- A play with lines before it.
-abbrev pub behind : List ℕ → Play → Play
-behind lines p = record { stop = p .stop; lines = lines ++ p .lines; records = p .records; after = p .after; left = p .left }
-
--- A play that stops at once.
-abbrev pub stopped : Stop → ℕ → Card → List ℕ → Play
-stopped stop records c xs = record { stop = stop; lines = []; records = records; after = c; left = xs }
 
 play-tried : (full : Bool) (records : ℕ) (c : Card) (xs : List ℕ) (room : ℕ) → ltb room lineRoom ≡ full
     → play records c xs room ≡ goOn (tried full records c xs .stop) (tried full records c xs) records (playWithin (length xs)) room
@@ -102,31 +94,31 @@ unfolding goOn
 play-full records c xs room h = play-tried true records c xs room (lt-ltb room lineRoom h)
 
 module _ (records : ℕ) (c : Card) (xs : List ℕ) (room : ℕ) (h : lineRoom ≤ room) where
-  abbrev one : Turn
-  one = turn (records + 1) c xs
+  abbrev firstTurn : Turn
+  firstTurn = turn (records + 1) c xs
 
   -- The play goes on behind the turn's line.
-  pub play-went : one .stop ≡ Went → play records c xs room ≡ behind (one .lines) (play (records + 1) (one .after) (one .left) (room - length (one .lines)))
+  pub play-went : firstTurn .stop ≡ Went → play records c xs room ≡ outputBefore (firstTurn .output) (play (records + 1) (firstTurn .after) (firstTurn .left) (room - length (firstTurn .output)))
   unfolding goOn play
   play-went w =
       play-tried false records c xs room (le-ltb room lineRoom h)
-      ∙ ap (λ (s : Stop). goOn s one records (playWithin (length xs)) room) w
-      ∙ ap (behind (one .lines)) (shorter (length xs) (turn-left (records + 1) c xs w))
+      ∙ ap (λ (s : Stop). goOn s firstTurn records (playWithin (length xs)) room) w
+      ∙ ap (outputBefore (firstTurn .output)) (shorter (length xs) (turn-left (records + 1) c xs w))
     where
-      shorter : (k : ℕ) → length (one .left) < k
-          → playWithin k (records + 1) (one .after) (one .left) (room - length (one .lines)) ≡ playWithin (suc (length (one .left))) (records + 1) (one .after) (one .left) (room - length (one .lines))
+      shorter : (k : ℕ) → length (firstTurn .left) < k
+          → playWithin k (records + 1) (firstTurn .after) (firstTurn .left) (room - length (firstTurn .output)) ≡ playWithin (suc (length (firstTurn .left))) (records + 1) (firstTurn .after) (firstTurn .left) (room - length (firstTurn .output))
       shorter zero l = absurd (omega arith)
-      shorter (suc k) l = within-same k (length (one .left)) (records + 1) (one .after) (one .left) (room - length (one .lines)) (omega arith) (omega arith)
+      shorter (suc k) l = within-same k (length (firstTurn .left)) (records + 1) (firstTurn .after) (firstTurn .left) (room - length (firstTurn .output)) (omega arith) (omega arith)
 
   -- The play stops with the turn.
-  pub play-stopped : (stop : Stop) → (stop ≡ Went → ⊥) → one .stop ≡ stop → one .after ≡ c → one .left ≡ xs → play records c xs room ≡ stopped stop records c xs
+  pub play-stopped : (stop : Stop) → (stop ≡ Went → ⊥) → firstTurn .stop ≡ stop → firstTurn .after ≡ c → firstTurn .left ≡ xs → play records c xs room ≡ stopped stop records c xs
   unfolding goOn
   play-stopped stop n e a l =
       play-tried false records c xs room (le-ltb room lineRoom h)
-      ∙ ap (λ (s : Stop). goOn s one records (playWithin (length xs)) room) e
+      ∙ ap (λ (s : Stop). goOn s firstTurn records (playWithin (length xs)) room) e
       ∙ halts stop n
     where
-      halts : (s : Stop) → (s ≡ Went → ⊥) → goOn s one records (playWithin (length xs)) room ≡ stopped s records c xs
+      halts : (s : Stop) → (s ≡ Went → ⊥) → goOn s firstTurn records (playWithin (length xs)) room ≡ stopped s records c xs
       halts Went n = absurd (n refl)
       halts Ended n = ap₂ (λ (d : Card) (ys : List ℕ). stopped Ended records d ys) a l
       halts Short n = ap₂ (λ (d : Card) (ys : List ℕ). stopped Short records d ys) a l

@@ -10,9 +10,9 @@ ghost use mathlib.Core.Path.{_≡_};
 ghost use Rattle.input.specs.Found.{FoundIs};
 ghost use Rattle.input.specs.Played.{isWent};
 
-// Why a player stopped.
+// Why a play of an input, or of its next record, stopped. A batch is served by the same turns: what is written is then an answer, not a line.
 pub enum Stop {
-    // It did not: the record was played.
+    // It did not: the call was made, and its line or its answer written.
     Went,
     // The input is at its end.
     Ended,
@@ -20,7 +20,7 @@ pub enum Stop {
     Short,
     // A record is refused 13.
     Refused,
-    // There is no room for another line.
+    // There is no room for another line or answer.
     Full,
 }
 
@@ -72,13 +72,13 @@ pub fn find(input: &[u8], from: usize) -> Found
 
 // ---- how far a play has come
 
-// What is left after one record: the record of the card, and the place behind its line.
+// What is left after one record: the record of the card, and the place behind what was written of it.
 pub struct Wrote {
     pub info: Info,
     pub at: usize,
 }
 
-// Where a player stands after one turn.
+// Where a play stands after one turn.
 pub struct Turned {
     pub stop: Stop,
     pub info: Info,
@@ -95,7 +95,7 @@ pub struct Part {
     pub written: usize,
 }
 
-// Whether the record was played.
+// Whether a turn went: its record was played or served.
 pub fn went(stop: Stop) -> bool
     ensures { λ r. ⌜ r ≡ isWent stop ⌝ }
 {

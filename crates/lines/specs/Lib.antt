@@ -2,4 +2,3 @@ pub mod Lines
 pub mod Replied
 pub mod LinesLaws
 pub mod Written
-pub mod AnswersLaws

@@ -7,7 +7,7 @@ ghost use lib.ListN.{length, take};
 ghost use Rattle.card.specs.Session.{reported};
 ghost use Rattle.card.specs.Calls.{refusalNumber};
 ghost use Rattle.lines.specs.Lines.{space, decimal, spaced, line, lineRoom, lastLine};
-ghost use Rattle.lines.specs.Replied.{Lent, shownBy, valuesOf, replied};
+ghost use Rattle.lines.specs.Replied.{BuffersFit, filledBy, valuesOf, replied};
 ghost use Rattle.lines.specs.Written.{Written};
 use card::Answer;
 use card::Call;
@@ -119,29 +119,21 @@ pub fn refusal_number(r: Refusal) -> u64
     }
 }
 
-// Where a done call leaves values that a player reports.
-pub enum Shown {
-    Nothing,
+// Which lent buffer a done call fills.
+pub enum Filled {
+    Neither,
     Bytes,
     Blocks(u8),
 }
 
-// READ leaves bytes, ALLOC so many numbers, and no other call leaves any.
-pub fn shown_by(call: Call) -> Shown
-    ensures { λ r. ⌜ r ≡ shownBy call ⌝ }
+// READ fills the bytes, ALLOC so many block numbers, and no other call fills either.
+pub fn filled_by(call: Call) -> Filled
+    ensures { λ r. ⌜ r ≡ filledBy call ⌝ }
 {
     match call {
-        Call::Read(_) => Shown::Bytes,
-        Call::Alloc(o) => Shown::Blocks(o.count),
-        Call::Write(_) => Shown::Nothing,
-        Call::Create(_) => Shown::Nothing,
-        Call::Delete(_) => Shown::Nothing,
-        Call::Key(_) => Shown::Nothing,
-        Call::Renew(_) => Shown::Nothing,
-        Call::Force(_) => Shown::Nothing,
-        Call::Free => Shown::Nothing,
-        Call::Tick(_) => Shown::Nothing,
-        Call::Audit => Shown::Nothing,
+        Call::Read(_) => Filled::Bytes,
+        Call::Alloc(o) => Filled::Blocks(o.count),
+        _ => Filled::Neither,
     }
 }
 
@@ -157,15 +149,15 @@ fn put_first(to: &mut [u8], at: usize, values: &[u16], count: usize) -> usize
     }
 }
 
-// The values that a done call left: READ's first 8 bytes, ALLOC's numbers.
-fn put_shown(to: &mut [u8], at: usize, shown: Shown, out: &[u8], places: &[u16]) -> usize
-    requires { ⌜ Lent (now out) (now places) ⌝ ∗ ⌜ at + 1344 ≤ length (now to) ⌝ }
-    ensures { λ r. ⌜ Written (now (to .entry)) at (spaced (valuesOf shown (now (out .entry)) (now (places .entry)))) (now (to .exit)) r ⌝ }
+// The values in the buffer that a done call filled: READ's first 8 bytes, ALLOC's numbers.
+fn put_filled(to: &mut [u8], at: usize, filled: Filled, out: &[u8], places: &[u16]) -> usize
+    requires { ⌜ BuffersFit (now out) (now places) ⌝ ∗ ⌜ at + 1344 ≤ length (now to) ⌝ }
+    ensures { λ r. ⌜ Written (now (to .entry)) at (spaced (valuesOf filled (now (out .entry)) (now (places .entry)))) (now (to .exit)) r ⌝ }
 {
-    match shown {
-        Shown::Nothing => at,
-        Shown::Bytes => put_bytes(to, at, &out[..8]),
-        Shown::Blocks(n) => put_first(to, at, places, n as usize),
+    match filled {
+        Filled::Neither => at,
+        Filled::Bytes => put_bytes(to, at, &out[..8]),
+        Filled::Blocks(n) => put_first(to, at, places, n as usize),
     }
 }
 
@@ -178,19 +170,19 @@ fn put_answer(
     out: &[u8],
     places: &[u16],
 ) -> usize
-    requires { ⌜ Lent (now out) (now places) ⌝ ∗ ⌜ at + 1386 ≤ length (now to) ⌝ }
+    requires { ⌜ BuffersFit (now out) (now places) ⌝ ∗ ⌜ at + 1386 ≤ length (now to) ⌝ }
     ensures { λ r. ⌜ Written (now (to .entry)) at (spaced (reported call (replied answer (now (out .entry)) (now (places .entry))))) (now (to .exit)) r ⌝ }
 {
     match answer {
         Answer::Refused(r) => put_spaced(to, at, refusal_number(r)),
         Answer::Done => {
             let next = put_spaced(to, at, 0);
-            put_shown(to, next, shown_by(call), out, places)
+            put_filled(to, next, filled_by(call), out, places)
         }
         Answer::Value(v) => {
             let next = put_spaced(to, at, 0);
             let last = put_spaced(to, next, v);
-            put_shown(to, last, shown_by(call), out, places)
+            put_filled(to, last, filled_by(call), out, places)
         }
     }
 }
@@ -206,7 +198,7 @@ pub fn put_line(
     out: &[u8],
     places: &[u16],
 ) -> usize
-    requires { ⌜ Lent (now out) (now places) ⌝ ∗ ⌜ at + lineRoom ≤ length (now to) ⌝ }
+    requires { ⌜ BuffersFit (now out) (now places) ⌝ ∗ ⌜ at + lineRoom ≤ length (now to) ⌝ }
     ensures { λ r. ⌜ Written (now (to .entry)) at (line ordinal kind call (replied answer (now (out .entry)) (now (places .entry)))) (now (to .exit)) r ⌝ }
 {
     let next = put_number(to, at, ordinal);

@@ -8,11 +8,10 @@ use input::Stop;
 use input::Turned;
 use input::Wrote;
 ghost use Prim.Native.Nat.{_+_, _≤_, _<_};
-ghost use lib.ListN.{length, drop};
-ghost use Rattle.lines.specs.Lines.{lineRoom};
+ghost use lib.ListN.{length};
+ghost use Rattle.lines.specs.Lines.{line, lineRoom};
 ghost use Rattle.input.specs.Play.{played, turn, play};
-ghost use Rattle.input.specs.Played.{PlayedIs};
-ghost use Rattle.player.specs.Called.{CalledIs, TurnedIs};
+ghost use Rattle.input.specs.Played.{Writes, Turns, Plays};
 
 // One call performed, and its line written.
 fn play_call(
@@ -32,7 +31,7 @@ fn play_call(
     at: usize,
 ) -> Wrote
     requires { ⌜ at + lineRoom ≤ length (now to) ⌝ }
-    ensures { λ r. ⌜ CalledIs ordinal kind call (played port (atEntry info flags keys counts pointers windows contents) call (now (payload .entry))) (atExit (r .info) flags keys counts pointers windows contents) (now (to .entry)) at (now (to .exit)) (r .at) ⌝ }
+    ensures { λ r. ⌜ Writes (λ c. played port c call (now (payload .entry))) (line ordinal kind call) lineRoom info flags keys counts pointers windows contents to at r ⌝ }
 {
     let mut out = [0u8; 512];
     let mut places = [0u16; 64];
@@ -75,7 +74,7 @@ fn play_turn(
     at: usize,
 ) -> Turned
     requires { ⌜ from ≤ length (now input) ⌝ ∗ ⌜ at + lineRoom ≤ length (now to) ⌝ }
-    ensures { λ r. ⌜ TurnedIs (turn ordinal (atEntry info flags keys counts pointers windows contents) (drop from (now (input .entry)))) (r .stop) (atExit (r .info) flags keys counts pointers windows contents) (now (input .entry)) (r .from) (now (to .entry)) at (now (to .exit)) (r .at) ⌝ }
+    ensures { λ r. ⌜ Turns (turn ordinal) lineRoom info flags keys counts pointers windows contents input from to at r ⌝ }
 {
     let found = input::find(input, from);
     match found {
@@ -131,7 +130,7 @@ pub fn play(
     output: &mut [u8],
 ) -> Part
     requires { ⌜ records < 9223372036854775808 ⌝ }
-    ensures { λ r. ⌜ PlayedIs (play records (atEntry info flags keys counts pointers windows contents) (now (input .entry)) (length (now (output .entry)))) (r .stop) (r .records) (atExit (r .info) flags keys counts pointers windows contents) (now (input .entry)) (r .read) (now (output .entry)) (now (output .exit)) (r .written) ⌝ }
+    ensures { λ r. ⌜ Plays (play records) info flags keys counts pointers windows contents input output r ⌝ }
 {
     let mut left = info;
     let mut count = records;

@@ -2,7 +2,7 @@
 -- Assumes nothing.
 use borrow.Author.Needs.{needs}
 use native.Mathlib.Omega.{arith}
-use Rattle.batch.proofs.Pieces.{big-endian-none, big-endian-room, big-endian-more}
+use Rattle.batch.proofs.AnswerBytesLaws.{big-endian-none, big-endian-room, big-endian-more}
 use Prim.Native.Nat.{ℕ, _<_}
 use borrow.Fn.Kinds.{In}
 use borrow.Fn.PlainCycle.{Measures, is, falls, and}

@@ -32,11 +32,11 @@ slice-aggregate-perform-judged c = search needs
 perform-judged-requires : tie.Need-perform-judged-requires
 perform-judged-requires c κs = search needs
 
-slice-aggregate-put-answer : tie.Need-slice-aggregate-put-answer
-slice-aggregate-put-answer c = search needs
+slice-aggregate-put-answer-bytes : tie.Need-slice-aggregate-put-answer-bytes
+slice-aggregate-put-answer-bytes c = search needs
 
-put-answer-requires : tie.Need-put-answer-requires
-put-answer-requires c κs =
+put-answer-bytes-requires : tie.Need-put-answer-bytes-requires
+put-answer-bytes-requires c κs =
     let at-perform-judged = c .before .before .before .before .before .before .before .before .before .before .before .before .before .before .before .before .before in
     let at-lent-size = at-perform-judged .before .before .before .before .before .before .before .before .before in
     let start = at-lent-size .before .before .before .before .before .before .before .before .before in
@@ -65,11 +65,11 @@ same-length-7 c = search needs
 
 returns : tie.Need-returns
 returns c =
-    let at-put-answer = c .before .before .before in
-    let at-perform-judged = at-put-answer .before .before .before .before .before .before .before .before .before .before .before .before .before .before .before .before .before .before in
+    let at-put-answer-bytes = c .before .before .before in
+    let at-perform-judged = at-put-answer-bytes .before .before .before .before .before .before .before .before .before .before .before .before .before .before .before .before .before .before in
     let at-lent-size = at-perform-judged .before .before .before .before .before .before .before .before .before in
     let start = at-lent-size .before .before .before .before .before .before .before .before .before in
-    answered (start .args .port) _ (start .args .call) (start .args .payload .now) (start .args .to .now) (start .args .at) (at-lent-size .lent-size .ensures) (start .pre .1) (at-perform-judged .perform-judged .ensures) (at-perform-judged .perform-judged .kept .1 .1 .1 .1 .1 .1 .1 .1 .1 .1 .1 .0) (at-perform-judged .perform-judged .kept .1 .1 .1 .1 .1 .1 .1 .1 .1 .1 .1 .1 .0) (at-put-answer .put-answer .ensures)
+    answered (start .args .port) _ (start .args .call) (start .args .payload .now) (start .args .to .now) (start .args .at) (at-lent-size .lent-size .ensures) (start .pre .1) (at-perform-judged .perform-judged .ensures) (at-perform-judged .perform-judged .kept .1 .1 .1 .1 .1 .1 .1 .1 .1 .1 .1 .0) (at-perform-judged .perform-judged .kept .1 .1 .1 .1 .1 .1 .1 .1 .1 .1 .1 .1 .0) (at-put-answer-bytes .put-answer-bytes .ensures)
 
 pub answer-call-spec : {M : Type 1} → statement M
 answer-call-spec =
@@ -83,8 +83,8 @@ answer-call-spec =
     part-perform-judged-end
     slice-aggregate-perform-judged
     perform-judged-requires
-    slice-aggregate-put-answer
-    put-answer-requires
+    slice-aggregate-put-answer-bytes
+    put-answer-bytes-requires
     same-length
     same-length-2
     same-length-3

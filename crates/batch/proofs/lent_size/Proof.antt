@@ -1,12 +1,12 @@
 -- `batch::lent_size` meets its contract. Assumes nothing.
 use Rattle.batch.specs.Serve.{lentSize}
-use Rattle.batch.proofs.Pieces.{lent-whole, lent-none}
+use Rattle.batch.proofs.AnswerBytesLaws.{lent-whole, lent-none}
 use borrow.Author.Needs.{needs}
 use Rattle.batch.proofs.lent_size.Statement.{statement}
 use Rattle.batch.proofs.lent_size.Tie as tie
 
-shown-by-requires : tie.Need-shown-by-requires
-shown-by-requires c κs = search needs
+filled-by-requires : tie.Need-filled-by-requires
+filled-by-requires c κs = search needs
 
 enum-told : tie.Need-enum-told
 enum-told c = search needs
@@ -24,16 +24,16 @@ returns c = search needs
 returns-2 : tie.Need-returns-2
 returns-2 c =
     let at-enum-told2 = c .before .before in
-    let at-shown-by = at-enum-told2 .before .before in
-    let start = at-shown-by .before in
-    lent-whole (start .args .info .bytes) (start .args .call) (at-shown-by .shown-by .ensures) (at-enum-told2 .enum-told2 .given .1) (c .if1 .taken)
+    let at-filled-by = at-enum-told2 .before .before in
+    let start = at-filled-by .before in
+    lent-whole (start .args .info .bytes) (start .args .call) (at-filled-by .filled-by .ensures) (at-enum-told2 .enum-told2 .given .1) (c .if1 .taken)
 
 returns-3 : tie.Need-returns-3
 returns-3 c =
     let at-enum-told2 = c .before .before in
-    let at-shown-by = at-enum-told2 .before .before in
-    let start = at-shown-by .before in
-    lent-none (start .args .info .bytes) (start .args .call) (at-shown-by .shown-by .ensures) (at-enum-told2 .enum-told2 .given .1) (c .if1 .left)
+    let at-filled-by = at-enum-told2 .before .before in
+    let start = at-filled-by .before in
+    lent-none (start .args .info .bytes) (start .args .call) (at-filled-by .filled-by .ensures) (at-enum-told2 .enum-told2 .given .1) (c .if1 .left)
 
 returns-4 : tie.Need-returns-4
 unfolding lentSize
@@ -43,7 +43,7 @@ pub lent-size-spec : {M : Type 1} → statement M
 lent-size-spec =
     tie.close
     (tie.spec
-    shown-by-requires
+    filled-by-requires
     enum-told
     enum-told-2
     enum-told-3

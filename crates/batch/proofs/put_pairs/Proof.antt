@@ -4,9 +4,9 @@ use native.Mathlib.Omega.{arith}
 use Prim.Native.Nat.{_-_}
 use mathlib.Core.Path.{refl}
 use lib.ListN.{length, take}
-use Rattle.lines.specs.LinesLaws.{filling-none}
+use Rattle.lines.proofs.WrittenPart.{part-none}
 use Rattle.batch.specs.Serve.{pairs}
-use Rattle.batch.proofs.Pieces.{Pairing, pairing-more, pairing-done}
+use Rattle.batch.proofs.AnswerBytesLaws.{Pairing, pairing-more, pairing-done}
 use Rattle.batch.proofs.put_pairs.Statement.{statement}
 use Rattle.batch.proofs.put_pairs.Tie as tie
 
@@ -18,7 +18,7 @@ abbrev μ-loop : tie.MeasureT-loop
 
 loop-holds : tie.Need-loop-holds Inv-loop μ-loop
 unfolding pairs
-loop-holds c = filling-none 2 (length (c .before .before .args .values .now)) (λ k. pairs (take k (c .before .before .args .values .now))) _ _ refl (c .before .before .pre)
+loop-holds c = part-none 2 (length (c .before .before .args .values .now)) (λ k. pairs (take k (c .before .before .args .values .now))) _ _ refl (c .before .before .pre)
 
 mul-of-block : tie.Need-mul-of-block Inv-loop μ-loop
 mul-of-block c = search needs

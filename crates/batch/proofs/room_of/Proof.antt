@@ -1,10 +1,36 @@
 -- `batch::room_of` meets its contract. Assumes nothing.
+use Prim.Native.Nat.{ℕ}
+use mathlib.Core.List.{List, [], _∷_}
+use mathlib.Core.Path.{_≡_, refl}
 use native.Mathlib.Omega.{arith}
-use Rattle.batch.proofs.Pieces.{lent-most, room-read}
-use Rattle.batch.specs.Serve.{answerRoom}
+use types.Run.{OneOf, miss}
+use denote.Enum.Declared.{tagOf}
 use borrow.Author.Needs.{needs}
+use Rattle.card.proofs.Call.{the-type}
+use Rattle.card.specs.declared.Call.{Call}
+use Rattle.card.specs.declared.Call.the-variants.{Read, Write, Alloc, Create, Delete, Key, Renew, Force, Free, Tick, Audit}
+use Rattle.batch.specs.Serve.{answerRoom}
+use Rattle.batch.proofs.AnswerBytesLaws.{lent-most, room-read}
 use Rattle.batch.proofs.room_of.Statement.{statement}
 use Rattle.batch.proofs.room_of.Tie as tie
+
+-- The places among the variants of the calls that have no results.
+abbrev callsWithoutResults : List ℕ
+callsWithoutResults = 1 ∷ 3 ∷ 5 ∷ 6 ∷ 7 ∷ 10 ∷ []
+
+room-other : (size : ℕ) (call : Call) → OneOf callsWithoutResults (tagOf the-type call) → 1 ≡ answerRoom size call
+unfolding answerRoom
+room-other size (Read o) h = absurd (miss callsWithoutResults 0 tt h)
+room-other size (Write o) h = refl
+room-other size (Alloc o) h = absurd (miss callsWithoutResults 2 tt h)
+room-other size (Create o) h = refl
+room-other size (Delete o) h = absurd (miss callsWithoutResults 4 tt h)
+room-other size (Key o) h = refl
+room-other size (Renew o) h = refl
+room-other size (Force o) h = refl
+room-other size Free h = absurd (miss callsWithoutResults 8 tt h)
+room-other size (Tick o) h = absurd (miss callsWithoutResults 9 tt h)
+room-other size Audit h = refl
 
 enum-told : tie.Need-enum-told
 enum-told c = search needs
@@ -27,24 +53,6 @@ enum-told-4 c = search needs
 enum-told-5 : tie.Need-enum-told-5
 enum-told-5 c = search needs
 
-enum-told-6 : tie.Need-enum-told-6
-enum-told-6 c = search needs
-
-enum-told-7 : tie.Need-enum-told-7
-enum-told-7 c = search needs
-
-enum-told-8 : tie.Need-enum-told-8
-enum-told-8 c = search needs
-
-enum-told-9 : tie.Need-enum-told-9
-enum-told-9 c = search needs
-
-enum-told-10 : tie.Need-enum-told-10
-enum-told-10 c = search needs
-
-enum-told-11 : tie.Need-enum-told-11
-enum-told-11 c = search needs
-
 returns : tie.Need-returns
 returns c = room-read (c .before .before .before .args .info .bytes) (c .before .enum-told .given .1) (c .lent-size .ensures)
 
@@ -65,28 +73,7 @@ unfolding answerRoom
 returns-5 c = search needs
 
 returns-6 : tie.Need-returns-6
-unfolding answerRoom
-returns-6 c = search needs
-
-returns-7 : tie.Need-returns-7
-unfolding answerRoom
-returns-7 c = search needs
-
-returns-8 : tie.Need-returns-8
-unfolding answerRoom
-returns-8 c = search needs
-
-returns-9 : tie.Need-returns-9
-unfolding answerRoom
-returns-9 c = search needs
-
-returns-10 : tie.Need-returns-10
-unfolding answerRoom
-returns-10 c = search needs
-
-returns-11 : tie.Need-returns-11
-unfolding answerRoom
-returns-11 c = search needs
+returns-6 c = room-other (c .before .args .info .bytes) (c .before .args .call) (c .match .keys6)
 
 pub room-of-spec : {M : Type 1} → statement M
 room-of-spec =
@@ -99,20 +86,9 @@ room-of-spec =
     enum-told-3
     enum-told-4
     enum-told-5
-    enum-told-6
-    enum-told-7
-    enum-told-8
-    enum-told-9
-    enum-told-10
-    enum-told-11
     returns
     returns-2
     returns-3
     returns-4
     returns-5
-    returns-6
-    returns-7
-    returns-8
-    returns-9
-    returns-10
-    returns-11)
+    returns-6)

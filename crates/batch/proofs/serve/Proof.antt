@@ -2,7 +2,8 @@
 -- and then the batch from here. The measure is the input that is left. Assumes nothing.
 use mathlib.Core.Path.{refl, sym, _∙_}
 use native.Mathlib.Omega.{arith}
-use Rattle.batch.proofs.Serving.{Loop, serving-none, serving-at, serving-stopped, serving-further, serving-more}
+use Rattle.input.proofs.SameTables.{same-tables}
+use Rattle.batch.proofs.Serving.{ServeLoop, serving-none, serving-at, serving-stopped, serving-further, serving-more}
 use Prim.Native.Nat.{_-_}
 use lib.ListN.{length}
 use Rattle.batch.proofs.serve.Statement.{statement}
@@ -10,7 +11,7 @@ use Rattle.batch.proofs.serve.Tie as tie
 
 abbrev Inv-loop : tie.InvT-loop
 Inv-loop flags₀ keys₀ counts₀ pointers₀ windows₀ contents₀ input answers₀ found left₀ count₀ from₀ at₀ flags keys counts pointers windows contents answers left count from at =
-    Loop left₀ flags₀ keys₀ counts₀ pointers₀ windows₀ contents₀ input answers₀ left flags keys counts pointers windows contents answers count from at
+    ServeLoop left₀ flags₀ keys₀ counts₀ pointers₀ windows₀ contents₀ input answers₀ left flags keys counts pointers windows contents answers count from at
 
 abbrev μ-loop : tie.MeasureT-loop
 μ-loop flags₀ keys₀ counts₀ pointers₀ windows₀ contents₀ input answers₀ found left₀ count₀ from₀ at₀ flags keys counts pointers windows contents answers left count from at =
@@ -22,7 +23,7 @@ audit-requires c κs = tt
 loop-holds : tie.Need-loop-holds Inv-loop μ-loop
 loop-holds c =
     let start-again = c .before .before .before .before .before .before .before .before .before .before .before .before .before .before .before in
-    record { sameFlags = refl; sameKeys = refl; sameCounts = refl; samePointers = refl; sameWindows = refl; sameContents = refl; sameAnswers = refl; serving = serving-none _ (start-again .args .input .now) (start-again .args .answers .now) }
+    record { tables = same-tables _ _ _ _ _ _; sameAnswers = refl; serving = serving-none _ (start-again .args .input .now) (start-again .args .answers .now) }
 
 serve-turn-requires : tie.Need-serve-turn-requires Inv-loop μ-loop
 serve-turn-requires c κs =
@@ -45,43 +46,54 @@ loop-again c =
     let at-serve-turn = c .before .before .before .before .before .before .before .before .before .before .before .before .before .before .before .before .before in
     let at-loop = at-serve-turn .before .before .before .before .before .before .before .before in
     let start-again = at-loop .before .before .before .before .before .before .before .before .before .before .before .before .before .before .before .before in
-    record { sameFlags = at-serve-turn .serve-turn .kept .1 .1 .0 ∙ at-loop .loop .inv .sameFlags; sameKeys = at-serve-turn .serve-turn .kept .1 .1 .1 .0 ∙ at-loop .loop .inv .sameKeys; sameCounts = at-serve-turn .serve-turn .kept .1 .1 .1 .1 .0 ∙ at-loop .loop .inv .sameCounts; samePointers = at-serve-turn .serve-turn .kept .1 .1 .1 .1 .1 .0 ∙ at-loop .loop .inv .samePointers; sameWindows = at-serve-turn .serve-turn .kept .1 .1 .1 .1 .1 .1 .0 ∙ at-loop .loop .inv .sameWindows; sameContents = at-serve-turn .serve-turn .kept .1 .1 .1 .1 .1 .1 .1 .0 ∙ at-loop .loop .inv .sameContents; sameAnswers = at-serve-turn .serve-turn .kept .1 .1 .1 .1 .1 .1 .1 .1 .1 .1 .0 ∙ at-loop .loop .inv .sameAnswers; serving = serving-more _ (start-again .args .input .now) (start-again .args .answers .now) (at-loop .loop .inv .serving) (at-serve-turn .serve-turn .ensures) (sym (c .before .went .ensures) ∙ c .if1 .taken) }
+    record {
+      tables = record {
+        sameFlags = at-serve-turn .serve-turn .kept .1 .1 .0 ∙ at-loop .loop .inv .tables .sameFlags;
+        sameKeys = at-serve-turn .serve-turn .kept .1 .1 .1 .0 ∙ at-loop .loop .inv .tables .sameKeys;
+        sameCounts = at-serve-turn .serve-turn .kept .1 .1 .1 .1 .0 ∙ at-loop .loop .inv .tables .sameCounts;
+        samePointers = at-serve-turn .serve-turn .kept .1 .1 .1 .1 .1 .0 ∙ at-loop .loop .inv .tables .samePointers;
+        sameWindows = at-serve-turn .serve-turn .kept .1 .1 .1 .1 .1 .1 .0 ∙ at-loop .loop .inv .tables .sameWindows;
+        sameContents = at-serve-turn .serve-turn .kept .1 .1 .1 .1 .1 .1 .1 .0 ∙ at-loop .loop .inv .tables .sameContents;
+      };
+      sameAnswers = at-serve-turn .serve-turn .kept .1 .1 .1 .1 .1 .1 .1 .1 .1 .1 .0 ∙ at-loop .loop .inv .sameAnswers;
+      serving = serving-more _ (start-again .args .input .now) (start-again .args .answers .now) (at-loop .loop .inv .serving) (at-serve-turn .serve-turn .ensures) (sym (c .before .went .ensures) ∙ c .if1 .taken);
+    }
 
 same-length : tie.Need-same-length Inv-loop μ-loop
 same-length c =
     let at-serve-turn = c .before .before .before .before .before .before .before .before .before .before .before .before .before .before .before .before .before in
     let at-loop = at-serve-turn .before .before .before .before .before .before .before .before in
-    at-serve-turn .serve-turn .kept .1 .1 .0 ∙ at-loop .loop .inv .sameFlags
+    at-serve-turn .serve-turn .kept .1 .1 .0 ∙ at-loop .loop .inv .tables .sameFlags
 
 same-length-2 : tie.Need-same-length-2 Inv-loop μ-loop
 same-length-2 c =
     let at-serve-turn = c .before .before .before .before .before .before .before .before .before .before .before .before .before .before .before .before .before in
     let at-loop = at-serve-turn .before .before .before .before .before .before .before .before in
-    at-serve-turn .serve-turn .kept .1 .1 .1 .0 ∙ at-loop .loop .inv .sameKeys
+    at-serve-turn .serve-turn .kept .1 .1 .1 .0 ∙ at-loop .loop .inv .tables .sameKeys
 
 same-length-3 : tie.Need-same-length-3 Inv-loop μ-loop
 same-length-3 c =
     let at-serve-turn = c .before .before .before .before .before .before .before .before .before .before .before .before .before .before .before .before .before in
     let at-loop = at-serve-turn .before .before .before .before .before .before .before .before in
-    at-serve-turn .serve-turn .kept .1 .1 .1 .1 .0 ∙ at-loop .loop .inv .sameCounts
+    at-serve-turn .serve-turn .kept .1 .1 .1 .1 .0 ∙ at-loop .loop .inv .tables .sameCounts
 
 same-length-4 : tie.Need-same-length-4 Inv-loop μ-loop
 same-length-4 c =
     let at-serve-turn = c .before .before .before .before .before .before .before .before .before .before .before .before .before .before .before .before .before in
     let at-loop = at-serve-turn .before .before .before .before .before .before .before .before in
-    at-serve-turn .serve-turn .kept .1 .1 .1 .1 .1 .0 ∙ at-loop .loop .inv .samePointers
+    at-serve-turn .serve-turn .kept .1 .1 .1 .1 .1 .0 ∙ at-loop .loop .inv .tables .samePointers
 
 same-length-5 : tie.Need-same-length-5 Inv-loop μ-loop
 same-length-5 c =
     let at-serve-turn = c .before .before .before .before .before .before .before .before .before .before .before .before .before .before .before .before .before in
     let at-loop = at-serve-turn .before .before .before .before .before .before .before .before in
-    at-serve-turn .serve-turn .kept .1 .1 .1 .1 .1 .1 .0 ∙ at-loop .loop .inv .sameWindows
+    at-serve-turn .serve-turn .kept .1 .1 .1 .1 .1 .1 .0 ∙ at-loop .loop .inv .tables .sameWindows
 
 same-length-6 : tie.Need-same-length-6 Inv-loop μ-loop
 same-length-6 c =
     let at-serve-turn = c .before .before .before .before .before .before .before .before .before .before .before .before .before .before .before .before .before in
     let at-loop = at-serve-turn .before .before .before .before .before .before .before .before in
-    at-serve-turn .serve-turn .kept .1 .1 .1 .1 .1 .1 .1 .0 ∙ at-loop .loop .inv .sameContents
+    at-serve-turn .serve-turn .kept .1 .1 .1 .1 .1 .1 .1 .0 ∙ at-loop .loop .inv .tables .sameContents
 
 same-length-7 : tie.Need-same-length-7 Inv-loop μ-loop
 same-length-7 c =

@@ -1,7 +1,7 @@
 -- `batch::serve_turn` meets its contract. Assumes nothing.
 use native.Mathlib.Omega.{arith}
 use Rattle.input.specs.FoundLaws.{whole-within}
-use Rattle.batch.proofs.Turns.{found-nothing, found-full, found-served}
+use Rattle.batch.proofs.TurnServed.{nothing-served, full-served, whole-served}
 use borrow.Author.Needs.{needs}
 use Rattle.batch.proofs.serve_turn.Statement.{statement}
 use Rattle.batch.proofs.serve_turn.Tie as tie
@@ -26,7 +26,7 @@ returns c =
     let at-sent2 = c .before .before .before in
     let at-find = at-sent2 .before .before in
     let start = at-find .before .before .before .before .before .before .before .before .before in
-    found-full _ (start .args .input .now) (start .args .from) (start .pre .1 .0) (start .args .to .now) (start .args .at) (at-find .find .ensures) (at-sent2 .sent2 .given .1) (c .before .room-of .ensures) (c .if1 .taken)
+    full-served _ (start .args .input .now) (start .args .from) (start .pre .1 .0) (start .args .to .now) (start .args .at) (at-find .find .ensures) (at-sent2 .sent2 .given .1) (c .before .room-of .ensures) (c .if1 .taken)
 
 sub-answer-call : tie.Need-sub-answer-call
 sub-answer-call c =
@@ -56,7 +56,7 @@ returns-2 : tie.Need-returns-2
 returns-2 c =
     let at-find = c .before .before .before in
     let start = at-find .before .before .before .before .before .before .before .before .before in
-    found-nothing _ (start .args .input .now) (start .args .from) (start .pre .1 .0) (start .args .to .now) (start .args .at) (at-find .find .ensures) (c .before .sent .given .1)
+    nothing-served _ (start .args .input .now) (start .args .from) (start .pre .1 .0) (start .args .to .now) (start .args .at) (at-find .find .ensures) (c .before .sent .given .1)
 
 same-length : tie.Need-same-length
 same-length c = search needs
@@ -87,7 +87,7 @@ returns-3 c =
     let at-sent2 = at-room-of .before .before in
     let at-find = at-sent2 .before .before in
     let start = at-find .before .before .before .before .before .before .before .before .before in
-    found-served _ (start .args .input .now) (start .args .from) (start .pre .1 .0) (start .args .to .now) (start .args .at) (at-find .find .ensures) (at-sent2 .sent2 .given .1) (at-room-of .room-of .ensures) (at-if1 .if1 .left) (at-answer-call .answer-call .ensures)
+    whole-served _ (start .args .input .now) (start .args .from) (start .pre .1 .0) (start .args .to .now) (start .args .at) (at-find .find .ensures) (at-sent2 .sent2 .given .1) (at-room-of .room-of .ensures) (at-if1 .if1 .left) (at-answer-call .answer-call .ensures)
 
 pub serve-turn-spec : {M : Type 1} → statement M
 serve-turn-spec =

@@ -1,7 +1,7 @@
 -- `cardplay::fill` meets its contract. Assumes nothing.
 use borrow.Author.Needs.{needs}
 use native.Mathlib.Omega.{arith}
-use Rattle.cardplay.specs.BuffersLaws.{filled-is}
+use Rattle.cardplay.proofs.InputBufferLaws.{grown-is}
 use Rattle.cardplay.proofs.fill.Statement.{statement}
 use Rattle.cardplay.proofs.fill.Tie as tie
 
@@ -28,7 +28,7 @@ same-length c = search needs
 
 returns : tie.Need-returns
 returns c =
-    filled-is (c .before .before .before .before .before .before .before .before .before .before .args .buffer .now) (c .before .before .before .before .before .before .read .last .1 .0) _ _ _ (omega (arith, c .before .before .before .before .before .before .before .before .before .before .pre)) (c .before .before .count .ensures .0 .0)
+    grown-is (c .before .before .before .before .before .before .before .before .before .before .args .buffer .now) (c .before .before .before .before .before .before .read .last .1 .0) _ _ _ (omega (arith, c .before .before .before .before .before .before .before .before .before .before .pre)) (c .before .before .count .ensures .0 .0)
 
 pub fill-spec : {M : Type 1} → statement M
 fill-spec =

@@ -1,7 +1,7 @@
 -- `cardplay::keep` meets its contract. Assumes nothing.
 use native.Mathlib.Omega.{arith}
 use Prim.Native.Nat.{_-_}
-use Rattle.cardplay.specs.BuffersLaws.{Moved, moved-none, moved-length, moved-more, moved-all}
+use Rattle.cardplay.proofs.InputBufferLaws.{Moved, moved-none, moved-length, moved-more, moved-all}
 use Rattle.cardplay.proofs.keep.Statement.{statement}
 use Rattle.cardplay.proofs.keep.Tie as tie
 

@@ -1,6 +1,6 @@
 -- `cardplay::play_fresh` meets its contract. Assumes nothing.
 use borrow.Author.Needs.{needs}
-use Rattle.cardplay.specs.SessionLaws.{session-from}
+use Rattle.cardplay.proofs.PiecesLaws.{pieces-from}
 use Rattle.cardplay.proofs.play_fresh.Statement.{statement}
 use Rattle.cardplay.proofs.play_fresh.Tie as tie
 
@@ -32,7 +32,7 @@ returns : tie.Need-returns
 returns c =
     let at-play-all = c .before .before .before .before .before .before .before .before .before .before .before .before in
     let at-format = at-play-all .before .before .before .before .before .before .before .before .before .before .before .before .before .before .before .before .before .before .before .before in
-    session-from (at-format .format .ensures .leaves) (at-play-all .play-all .ensures)
+    pieces-from (at-format .format .ensures .leaves) (at-play-all .play-all .ensures)
 
 pub play-fresh-spec : {M : Type 1} → statement M
 play-fresh-spec =

@@ -2,7 +2,7 @@
 use borrow.Author.Needs.{needs}
 use mathlib.Core.Path.{sym}
 use lib.Seq.{length-take-le}
-use Rattle.cardplay.specs.ProgressLaws.{part-within, played}
+use Rattle.cardplay.proofs.ProgressLaws.{read-within, piece-is}
 use Rattle.cardplay.proofs.play_some.Statement.{statement}
 use Rattle.cardplay.proofs.play_some.Tie as tie
 
@@ -19,7 +19,7 @@ keep-requires : tie.Need-keep-requires
 keep-requires c κs =
     let at-play = c .before .before .before .before .before .before .before .before .before .before .before .before .before .before .before in
     let start = at-play .before .before .before .before .before .before .before .before .before .before .before .before .before .before .before .before .before in
-    (part-within (start .args .buffer .now) (start .args .filled) (start .pre .1) (at-play .play .ensures), start .pre .1)
+    (read-within (start .args .buffer .now) (start .args .filled) (start .pre .1) (at-play .play .ensures), start .pre .1)
 
 same-length : tie.Need-same-length
 same-length c = search needs
@@ -50,7 +50,7 @@ returns c =
     let at-keep = c .before .before .before in
     let at-play = at-keep .before .before .before .before .before .before .before .before .before .before .before .before .before .before .before .before in
     let start = at-play .before .before .before .before .before .before .before .before .before .before .before .before .before .before .before .before .before in
-    played (start .args .buffer .now) (start .args .filled) (start .pre .1) (at-play .play .ensures) (at-keep .keep .ensures)
+    piece-is (start .args .buffer .now) (start .args .filled) (start .pre .1) (at-play .play .ensures) (at-keep .keep .ensures)
 
 pub play-some-spec : {M : Type 1} → statement M
 play-some-spec =

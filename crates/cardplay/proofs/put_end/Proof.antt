@@ -1,6 +1,6 @@
 -- `cardplay::put_end` meets its contract. Assumes nothing.
 use borrow.Author.Needs.{needs}
-use Rattle.cardplay.specs.ProgressLaws.{last-written}
+use Rattle.cardplay.proofs.ProgressLaws.{last-written}
 use Rattle.cardplay.proofs.put_end.Statement.{statement}
 use Rattle.cardplay.proofs.put_end.Tie as tie
 

@@ -2,7 +2,7 @@
 use borrow.Author.Needs.{needs}
 use mathlib.Core.Path.{sym}
 use lib.Seq.{length-take-le}
-use Rattle.cardplay.specs.BuffersLaws.{written-within}
+use Rattle.cardplay.proofs.InputBufferLaws.{written-within}
 use Rattle.cardplay.proofs.write_end.Statement.{statement}
 use Rattle.cardplay.proofs.write_end.Tie as tie
 

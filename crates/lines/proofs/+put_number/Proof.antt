@@ -2,7 +2,7 @@
 -- Assumes nothing.
 use borrow.Author.Needs.{needs}
 use native.Mathlib.Omega.{arith}
-use Rattle.lines.specs.LinesLaws.{written-small, written-large, room-front, room-one}
+use Rattle.lines.proofs.WrittenPart.{written-small, written-large, room-front, room-one}
 use Prim.Native.Nat.{ℕ, _<_}
 use borrow.Fn.Kinds.{In}
 use borrow.Fn.PlainCycle.{Measures, is, falls, and}

@@ -2,7 +2,7 @@
 use Prim.Native.Nat.{_+_, _≤_}
 use native.Mathlib.Omega.{arith}
 use lib.ListN.{length}
-use Rattle.lines.specs.AnswersLaws.{room-spaced, answered-refused, answered-done, answered-value}
+use Rattle.lines.proofs.AnswersWritten.{room-spaced, answered-refused, answered-done, answered-value}
 use borrow.Author.Needs.{needs}
 use Rattle.lines.proofs.put_answer.Statement.{statement}
 use Rattle.lines.proofs.put_answer.Tie as tie
@@ -22,11 +22,11 @@ enum-told c = search needs
 put-spaced-requires-2 : tie.Need-put-spaced-requires-2
 put-spaced-requires-2 c κs = search needs
 
-shown-by-requires : tie.Need-shown-by-requires
-shown-by-requires c κs = search needs
+filled-by-requires : tie.Need-filled-by-requires
+filled-by-requires c κs = search needs
 
-put-shown-requires : tie.Need-put-shown-requires
-put-shown-requires c κs =
+put-filled-requires : tie.Need-put-filled-requires
+put-filled-requires c κs =
     let fits : c .before .before .before .before .before .before .before .before .before .before .before .args .at + 21 + 1344 ≤ length (c .before .before .before .before .before .before .before .before .before .before .before .args .to .now) = omega arith in
     (c .before .before .before .before .before .before .before .before .before .before .before .pre .0, room-spaced 0 1344 (c .before .before .before .before .put-spaced2 .ensures) fits)
 
@@ -41,11 +41,11 @@ put-spaced-requires-4 c κs =
     let fits : c .before .before .before .before .before .before .before .before .before .before .before .args .at + 21 + 21 ≤ length (c .before .before .before .before .before .before .before .before .before .before .before .args .to .now) = omega arith in
     room-spaced 0 21 (c .before .before .before .put-spaced3 .ensures) fits
 
-shown-by-requires-2 : tie.Need-shown-by-requires-2
-shown-by-requires-2 c κs = search needs
+filled-by-requires-2 : tie.Need-filled-by-requires-2
+filled-by-requires-2 c κs = search needs
 
-put-shown-requires-2 : tie.Need-put-shown-requires-2
-put-shown-requires-2 c κs =
+put-filled-requires-2 : tie.Need-put-filled-requires-2
+put-filled-requires-2 c κs =
     let fits : c .before .before .before .before .before .before .before .before .before .before .before .before .before .before .before .before .args .at + 21 + 1365 ≤ length (c .before .before .before .before .before .before .before .before .before .before .before .before .before .before .before .before .args .to .now) = omega (arith, c .before .before .before .before .before .before .before .before .before .before .before .before .before .before .before .before .pre .1) in
     let more : c .before .before .before .before .before .before .before .before .put-spaced3 .result + 21 + 1344 ≤ length (c .before .before .before .before .before .before .before .before .put-spaced3 .last .0) = omega (arith, room-spaced 0 1365 (c .before .before .before .before .before .before .before .before .put-spaced3 .ensures) fits) in
     (c .before .before .before .before .before .before .before .before .before .before .before .before .before .before .before .before .pre .0, room-spaced _ 1344 (c .before .before .before .before .put-spaced4 .ensures) more)
@@ -67,27 +67,27 @@ same-length-2 c = search needs
 
 returns-2 : tie.Need-returns-2
 returns-2 c =
-    let at-put-shown = c .before .before in
-    let at-shown-by = at-put-shown .before in
-    let at-put-spaced2 = at-shown-by .before .before .before .before in
+    let at-put-filled = c .before .before in
+    let at-filled-by = at-put-filled .before in
+    let at-put-spaced2 = at-filled-by .before .before .before .before in
     let at-enum-told = at-put-spaced2 .before .before in
     let start = at-enum-told .before .before .before .before .before in
-    answered-done (start .args .call) (start .args .answer) (start .args .out .now) (start .args .places .now) (start .pre .0) (at-enum-told .enum-told .given .1) (at-shown-by .shown-by .ensures)
-    (start .pre .1) (at-put-spaced2 .put-spaced2 .ensures) (at-put-shown .put-shown .ensures)
+    answered-done (start .args .call) (start .args .answer) (start .args .out .now) (start .args .places .now) (start .pre .0) (at-enum-told .enum-told .given .1) (at-filled-by .filled-by .ensures)
+    (start .pre .1) (at-put-spaced2 .put-spaced2 .ensures) (at-put-filled .put-filled .ensures)
 
 same-length-3 : tie.Need-same-length-3
 same-length-3 c = search needs
 
 returns-3 : tie.Need-returns-3
 returns-3 c =
-    let at-put-shown2 = c .before .before in
-    let at-shown-by2 = at-put-shown2 .before in
-    let at-put-spaced4 = at-shown-by2 .before .before .before .before in
+    let at-put-filled2 = c .before .before in
+    let at-filled-by2 = at-put-filled2 .before in
+    let at-put-spaced4 = at-filled-by2 .before .before .before .before in
     let at-put-spaced3 = at-put-spaced4 .before .before .before .before in
     let at-answer2 = at-put-spaced3 .before .before .before in
     let start = at-answer2 .before .before .before .before .before in
-    answered-value (start .args .call) (start .args .answer) (start .args .out .now) (start .args .places .now) (start .pre .0) (at-answer2 .answer2 .given .1) (at-shown-by2 .shown-by2 .ensures)
-    (start .pre .1) (at-put-spaced3 .put-spaced3 .ensures) (at-put-spaced4 .put-spaced4 .ensures) (at-put-shown2 .put-shown2 .ensures)
+    answered-value (start .args .call) (start .args .answer) (start .args .out .now) (start .args .places .now) (start .pre .0) (at-answer2 .answer2 .given .1) (at-filled-by2 .filled-by2 .ensures)
+    (start .pre .1) (at-put-spaced3 .put-spaced3 .ensures) (at-put-spaced4 .put-spaced4 .ensures) (at-put-filled2 .put-filled2 .ensures)
 
 pub put-answer-spec : {M : Type 1} → statement M
 put-answer-spec =
@@ -98,13 +98,13 @@ put-answer-spec =
     put-spaced-requires
     enum-told
     put-spaced-requires-2
-    shown-by-requires
-    put-shown-requires
+    filled-by-requires
+    put-filled-requires
     enum-known-answer-2
     put-spaced-requires-3
     put-spaced-requires-4
-    shown-by-requires-2
-    put-shown-requires-2
+    filled-by-requires-2
+    put-filled-requires-2
     same-length
     returns
     same-length-2

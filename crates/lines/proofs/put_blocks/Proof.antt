@@ -2,7 +2,7 @@
 use borrow.Author.Needs.{needs}
 use Prim.Native.Nat.{_-_}
 use lib.ListN.{length}
-use Rattle.lines.specs.LinesLaws.{Spacing, spacing-none, spacing-room, spacing-more, spacing-done}
+use Rattle.lines.proofs.WrittenPart.{Spacing, spacing-none, spacing-room, spacing-more, spacing-done}
 use Rattle.lines.proofs.put_blocks.Statement.{statement}
 use Rattle.lines.proofs.put_blocks.Tie as tie
 

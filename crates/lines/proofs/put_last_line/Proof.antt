@@ -2,7 +2,7 @@
 use Prim.Native.Nat.{_+_, _≤_}
 use native.Mathlib.Omega.{arith}
 use lib.ListN.{length}
-use Rattle.lines.specs.AnswersLaws.{room-behind, room-spaced, last-line-written}
+use Rattle.lines.proofs.AnswersWritten.{room-behind, room-spaced, last-line-written}
 use borrow.Author.Needs.{needs}
 use Rattle.lines.proofs.put_last_line.Statement.{statement}
 use Rattle.lines.proofs.put_last_line.Tie as tie

@@ -3,7 +3,7 @@ use Prim.Native.Nat.{_+_, _≤_}
 use native.Mathlib.Omega.{arith}
 use lib.ListN.{length}
 use Rattle.lines.specs.LinesLaws.{decimal-length}
-use Rattle.lines.specs.AnswersLaws.{room-behind, room-spaced, room-last, line-written}
+use Rattle.lines.proofs.AnswersWritten.{room-behind, room-spaced, room-last, line-written}
 use borrow.Author.Needs.{needs}
 use Rattle.lines.proofs.put_line.Statement.{statement}
 use Rattle.lines.proofs.put_line.Tie as tie

@@ -2,7 +2,7 @@
 use borrow.Author.Needs.{needs}
 use Prim.Native.Nat.{_-_}
 use lib.ListN.{length}
-use Rattle.lines.specs.LinesLaws.{Copying, copying-none, copying-room, copying-more, copying-done}
+use Rattle.lines.proofs.WrittenPart.{Copying, copying-none, copying-room, copying-more, copying-done}
 use Rattle.lines.proofs.put_text.Statement.{statement}
 use Rattle.lines.proofs.put_text.Tie as tie
 

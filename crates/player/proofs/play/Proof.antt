@@ -3,13 +3,14 @@ use mathlib.Core.Path.{refl, sym, _∙_}
 use native.Mathlib.Omega.{arith}
 use Prim.Native.Nat.{_-_}
 use lib.ListN.{length}
-use Rattle.player.specs.Playing.{Loop, playing-none, playing-at, playing-full, playing-stopped, playing-further, playing-more}
+use Rattle.input.proofs.SameTables.{same-tables}
+use Rattle.player.proofs.Playing.{PlayLoop, playing-none, playing-at, playing-full, playing-stopped, playing-further, playing-more}
 use Rattle.player.proofs.play.Statement.{statement}
 use Rattle.player.proofs.play.Tie as tie
 
 abbrev Inv-loop : tie.InvT-loop
 Inv-loop flags₀ keys₀ counts₀ pointers₀ windows₀ contents₀ records input output₀ left₀ count₀ from₀ at₀ flags keys counts pointers windows contents output left count from at =
-    Loop left₀ flags₀ keys₀ counts₀ pointers₀ windows₀ contents₀ records input output₀ left flags keys counts pointers windows contents output count from at
+    PlayLoop left₀ flags₀ keys₀ counts₀ pointers₀ windows₀ contents₀ records input output₀ left flags keys counts pointers windows contents output count from at
 
 abbrev μ-loop : tie.MeasureT-loop
 μ-loop flags₀ keys₀ counts₀ pointers₀ windows₀ contents₀ records input output₀ left₀ count₀ from₀ at₀ flags keys counts pointers windows contents output left count from at = length input - from
@@ -17,7 +18,7 @@ abbrev μ-loop : tie.MeasureT-loop
 loop-holds : tie.Need-loop-holds Inv-loop μ-loop
 loop-holds c =
     let start = c .before .before .before .before .before .before .before .before in
-    record { sameFlags = refl; sameKeys = refl; sameCounts = refl; samePointers = refl; sameWindows = refl; sameContents = refl; sameOutput = refl; playing = playing-none (start .args .records) _ (start .args .input .now) (start .args .output .now) }
+    record { tables = same-tables _ _ _ _ _ _; sameOutput = refl; playing = playing-none (start .args .records) _ (start .args .input .now) (start .args .output .now) }
 
 sub-if1 : tie.Need-sub-if1 Inv-loop μ-loop
 sub-if1 c =
@@ -26,27 +27,27 @@ sub-if1 c =
 
 same-length : tie.Need-same-length Inv-loop μ-loop
 same-length c =
-    c .before .loop .inv .sameFlags
+    c .before .loop .inv .tables .sameFlags
 
 same-length-2 : tie.Need-same-length-2 Inv-loop μ-loop
 same-length-2 c =
-    c .before .loop .inv .sameKeys
+    c .before .loop .inv .tables .sameKeys
 
 same-length-3 : tie.Need-same-length-3 Inv-loop μ-loop
 same-length-3 c =
-    c .before .loop .inv .sameCounts
+    c .before .loop .inv .tables .sameCounts
 
 same-length-4 : tie.Need-same-length-4 Inv-loop μ-loop
 same-length-4 c =
-    c .before .loop .inv .samePointers
+    c .before .loop .inv .tables .samePointers
 
 same-length-5 : tie.Need-same-length-5 Inv-loop μ-loop
 same-length-5 c =
-    c .before .loop .inv .sameWindows
+    c .before .loop .inv .tables .sameWindows
 
 same-length-6 : tie.Need-same-length-6 Inv-loop μ-loop
 same-length-6 c =
-    c .before .loop .inv .sameContents
+    c .before .loop .inv .tables .sameContents
 
 same-length-7 : tie.Need-same-length-7 Inv-loop μ-loop
 same-length-7 c =
@@ -84,12 +85,14 @@ loop-again c =
     let at-loop = at-if1 .before in
     let start = at-loop .before .before .before .before .before .before .before .before .before in
     record {
-      sameFlags = at-play-turn .play-turn .kept .1 .0 ∙ at-loop .loop .inv .sameFlags;
-      sameKeys = at-play-turn .play-turn .kept .1 .1 .0 ∙ at-loop .loop .inv .sameKeys;
-      sameCounts = at-play-turn .play-turn .kept .1 .1 .1 .0 ∙ at-loop .loop .inv .sameCounts;
-      samePointers = at-play-turn .play-turn .kept .1 .1 .1 .1 .0 ∙ at-loop .loop .inv .samePointers;
-      sameWindows = at-play-turn .play-turn .kept .1 .1 .1 .1 .1 .0 ∙ at-loop .loop .inv .sameWindows;
-      sameContents = at-play-turn .play-turn .kept .1 .1 .1 .1 .1 .1 .0 ∙ at-loop .loop .inv .sameContents;
+      tables = record {
+        sameFlags = at-play-turn .play-turn .kept .1 .0 ∙ at-loop .loop .inv .tables .sameFlags;
+        sameKeys = at-play-turn .play-turn .kept .1 .1 .0 ∙ at-loop .loop .inv .tables .sameKeys;
+        sameCounts = at-play-turn .play-turn .kept .1 .1 .1 .0 ∙ at-loop .loop .inv .tables .sameCounts;
+        samePointers = at-play-turn .play-turn .kept .1 .1 .1 .1 .0 ∙ at-loop .loop .inv .tables .samePointers;
+        sameWindows = at-play-turn .play-turn .kept .1 .1 .1 .1 .1 .0 ∙ at-loop .loop .inv .tables .sameWindows;
+        sameContents = at-play-turn .play-turn .kept .1 .1 .1 .1 .1 .1 .0 ∙ at-loop .loop .inv .tables .sameContents;
+      };
       sameOutput = at-play-turn .play-turn .kept .1 .1 .1 .1 .1 .1 .1 .1 .1 .1 .0 ∙ at-loop .loop .inv .sameOutput;
       playing = playing-more (start .args .records) _ (start .args .input .now) (start .args .output .now) (at-loop .loop .inv .playing) (at-if1 .if1 .left) (at-play-turn .play-turn .ensures) (sym (c .before .went .ensures) ∙ c .if2 .taken);
     }
@@ -98,37 +101,37 @@ same-length-8 : tie.Need-same-length-8 Inv-loop μ-loop
 same-length-8 c =
     let at-play-turn = c .before .before .before .before .before .before .before .before .before .before .before .before .before .before .before .before .before in
     let at-loop = at-play-turn .before .before .before .before .before .before .before .before .before in
-    at-play-turn .play-turn .kept .1 .0 ∙ at-loop .loop .inv .sameFlags
+    at-play-turn .play-turn .kept .1 .0 ∙ at-loop .loop .inv .tables .sameFlags
 
 same-length-9 : tie.Need-same-length-9 Inv-loop μ-loop
 same-length-9 c =
     let at-play-turn = c .before .before .before .before .before .before .before .before .before .before .before .before .before .before .before .before .before in
     let at-loop = at-play-turn .before .before .before .before .before .before .before .before .before in
-    at-play-turn .play-turn .kept .1 .1 .0 ∙ at-loop .loop .inv .sameKeys
+    at-play-turn .play-turn .kept .1 .1 .0 ∙ at-loop .loop .inv .tables .sameKeys
 
 same-length-10 : tie.Need-same-length-10 Inv-loop μ-loop
 same-length-10 c =
     let at-play-turn = c .before .before .before .before .before .before .before .before .before .before .before .before .before .before .before .before .before in
     let at-loop = at-play-turn .before .before .before .before .before .before .before .before .before in
-    at-play-turn .play-turn .kept .1 .1 .1 .0 ∙ at-loop .loop .inv .sameCounts
+    at-play-turn .play-turn .kept .1 .1 .1 .0 ∙ at-loop .loop .inv .tables .sameCounts
 
 same-length-11 : tie.Need-same-length-11 Inv-loop μ-loop
 same-length-11 c =
     let at-play-turn = c .before .before .before .before .before .before .before .before .before .before .before .before .before .before .before .before .before in
     let at-loop = at-play-turn .before .before .before .before .before .before .before .before .before in
-    at-play-turn .play-turn .kept .1 .1 .1 .1 .0 ∙ at-loop .loop .inv .samePointers
+    at-play-turn .play-turn .kept .1 .1 .1 .1 .0 ∙ at-loop .loop .inv .tables .samePointers
 
 same-length-12 : tie.Need-same-length-12 Inv-loop μ-loop
 same-length-12 c =
     let at-play-turn = c .before .before .before .before .before .before .before .before .before .before .before .before .before .before .before .before .before in
     let at-loop = at-play-turn .before .before .before .before .before .before .before .before .before in
-    at-play-turn .play-turn .kept .1 .1 .1 .1 .1 .0 ∙ at-loop .loop .inv .sameWindows
+    at-play-turn .play-turn .kept .1 .1 .1 .1 .1 .0 ∙ at-loop .loop .inv .tables .sameWindows
 
 same-length-13 : tie.Need-same-length-13 Inv-loop μ-loop
 same-length-13 c =
     let at-play-turn = c .before .before .before .before .before .before .before .before .before .before .before .before .before .before .before .before .before in
     let at-loop = at-play-turn .before .before .before .before .before .before .before .before .before in
-    at-play-turn .play-turn .kept .1 .1 .1 .1 .1 .1 .0 ∙ at-loop .loop .inv .sameContents
+    at-play-turn .play-turn .kept .1 .1 .1 .1 .1 .1 .0 ∙ at-loop .loop .inv .tables .sameContents
 
 same-length-14 : tie.Need-same-length-14 Inv-loop μ-loop
 same-length-14 c =

@@ -1,7 +1,7 @@
 -- `player::play_call` meets its contract. Assumes nothing.
 use native.Mathlib.Omega.{arith}
 use Rattle.input.specs.Play.{played}
-use Rattle.player.specs.Called.{called}
+use Rattle.player.proofs.TurnPlayed.{call-played}
 use borrow.Author.Needs.{needs}
 use Rattle.player.proofs.play_call.Statement.{statement}
 use Rattle.player.proofs.play_call.Tie as tie
@@ -49,7 +49,7 @@ same-length-7 c = search needs
 returns : tie.Need-returns
 unfolding played
 returns c =
-    called (c .before .before .before .before .before .before .before .before .before .before .before .before .before .before .before .before .before .before .before .before .before .before .before .before .before .before .before .before .before .before .before .before .before .before .before .before .before .before .args .ordinal) (c .before .before .before .before .before .before .before .before .before .before .before .before .before .before .before .before .before .before .before .before .before .before .before .before .before .before .before .before .before .before .before .before .before .before .before .before .before .before .args .kind) (c .before .before .before .before .before .before .before .before .before .before .before .before .before .before .before .before .before .before .before .before .before .before .before .before .before .before .before .before .before .before .before .before .before .before .before .before .before .before .args .call) (record { bytes = omega (arith, c .before .before .before .before .before .before .before .before .before .before .before .before .before .before .before .before .before .before .before .before .before .perform .kept .1 .1 .1 .1 .1 .1 .1 .1 .1 .1 .0); numbers = omega (arith, c .before .before .before .before .before .before .before .before .before .before .before .before .before .before .before .before .before .before .before .before .before .perform .kept .1 .1 .1 .1 .1 .1 .1 .1 .1 .1 .1 .0) })
+    call-played (c .before .before .before .before .before .before .before .before .before .before .before .before .before .before .before .before .before .before .before .before .before .before .before .before .before .before .before .before .before .before .before .before .before .before .before .before .before .before .args .ordinal) (c .before .before .before .before .before .before .before .before .before .before .before .before .before .before .before .before .before .before .before .before .before .before .before .before .before .before .before .before .before .before .before .before .before .before .before .before .before .before .args .kind) (c .before .before .before .before .before .before .before .before .before .before .before .before .before .before .before .before .before .before .before .before .before .before .before .before .before .before .before .before .before .before .before .before .before .before .before .before .before .before .args .call) (record { bytes = omega (arith, c .before .before .before .before .before .before .before .before .before .before .before .before .before .before .before .before .before .before .before .before .before .perform .kept .1 .1 .1 .1 .1 .1 .1 .1 .1 .1 .0); numbers = omega (arith, c .before .before .before .before .before .before .before .before .before .before .before .before .before .before .before .before .before .before .before .before .before .perform .kept .1 .1 .1 .1 .1 .1 .1 .1 .1 .1 .1 .0) })
     (c .before .before .before .before .before .before .before .before .before .before .before .before .before .before .before .before .before .before .before .before .before .perform .ensures) (c .before .before .before .put-line .ensures)
 
 pub play-call-spec : {M : Type 1} → statement M

@@ -1,6 +1,6 @@
 -- `player::play_turn` meets its contract. Assumes nothing.
 use Rattle.input.specs.FoundLaws.{whole-within}
-use Rattle.player.specs.Called.{found-nothing, turned-whole}
+use Rattle.player.proofs.TurnPlayed.{nothing-played, whole-played}
 use borrow.Author.Needs.{needs}
 use Rattle.player.proofs.play_turn.Statement.{statement}
 use Rattle.player.proofs.play_turn.Tie as tie
@@ -42,7 +42,7 @@ returns : tie.Need-returns
 returns c =
     let at-find = c .before .before .before in
     let start = at-find .before .before .before .before .before .before .before .before .before in
-    found-nothing (start .args .ordinal) _ (start .args .input .now) (start .args .from) (start .pre .0) (start .args .to .now) (start .args .at) (at-find .find .ensures) (c .before .found .given .1)
+    nothing-played (start .args .ordinal) _ (start .args .input .now) (start .args .from) (start .pre .0) (start .args .to .now) (start .args .at) (at-find .find .ensures) (c .before .found .given .1)
 
 same-length : tie.Need-same-length
 same-length c = search needs
@@ -71,7 +71,7 @@ returns-2 c =
     let at-found2 = at-play-call .before .before .before .before .before .before .before .before .before .before in
     let at-find = at-found2 .before .before in
     let start = at-find .before .before .before .before .before .before .before .before .before in
-    turned-whole (start .args .ordinal) _ (start .args .input .now) (start .args .from) (start .pre .0) (start .args .to .now) (start .args .at) (at-find .find .ensures) (at-found2 .found2 .given .1)
+    whole-played (start .args .ordinal) _ (start .args .input .now) (start .args .from) (start .pre .0) (start .args .to .now) (start .args .at) (at-find .find .ensures) (at-found2 .found2 .given .1)
     (at-play-call .play-call .ensures)
 
 pub play-turn-spec : {M : Type 1} → statement M

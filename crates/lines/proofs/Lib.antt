@@ -1,0 +1,2 @@
+pub mod WrittenPart
+pub mod AnswersWritten

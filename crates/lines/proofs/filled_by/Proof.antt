@@ -1,0 +1,49 @@
+-- `lines::filled_by` meets its contract. Assumes nothing.
+use Prim.Native.Nat.{ℕ}
+use mathlib.Core.List.{List, [], _∷_}
+use mathlib.Core.Path.{_≡_, refl}
+use types.Run.{OneOf, miss}
+use denote.Enum.Declared.{tagOf}
+use borrow.Author.Needs.{needs}
+use Rattle.card.proofs.Call.{the-type}
+use Rattle.card.specs.declared.Call.{Call}
+use Rattle.card.specs.declared.Call.the-variants.{Read, Write, Alloc, Create, Delete, Key, Renew, Force, Free, Tick, Audit}
+use Rattle.lines.specs.Replied.{filledBy}
+use Rattle.lines.specs.declared.Filled.the-variants.{Neither}
+use Rattle.lines.proofs.filled_by.Statement.{statement}
+use Rattle.lines.proofs.filled_by.Tie as tie
+
+-- The places among the variants of the calls but READ and ALLOC.
+abbrev callsFillingNeither : List ℕ
+callsFillingNeither = 1 ∷ 3 ∷ 4 ∷ 5 ∷ 6 ∷ 7 ∷ 8 ∷ 9 ∷ 10 ∷ []
+
+fills-neither : (call : Call) → OneOf callsFillingNeither (tagOf the-type call) → Neither ≡ filledBy call
+fills-neither (Read o) h = absurd (miss callsFillingNeither 0 tt h)
+fills-neither (Write o) h = refl
+fills-neither (Alloc o) h = absurd (miss callsFillingNeither 2 tt h)
+fills-neither (Create o) h = refl
+fills-neither (Delete o) h = refl
+fills-neither (Key o) h = refl
+fills-neither (Renew o) h = refl
+fills-neither (Force o) h = refl
+fills-neither Free h = refl
+fills-neither (Tick o) h = refl
+fills-neither Audit h = refl
+
+enum-told : tie.Need-enum-told
+enum-told c = search needs
+
+enum-known-call : tie.Need-enum-known-call
+enum-known-call c = search needs
+
+returns : tie.Need-returns
+returns c = search needs
+
+returns-2 : tie.Need-returns-2
+returns-2 c = rw (c .before .call .given .1)
+
+returns-3 : tie.Need-returns-3
+returns-3 c = fills-neither (c .before .args .call) (c .match .keys3)
+
+pub filled-by-spec : {M : Type 1} → statement M
+filled-by-spec = tie.close (tie.spec enum-told enum-known-call returns returns-2 returns-3)

@@ -1,0 +1,2 @@
+pub mod TurnPlayed
+pub mod Playing
