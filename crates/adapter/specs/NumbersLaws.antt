@@ -1,12 +1,18 @@
 -- Laws of the record as numbers.
 -- Assumes nothing.
 use Prim.Native.Nat.{ℕ, _<_}
-use mathlib.Core.Path.{_≡_, refl}
+use mathlib.Core.Path.{_≡_, refl, ap, _∙_}
 use mathlib.Core.List.{List, [], _∷_}
 use native.Mathlib.Omega.{arith}
-use lib.ListN.{length, set, length-set}
+use lib.ListN.{length, getD, set, length-set}
+use Rattle.card.specs.Plan.{withUsed, withTime}
+use Rattle.card.specs.Calls.{freshInfo}
 use Rattle.card.specs.declared.Info.{Info}
-use Rattle.adapter.specs.Numbers.{recordLength, numbersOf}
+use Rattle.adapter.specs.Numbers.{recordLength, recordOf, numbersOf}
+
+pub loaded : (xs : List ℕ) {fresh used timed : Info} → fresh ≡ freshInfo (getD xs 0 0) (getD xs 1 0) (getD xs 2 0) → used ≡ withUsed fresh (getD xs 3 0) → timed ≡ withTime used (getD xs 4 0)
+    → timed ≡ recordOf xs
+loaded xs f u t = t ∙ ap (λ (i : Info). withTime i (getD xs 4 0)) (u ∙ ap (λ (i : Info). withUsed i (getD xs 3 0)) f)
 
 -- There is a fifth place behind the four that were stored to.
 pub still-five : (xs : List ℕ) (a b c d : ℕ) → length xs ≡ recordLength → 4 < length (set (set (set (set xs 0 a) 1 b) 2 c) 3 d)

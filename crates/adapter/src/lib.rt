@@ -26,13 +26,13 @@ pub fn load(numbers: &[u64]) -> Info
     requires { ⌜ length (now numbers) ≡ recordLength ⌝ }
     ensures { λ r. ⌜ r ≡ recordOf (now (numbers .entry)) ⌝ }
 {
-    Info {
-        blocks: numbers[0] as usize,
-        roots: numbers[1] as usize,
-        bytes: numbers[2] as usize,
-        used: numbers[3] as usize,
-        time: numbers[4],
-    }
+    let fresh = tables::fresh(
+        numbers[0] as usize,
+        numbers[1] as usize,
+        numbers[2] as usize,
+    );
+    let used = tables::with_used(fresh, numbers[3] as usize);
+    tables::with_time(used, numbers[4])
 }
 
 pub fn store(numbers: &mut [u64], info: Info)

@@ -88,13 +88,8 @@ fn judge(
     time: u64,
     fault: Fault,
 ) {
-    let info = Info {
-        blocks,
-        roots,
-        bytes,
-        used,
-        time,
-    };
+    let fresh = tables::fresh(blocks, roots, bytes);
+    let info = tables::with_time(tables::with_used(fresh, used), time);
     let mut flags = [0u8; 16];
     let mut keys = [0u64; 64];
     let mut counts = [0u16; 16];
@@ -211,13 +206,7 @@ fn lend_lacking(
     windows: &[u64],
     contents: &[u8],
 ) {
-    let info = Info {
-        blocks: 16,
-        roots: 1,
-        bytes: 512,
-        used: 0,
-        time: 100,
-    };
+    let info = tables::with_time(tables::fresh(16, 1, 512), 100);
     match lack {
         Lack::Nothing => show(name, info, flags, keys, counts, pointers, windows, contents),
         Lack::Flags => show(

@@ -3,6 +3,7 @@
 use card::Answer;
 use card::Call;
 use card::Info;
+use card::MOST_BLOCKS;
 use card::Port;
 use card::Verdict;
 use input::Found;
@@ -148,7 +149,7 @@ fn answer_call(
     requires { ⌜ found ≡ verdict (lent info flags keys counts pointers windows contents) ⌝ ∗ ⌜ at + answerRoom (info .bytes) call ≤ length (now to) ⌝ }
     ensures { λ r. ⌜ Writes (λ c. served port c call (now (payload .entry))) (answerBytes call) (answerRoom (info .bytes) call) info flags keys counts pointers windows contents to at r ⌝ }
 {
-    let mut places = [0u16; 64];
+    let mut places = [0u16; MOST_BLOCKS as usize];
     let size = lent_size(info, call);
     let start = at + 1;
     let end = start + size;

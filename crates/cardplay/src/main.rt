@@ -294,13 +294,7 @@ fn main() {
     let mut pointers = [0u32; 32];
     let mut windows = [0u64; 32];
     let mut contents = [0u8; 8192];
-    let unset = Info {
-        blocks: 0,
-        roots: 0,
-        bytes: 0,
-        used: 0,
-        time: 0,
-    };
+    let unset = tables::fresh(0, 0, 0);
     let end = play_fresh(
         unset,
         &mut flags,

@@ -24,7 +24,6 @@ use Rattle.records.specs.declared.Decoding.the-variants.{Decoded, Bad}
 use Rattle.records.specs.declared.Parsed.{Parsed}
 use Rattle.input.specs.Play.{isShort, fault}
 use Rattle.input.specs.Found.{WholeIs, NothingIs, FoundIs}
-use Rattle.input.specs.declared.Stop.{Stop}
 use Rattle.input.specs.declared.Stop.the-variants.{Short, Refused}
 use Rattle.input.specs.declared.Record.{Record}
 use Rattle.input.specs.declared.Found.{Found}

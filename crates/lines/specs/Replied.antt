@@ -3,7 +3,7 @@ use Prim.Native.Nat.{ℕ, _≤_}
 use mathlib.Core.Path.{_≡_, refl}
 use mathlib.Core.List.{List, []}
 use lib.ListN.{length, take}
-use Rattle.card.specs.Session.{Reply, shownValues}
+use Rattle.card.specs.Session.{Reply, traits, shownValues}
 use Rattle.card.specs.declared.Answer.{Answer}
 use Rattle.card.specs.declared.Call.{Call}
 use Rattle.card.specs.declared.Call.the-variants.{Read, Write, Alloc, Create, Delete, Key, Renew, Force, Free, Tick, Audit}
@@ -38,6 +38,7 @@ valuesOf Bytes out places = take 8 out
 valuesOf (Blocks n) out places = take n places
 
 pub values-filled : (call : Call) (r : Reply) → shownValues call r ≡ valuesOf (filledBy call) (r .out) (r .places)
+unfolding traits
 values-filled (Read o) r = refl
 values-filled (Write o) r = refl
 values-filled (Alloc o) r = refl

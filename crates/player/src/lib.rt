@@ -1,6 +1,7 @@
 // Plays call records on lent tables: decodes each, performs it, and writes its line.
 use card::Call;
 use card::Info;
+use card::MOST_BLOCKS;
 use card::Port;
 use input::Found;
 use input::Part;
@@ -34,7 +35,7 @@ fn play_call(
     ensures { λ r. ⌜ Writes (λ c. played port c call (now (payload .entry))) (line ordinal kind call) lineRoom info flags keys counts pointers windows contents to at r ⌝ }
 {
     let mut out = [0u8; 512];
-    let mut places = [0u16; 64];
+    let mut places = [0u16; MOST_BLOCKS as usize];
     let outcome = controller::perform(
         info,
         flags,
