@@ -4,6 +4,22 @@ use borrow.Author.Needs.{needs}
 use Rattle.interface.proofs.negvask_alloc.Statement.{statement}
 use Rattle.interface.proofs.negvask_alloc.Tie as tie
 
+-- ---- places of the code
+
+abbrev at-perform : tie.After-slice-known16 → tie.After-perform
+at-perform c = c .before .before .before .before .before .before .before .before .before .before .before .before .before .before .before .before .before
+
+abbrev at-arrival : tie.After-slice-known16 → tie.After-at-port
+at-arrival c = at-perform c .before .before .before .before .before .before .before .before .before .before .before .before
+
+abbrev at-made : tie.After-slice-known16 → tie.After-alloc-with
+at-made c = at-arrival c .before
+
+abbrev at-credential : tie.After-slice-known16 → tie.After-credential-of
+at-credential c = at-made c .before
+
+-- ---- answers
+
 credential-of-requires : tie.Need-credential-of-requires
 credential-of-requires c κs = search needs
 
@@ -23,36 +39,31 @@ perform-requires : tie.Need-perform-requires
 perform-requires c κs = search needs
 
 same-length : tie.Need-same-length
-same-length c = search needs
+same-length c = at-perform c .perform .kept .0
 
 same-length-2 : tie.Need-same-length-2
-same-length-2 c = search needs
+same-length-2 c = at-perform c .perform .kept .1 .0
 
 same-length-3 : tie.Need-same-length-3
-same-length-3 c = search needs
+same-length-3 c = at-perform c .perform .kept .1 .1 .0
 
 same-length-4 : tie.Need-same-length-4
-same-length-4 c = search needs
+same-length-4 c = at-perform c .perform .kept .1 .1 .1 .0
 
 same-length-5 : tie.Need-same-length-5
-same-length-5 c = search needs
+same-length-5 c = at-perform c .perform .kept .1 .1 .1 .1 .0
 
 same-length-6 : tie.Need-same-length-6
-same-length-6 c = search needs
+same-length-6 c = at-perform c .perform .kept .1 .1 .1 .1 .1 .0
 
 same-length-7 : tie.Need-same-length-7
-same-length-7 c = search needs
+same-length-7 c = at-perform c .perform .kept .1 .1 .1 .1 .1 .1 .0
 
 same-length-8 : tie.Need-same-length-8
-same-length-8 c = search needs
+same-length-8 c = at-perform c .perform .kept .1 .1 .1 .1 .1 .1 .1 .1 .1 .1 .0
 
 returns : tie.Need-returns
-returns c =
-    let at-perform = c .before .before .before .before .before .before .before .before .before .before .before .before .before .before .before .before .before in
-    let at-arrival = at-perform .before .before .before .before .before .before .before .before .before .before .before .before in
-    let at-made = at-arrival .before in
-    let at-credential = at-made .before in
-    rw (← at-credential .credential-of .ensures, ← at-made .alloc-with .ensures, ← at-arrival .at-port .ensures) ((no-out (at-perform .perform .ensures) (at-perform .perform .kept .1 .1 .1 .1 .1 .1 .1 .1 .1 .0)) .does)
+returns c = rw (← at-credential c .credential-of .ensures, ← at-made c .alloc-with .ensures, ← at-arrival c .at-port .ensures) ((no-out (at-perform c .perform .ensures) (at-perform c .perform .kept .1 .1 .1 .1 .1 .1 .1 .1 .1 .0)) .does)
 
 pub negvask-alloc-spec : {M : Type 1} → statement M
 negvask-alloc-spec =

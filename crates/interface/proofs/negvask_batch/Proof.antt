@@ -4,9 +4,28 @@ use borrow.Author.Needs.{needs}
 use Rattle.interface.proofs.negvask_batch.Statement.{statement}
 use Rattle.interface.proofs.negvask_batch.Tie as tie
 
+-- ---- places of the code
+
+abbrev at-store : tie.After-stop-number → tie.After-store
+at-store c = c .before .before .before
+
+abbrev at-serve : tie.After-stop-number → tie.After-serve
+at-serve c = at-store c .before .before .before .before .before .before .before .before .before .before .before .before .before .before .before .before .before
+
+abbrev at-load : tie.After-stop-number → tie.After-load
+at-load c = at-serve c .before .before .before .before .before .before .before .before
+
+abbrev at-if1 : tie.After-stop-number → tie.Else1
+at-if1 c = at-load c .before .before
+
+abbrev start : tie.After-stop-number → tie.Start
+start c = at-if1 c .before .before .before .before .before .before .before .before .before .before
+
+-- ---- answers
+
 returns : tie.Need-returns
 returns c =
-    let start = c .before .before .before .before .before .before .before .before .before .before in
+    let start : tie.Start = search in
     batch-refused (batchState (start .args .info .now) (start .args .flags .now) (start .args .keys .now) (start .args .counts .now) (start .args .pointers .now) (start .args .windows .now) (start .args .contents .now) (start .args .answers .now) (start .args .records .now) (start .args .read .now) (start .args .written .now)) (start .args .input .now) (c .if1 .taken)
 
 load-requires : tie.Need-load-requires
@@ -22,37 +41,31 @@ stop-number-requires : tie.Need-stop-number-requires
 stop-number-requires c κs = search needs
 
 same-length : tie.Need-same-length
-same-length c = search needs
+same-length c = at-store c .store .kept .0
 
 same-length-2 : tie.Need-same-length-2
-same-length-2 c = search needs
+same-length-2 c = at-serve c .serve .kept .1 .0
 
 same-length-3 : tie.Need-same-length-3
-same-length-3 c = search needs
+same-length-3 c = at-serve c .serve .kept .1 .1 .0
 
 same-length-4 : tie.Need-same-length-4
-same-length-4 c = search needs
+same-length-4 c = at-serve c .serve .kept .1 .1 .1 .0
 
 same-length-5 : tie.Need-same-length-5
-same-length-5 c = search needs
+same-length-5 c = at-serve c .serve .kept .1 .1 .1 .1 .0
 
 same-length-6 : tie.Need-same-length-6
-same-length-6 c = search needs
+same-length-6 c = at-serve c .serve .kept .1 .1 .1 .1 .1 .0
 
 same-length-7 : tie.Need-same-length-7
-same-length-7 c = search needs
+same-length-7 c = at-serve c .serve .kept .1 .1 .1 .1 .1 .1 .0
 
 same-length-8 : tie.Need-same-length-8
-same-length-8 c = search needs
+same-length-8 c = at-serve c .serve .kept .1 .1 .1 .1 .1 .1 .1 .1 .0
 
 returns-2 : tie.Need-returns-2
-returns-2 c =
-    let at-store = c .before .before .before in
-    let at-serve = at-store .before .before .before .before .before .before .before .before .before .before .before .before .before .before .before .before .before in
-    let at-load = at-serve .before .before .before .before .before .before .before .before in
-    let at-if1 = at-load .before .before in
-    let start = at-if1 .before .before .before .before .before .before .before .before .before .before in
-    batch-served (start .args .info .now) _ _ _ _ _ _ (start .args .answers .now) (start .args .records .now) (start .args .read .now) (start .args .written .now) (start .args .input .now) _ _ _ _ _ _ _ (at-if1 .if1 .left) (at-load .load .ensures) (at-serve .serve .ensures) (at-store .store .ensures) (c .stop-number .ensures)
+returns-2 c = batch-served (start c .args .info .now) _ _ _ _ _ _ (start c .args .answers .now) (start c .args .records .now) (start c .args .read .now) (start c .args .written .now) (start c .args .input .now) _ _ _ _ _ _ _ (at-if1 c .if1 .left) (at-load c .load .ensures) (at-serve c .serve .ensures) (at-store c .store .ensures) (c .stop-number .ensures)
 
 pub negvask-batch-spec : {M : Type 1} → statement M
 negvask-batch-spec =

@@ -3,6 +3,13 @@ use borrow.Author.Needs.{needs}
 use Rattle.interface.proofs.negvask_free.Statement.{statement}
 use Rattle.interface.proofs.negvask_free.Tie as tie
 
+-- ---- places of the code
+
+abbrev at-perform : tie.After-slice-known14 → tie.After-perform-without-buffers
+at-perform c = c .before .before .before .before .before .before .before .before .before .before .before .before .before .before
+
+-- ---- answers
+
 slice-aggregate-perform-without-buffers : tie.Need-slice-aggregate-perform-without-buffers
 slice-aggregate-perform-without-buffers c = search needs
 
@@ -10,30 +17,28 @@ perform-without-buffers-requires : tie.Need-perform-without-buffers-requires
 perform-without-buffers-requires c κs = search needs
 
 same-length : tie.Need-same-length
-same-length c = search needs
+same-length c = at-perform c .perform-without-buffers .kept .0
 
 same-length-2 : tie.Need-same-length-2
-same-length-2 c = search needs
+same-length-2 c = at-perform c .perform-without-buffers .kept .1 .0
 
 same-length-3 : tie.Need-same-length-3
-same-length-3 c = search needs
+same-length-3 c = at-perform c .perform-without-buffers .kept .1 .1 .0
 
 same-length-4 : tie.Need-same-length-4
-same-length-4 c = search needs
+same-length-4 c = at-perform c .perform-without-buffers .kept .1 .1 .1 .0
 
 same-length-5 : tie.Need-same-length-5
-same-length-5 c = search needs
+same-length-5 c = at-perform c .perform-without-buffers .kept .1 .1 .1 .1 .0
 
 same-length-6 : tie.Need-same-length-6
-same-length-6 c = search needs
+same-length-6 c = at-perform c .perform-without-buffers .kept .1 .1 .1 .1 .1 .0
 
 same-length-7 : tie.Need-same-length-7
-same-length-7 c = search needs
+same-length-7 c = at-perform c .perform-without-buffers .kept .1 .1 .1 .1 .1 .1 .0
 
 returns : tie.Need-returns
-returns c =
-    let at-perform = c .before .before .before .before .before .before .before .before .before .before .before .before .before .before in
-    at-perform .perform-without-buffers .ensures
+returns c = at-perform c .perform-without-buffers .ensures
 
 pub negvask-free-spec : {M : Type 1} → statement M
 negvask-free-spec =

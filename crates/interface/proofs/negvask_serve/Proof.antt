@@ -4,6 +4,19 @@ use borrow.Author.Needs.{needs}
 use Rattle.interface.proofs.negvask_serve.Statement.{statement}
 use Rattle.interface.proofs.negvask_serve.Tie as tie
 
+-- ---- places of the code
+
+abbrev at-perform : tie.After-slice-known18 → tie.After-perform
+at-perform c = c .before .before .before .before .before .before .before .before .before .before .before .before .before .before .before .before .before .before
+
+abbrev at-decode : tie.After-slice-known18 → tie.After-decode
+at-decode c = at-perform c .before .before .before .before .before .before .before .before .before .before .before .before
+
+abbrev start : tie.After-slice-known18 → tie.Start
+start c = at-decode c .before .before .before .before .before .before .before .before .before .before .before
+
+-- ---- answers
+
 decode-requires : tie.Need-decode-requires
 decode-requires c κs = search needs
 
@@ -20,38 +33,34 @@ perform-requires : tie.Need-perform-requires
 perform-requires c κs = search needs
 
 same-length : tie.Need-same-length
-same-length c = search needs
+same-length c = at-perform c .perform .kept .0
 
 same-length-2 : tie.Need-same-length-2
-same-length-2 c = search needs
+same-length-2 c = at-perform c .perform .kept .1 .0
 
 same-length-3 : tie.Need-same-length-3
-same-length-3 c = search needs
+same-length-3 c = at-perform c .perform .kept .1 .1 .0
 
 same-length-4 : tie.Need-same-length-4
-same-length-4 c = search needs
+same-length-4 c = at-perform c .perform .kept .1 .1 .1 .0
 
 same-length-5 : tie.Need-same-length-5
-same-length-5 c = search needs
+same-length-5 c = at-perform c .perform .kept .1 .1 .1 .1 .0
 
 same-length-6 : tie.Need-same-length-6
-same-length-6 c = search needs
+same-length-6 c = at-perform c .perform .kept .1 .1 .1 .1 .1 .0
 
 same-length-7 : tie.Need-same-length-7
-same-length-7 c = search needs
+same-length-7 c = at-perform c .perform .kept .1 .1 .1 .1 .1 .1 .0
 
 same-length-8 : tie.Need-same-length-8
-same-length-8 c = search needs
+same-length-8 c = at-perform c .perform .kept .1 .1 .1 .1 .1 .1 .1 .1 .1 .0
 
 same-length-9 : tie.Need-same-length-9
-same-length-9 c = search needs
+same-length-9 c = at-perform c .perform .kept .1 .1 .1 .1 .1 .1 .1 .1 .1 .1 .0
 
 returns : tie.Need-returns
-returns c =
-    let at-perform = c .before .before .before .before .before .before .before .before .before .before .before .before .before .before .before .before .before .before in
-    let at-decode = at-perform .before .before .before .before .before .before .before .before .before .before .before .before in
-    let start = at-decode .before .before .before .before .before .before .before .before .before .before .before in
-    of-record (start .args .kind) (start .args .body .now) (start .args .out .now) (start .args .places .now) (start .args .value .now) (start .args .info .now) _ (at-decode .decode .ensures) (at-perform .perform .ensures)
+returns c = of-record (start c .args .kind) (start c .args .body .now) (start c .args .out .now) (start c .args .places .now) (start c .args .value .now) (start c .args .info .now) _ (at-decode c .decode .ensures) (at-perform c .perform .ensures)
 
 pub negvask-serve-spec : {M : Type 1} → statement M
 negvask-serve-spec =

@@ -3,6 +3,22 @@ use borrow.Author.Needs.{needs}
 use Rattle.interface.proofs.negvask_write.Statement.{statement}
 use Rattle.interface.proofs.negvask_write.Tie as tie
 
+-- ---- places of the code
+
+abbrev at-perform : tie.After-slice-known14 → tie.After-perform-without-buffers
+at-perform c = c .before .before .before .before .before .before .before .before .before .before .before .before .before .before
+
+abbrev at-arrival : tie.After-slice-known14 → tie.After-at-port
+at-arrival c = at-perform c .before .before .before .before .before .before .before .before .before
+
+abbrev at-made : tie.After-slice-known14 → tie.After-write-with
+at-made c = at-arrival c .before
+
+abbrev at-credential : tie.After-slice-known14 → tie.After-credential-of
+at-credential c = at-made c .before
+
+-- ---- answers
+
 credential-of-requires : tie.Need-credential-of-requires
 credential-of-requires c κs = search needs
 
@@ -16,33 +32,28 @@ perform-without-buffers-requires : tie.Need-perform-without-buffers-requires
 perform-without-buffers-requires c κs = search needs
 
 same-length : tie.Need-same-length
-same-length c = search needs
+same-length c = at-perform c .perform-without-buffers .kept .0
 
 same-length-2 : tie.Need-same-length-2
-same-length-2 c = search needs
+same-length-2 c = at-perform c .perform-without-buffers .kept .1 .0
 
 same-length-3 : tie.Need-same-length-3
-same-length-3 c = search needs
+same-length-3 c = at-perform c .perform-without-buffers .kept .1 .1 .0
 
 same-length-4 : tie.Need-same-length-4
-same-length-4 c = search needs
+same-length-4 c = at-perform c .perform-without-buffers .kept .1 .1 .1 .0
 
 same-length-5 : tie.Need-same-length-5
-same-length-5 c = search needs
+same-length-5 c = at-perform c .perform-without-buffers .kept .1 .1 .1 .1 .0
 
 same-length-6 : tie.Need-same-length-6
-same-length-6 c = search needs
+same-length-6 c = at-perform c .perform-without-buffers .kept .1 .1 .1 .1 .1 .0
 
 same-length-7 : tie.Need-same-length-7
-same-length-7 c = search needs
+same-length-7 c = at-perform c .perform-without-buffers .kept .1 .1 .1 .1 .1 .1 .0
 
 returns : tie.Need-returns
-returns c =
-    let at-perform = c .before .before .before .before .before .before .before .before .before .before .before .before .before .before in
-    let at-arrival = at-perform .before .before .before .before .before .before .before .before .before in
-    let at-made = at-arrival .before in
-    let at-credential = at-made .before in
-    rw (← at-credential .credential-of .ensures, ← at-made .write-with .ensures, ← at-arrival .at-port .ensures) (at-perform .perform-without-buffers .ensures .does)
+returns c = rw (← at-credential c .credential-of .ensures, ← at-made c .write-with .ensures, ← at-arrival c .at-port .ensures) (at-perform c .perform-without-buffers .ensures .does)
 
 pub negvask-write-spec : {M : Type 1} → statement M
 negvask-write-spec =
