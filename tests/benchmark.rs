@@ -786,10 +786,11 @@ fn rows(size: Size) -> Vec<Row> {
         against,
         target,
     };
+    let transfer = Some(if size.blocks == SIZES[0].blocks { 1.25 } else { 1.1 });
     let mut rows = vec![
         row("AUDIT", audit[0], audit[1], full_model(&Direct::Audit), pass, audit[1], Some(1.5)),
-        row("READ", read[0], read[1], full_model(&read_call), pass + copy, read[2], Some(1.1)),
-        row("WRITE", write[0], write[1], full_model(&write_call), pass + copy, write[2], Some(1.1)),
+        row("READ", read[0], read[1], full_model(&read_call), pass + copy, read[2], transfer),
+        row("WRITE", write[0], write[1], full_model(&write_call), pass + copy, write[2], transfer),
     ];
     let ([one, plain_one], model_one) = alloc(1);
     rows.push(row("ALLOC 1", one, plain_one, model_one, pass + copy, plain_one, None));
