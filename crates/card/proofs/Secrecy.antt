@@ -1,6 +1,6 @@
 -- What the rules guarantee of a host session: demand 3, `secrecy` of Theorem.antt.
 pub mod Closed
-pub mod Steps
+pub mod StepsAlike
 pub mod Opened
 pub mod Plans
 pub mod Sessions

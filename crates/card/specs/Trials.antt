@@ -92,8 +92,8 @@ calls yields expected = record { calls = calls; expected = expected }
 abbrev zeros8 : List ℕ
 zeros8 = zeros 8
 
-unfoldable pub table : List Trial
-table =
+unfoldable pub trialTable : List Trial
+trialTable =
     -- T1
     (free ∷ [] yields (0 ∷ 15 ∷ []) ∷ [])
     -- T2
@@ -178,6 +178,6 @@ unfoldable pub trialReports : Trial → List (List ℕ)
 trialReports t = reports playerCard (t .calls)
 
 -- The rules report of each row just what is expected.
-pub trials : map trialReports table ≡ map (λ t. t .expected) table
-unfolding rules playerCard table trialReports
+pub trials : map trialReports trialTable ≡ map (λ t. t .expected) trialTable
+unfolding rules playerCard trialTable trialReports
 trials = refl

@@ -51,62 +51,62 @@ short-kind Unknown xs n e h = refl
 
 module _ (input : List ℕ) (from : ℕ) (h : from < length input) where
   -- The bytes behind the kind, as the code has them.
-  abbrev body : List ℕ
-  body = take (length input - (from + 1)) (drop (from + 1) input)
+  abbrev behindKind : List ℕ
+  behindKind = take (length input - (from + 1)) (drop (from + 1) input)
 
   abbrev kind : ℕ
   kind = getD input from 0
 
-  body-whole : body ≡ drop (from + 1) input
+  body-whole : behindKind ≡ drop (from + 1) input
   body-whole = take-all (length input - (from + 1)) (drop (from + 1) input) (omega (arith, length-drop (from + 1) input))
 
-  body-length : length body ≡ length input - (from + 1)
+  body-length : length behindKind ≡ length input - (from + 1)
   body-length = ap length body-whole ∙ length-drop (from + 1) input
 
-  pub starts : drop from input ≡ kind ∷ body
+  pub starts : drop from input ≡ kind ∷ behindKind
   starts = drop-cons input from 0 h ∙ ap (λ (n : ℕ). kind ∷ drop n input) (sym (add-one from)) ∙ ap (λ (xs : List ℕ). kind ∷ xs) (sym body-whole)
 
-  decodes-next : decode (drop from input) ≡ nextOf body (decodeBody kind body)
+  decodes-next : decode (drop from input) ≡ nextOf behindKind (decodeBody kind behindKind)
   unfolding decode
   decodes-next = rw starts
 
-  fault-here : fault (drop from input) ≡ cond (isShort (bodyLength kind) (length body)) Short Refused
+  fault-here : fault (drop from input) ≡ cond (isShort (bodyLength kind) (length behindKind)) Short Refused
   unfolding fault
   fault-here = rw starts
 
   pub found-unknown : {l : Length} → l ≡ bodyLength kind → l ≡ UnknownLength → NothingIs (drop from input) Refused
   unfolding nextOf decodeBody bodyLength isShort
   found-unknown e u =
-      (decodes-next ∙ ap (nextOf body) (unknown-kind (kindOf kind) body (sym e ∙ u)), fault-here ∙ ap (λ (l : Length). cond (isShort l (length body)) Short Refused) (sym e ∙ u))
+      (decodes-next ∙ ap (nextOf behindKind) (unknown-kind (kindOf kind) behindKind (sym e ∙ u)), fault-here ∙ ap (λ (l : Length). cond (isShort l (length behindKind)) Short Refused) (sym e ∙ u))
 
-  pub found-short : {l : Length} {n : ℕ} → l ≡ bodyLength kind → l ≡ Bytes n → length body < n → NothingIs (drop from input) Short
+  pub found-short : {l : Length} {n : ℕ} → l ≡ bodyLength kind → l ≡ Bytes n → length behindKind < n → NothingIs (drop from input) Short
   unfolding nextOf decodeBody bodyLength isShort
   found-short {n = n} e u s = (
-    decodes-next ∙ ap (nextOf body) (short-kind (kindOf kind) body n (sym e ∙ u) s),
-    fault-here ∙ ap (λ (l : Length). cond (isShort l (length body)) Short Refused) (sym e ∙ u) ∙ ap (λ (t : Bool). cond t Short Refused) (lt-ltb (length body) n s),
+    decodes-next ∙ ap (nextOf behindKind) (short-kind (kindOf kind) behindKind n (sym e ∙ u) s),
+    fault-here ∙ ap (λ (l : Length). cond (isShort l (length behindKind)) Short Refused) (sym e ∙ u) ∙ ap (λ (t : Bool). cond t Short Refused) (lt-ltb (length behindKind) n s),
   )
 
-  pub found-bad : {l : Length} {n : ℕ} {r : Parsed} → l ≡ bodyLength kind → l ≡ Bytes n → n ≤ length body → ParsedIs kind body r → r .decoding ≡ Bad → NothingIs (drop from input) Refused
+  pub found-bad : {l : Length} {n : ℕ} {r : Parsed} → l ≡ bodyLength kind → l ≡ Bytes n → n ≤ length behindKind → ParsedIs kind behindKind r → r .decoding ≡ Bad → NothingIs (drop from input) Refused
   unfolding nextOf isShort
   found-bad {n = n} e u s p b = (
-    decodes-next ∙ ap (nextOf body) (sym (p .decodes) ∙ b),
-    fault-here ∙ ap (λ (l : Length). cond (isShort l (length body)) Short Refused) (sym e ∙ u) ∙ ap (λ (t : Bool). cond t Short Refused) (le-ltb (length body) n s),
+    decodes-next ∙ ap (nextOf behindKind) (sym (p .decodes) ∙ b),
+    fault-here ∙ ap (λ (l : Length). cond (isShort l (length behindKind)) Short Refused) (sym e ∙ u) ∙ ap (λ (t : Bool). cond t Short Refused) (le-ltb (length behindKind) n s),
   )
 
-  pub found-whole : {r : Parsed} {port : Port} {call : Call} → ParsedIs kind body r → r .decoding ≡ Decoded port call
+  pub found-whole : {r : Parsed} {port : Port} {call : Call} → ParsedIs kind behindKind r → r .decoding ≡ Decoded port call
       → WholeIs input from (record { kind = kind; port = port; call = call; payload = from + 1 + r .payload; next = from + 1 + r .end })
   unfolding nextOf dataOf
   found-whole {r} {port} {call} p e =
       let operands-end : r .payload ≡ operandsLength (nameOf call) = p .payloadAt e in
       let body-end : r .end ≡ lengthOf (nameOf call) = p .endAt e in
       let size : dataLength (nameOf call) ≡ from + 1 + r .end - (from + 1 + r .payload) = omega (arith, data-right (nameOf call)) in
-      let payload-is : take (dataLength (nameOf call)) (drop (operandsLength (nameOf call)) body) ≡ take (from + 1 + r .end - (from + 1 + r .payload)) (drop (from + 1 + r .payload) input) =
+      let payload-is : take (dataLength (nameOf call)) (drop (operandsLength (nameOf call)) behindKind) ≡ take (from + 1 + r .end - (from + 1 + r .payload)) (drop (from + 1 + r .payload) input) =
       ap₂ (λ (m : ℕ) (ys : List ℕ). take m ys) size
       (ap₂ (λ (m : ℕ) (ys : List ℕ). drop m ys) (sym operands-end) body-whole ∙ drop-drop (r .payload) (from + 1) input) in
-      let rest-is : drop (lengthOf (nameOf call)) body ≡ drop (from + 1 + r .end) input =
+      let rest-is : drop (lengthOf (nameOf call)) behindKind ≡ drop (from + 1 + r .end) input =
       ap₂ (λ (m : ℕ) (ys : List ℕ). drop m ys) (sym body-end) body-whole ∙ drop-drop (r .end) (from + 1) input in
       record {
-        decodes = decodes-next ∙ ap (nextOf body) (sym (p .decodes) ∙ e) ∙ ap₂ (sent port call) payload-is rest-is;
+        decodes = decodes-next ∙ ap (nextOf behindKind) (sym (p .decodes) ∙ e) ∙ ap₂ (sent port call) payload-is rest-is;
         hasKind = rw starts;
         payloadWithin = omega (arith, p .ordered);
         nextWithin = omega (arith, p .within, body-length);

@@ -54,8 +54,8 @@ batchState info flags keys counts pointers windows contents answers records read
 }
 
 -- What the function returns and leaves is the batch of the input on what it was lent.
-abbrev pub Batches : Lent → Lent → Lent → Lent → Lent → Lent → Lent → Lent → Lent → LentNumber → LentNumber → LentNumber → ℕ → Type 0
-Batches info flags keys counts pointers windows contents input answers records read written r =
+abbrev pub ServesBatch : Lent → Lent → Lent → Lent → Lent → Lent → Lent → Lent → Lent → LentNumber → LentNumber → LentNumber → ℕ → Type 0
+ServesBatch info flags keys counts pointers windows contents input answers records read written r =
     BatchIs
     (batchState (now (info .entry)) (now (flags .entry)) (now (keys .entry)) (now (counts .entry)) (now (pointers .entry)) (now (windows .entry)) (now (contents .entry)) (now (answers .entry)) (now (records .entry)) (now (read .entry)) (now (written .entry)))
     (now (input .entry))

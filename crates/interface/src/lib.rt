@@ -14,7 +14,7 @@ ghost use Rattle.records.specs.Decode.{readWith, writeWith, allocWith, createWi
 ghost use Rattle.records.specs.declared.Decoding.the-variants.{Decoded};
 ghost use Rattle.adapter.specs.Numbers.{credentialAt, newKeyAt, atPort};
 ghost use Rattle.adapter.specs.Effects.{effect, formatEffect, recordEffect, Effects, EffectsGiving, EffectsLent};
-ghost use Rattle.interface.specs.Batch.{stopNumber, Batches};
+ghost use Rattle.interface.specs.Batch.{stopNumber, ServesBatch};
 
 // ---- the calls, by their operands
 
@@ -501,7 +501,7 @@ pub extern "C" fn negvask_batch(
     read: &mut u64,
     written: &mut u64,
 ) -> u32
-    ensures { λ r. ⌜ Batches info flags keys counts pointers windows contents input answers records read written r ⌝ }
+    ensures { λ r. ⌜ ServesBatch info flags keys counts pointers windows contents input answers records read written r ⌝ }
 {
     if info.len() != adapter::RECORD_LENGTH {
         return 1;

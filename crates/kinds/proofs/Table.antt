@@ -13,9 +13,9 @@ use Rattle.kinds.specs.declared.Length.the-variants.{Bytes, Unknown as U
 use Rattle.card.specs.declared.Port.{Port}
 
 -- To compute by the table, a proof unfolds this one name.
-unfoldable pub table : Unit {0}
+unfoldable pub tableRules : Unit {0}
 unfolding row names kindNumber lengthOf dataLength operandsLength lengthsOf among kindOf
-table = tt
+tableRules = tt
 
 pub at-kind : {k n : ℕ} → k ≡ n → kindOf n ≡ kindOf k
 at-kind e = ap kindOf (sym e)
@@ -29,7 +29,7 @@ Apart k [] = Unit {0}
 Apart k (n ∷ ns) = Apart k ns × (k ≡ n → ⊥)
 
 pub unknown : (k : ℕ) → Apart k (134 ∷ 133 ∷ 132 ∷ 131 ∷ 130 ∷ 129 ∷ 11 ∷ 10 ∷ 9 ∷ 8 ∷ 7 ∷ 6 ∷ 5 ∷ 4 ∷ 3 ∷ 2 ∷ 1 ∷ []) → Unknown ≡ kindOf k
-unfolding table
+unfolding tableRules
 unknown k h =
     rw (
       ne-eqb k 1 (h .0 .0 .0 .0 .0 .0 .0 .0 .0 .0 .0 .0 .0 .0 .0 .0 .1),

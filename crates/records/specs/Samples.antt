@@ -34,8 +34,8 @@ five = 0 ∷ 5 ∷ replicate 14 0
 abbrev keyBytes : List ℕ
 keyBytes = replicate 7 0 ++ (1 ∷ (replicate 7 0 ++ (2 ∷ [])))
 
-unfoldable pub table : List Sample
-table =
+unfoldable pub sampleTable : List Sample
+sampleTable =
     ([] gives ended)
     -- another kind: 0, 12, and FREE at the service port
     ∷ (0 ∷ [] gives refused)
@@ -61,6 +61,6 @@ table =
     ∷ []
 
 -- Each input starts with just what is expected.
-pub samples : map (λ s. decode (input s)) table ≡ map next table
-unfolding table number zeroed row dataLength names kindNumber lengthOf operandsLength among kindOf credential newKey withCredential createWith keyWith renewWith decodeCall decodeKnown decodeBody nameOf dataOf nextOf decode
+pub samples : map (λ s. decode (input s)) sampleTable ≡ map next sampleTable
+unfolding sampleTable number zeroed row dataLength names kindNumber lengthOf operandsLength among kindOf credential newKey withCredential createWith keyWith renewWith decodeCall decodeKnown decodeBody nameOf dataOf nextOf decode
 samples = refl

@@ -115,18 +115,18 @@ cardWith byte = record {
 
 -- ---- a session
 
-abbrev request : Call → Request
-request call = record { call = call; lent = lending [] }
+abbrev hosted : Call → Request
+hosted call = record { call = call; lent = lending [] }
 
 -- Block 1 is read and written by its keys, block 3 is asked for in vain, and a DELETE frees block 2.
 unfoldable pub session : List Request
 session =
-    request (Read (record { block = 1; credential = KeyCredential 1 2; interval = 10 }))
+    hosted (Read (record { block = 1; credential = KeyCredential 1 2; interval = 10 }))
     ∷ record { call = Write (record { block = 1; credential = KeyCredential 3 4; interval = 10 }); lent = lending (replicate 512 9) }
-    ∷ request (Read (record { block = 3; credential = Reference 1; interval = 0 }))
-    ∷ request (Delete (record { source = 1; credential = KeyCredential 3 4; destination = 2 }))
-    ∷ request (Read (record { block = 1; credential = KeyCredential 1 2; interval = 0 }))
-    ∷ request Free
+    ∷ hosted (Read (record { block = 3; credential = Reference 1; interval = 0 }))
+    ∷ hosted (Delete (record { source = 1; credential = KeyCredential 3 4; destination = 2 }))
+    ∷ hosted (Read (record { block = 1; credential = KeyCredential 1 2; interval = 0 }))
+    ∷ hosted Free
     ∷ []
 
 -- ---- what is computed of them

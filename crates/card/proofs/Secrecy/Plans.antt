@@ -41,7 +41,7 @@ use Rattle.card.specs.declared.Call.{Call}
 use Rattle.card.specs.declared.Call.the-variants.{Read, Write, Alloc, Create, Delete, Key, Renew, Force, Free, Tick, Audit}
 use Rattle.card.specs.PicksLaws.{Without, Distinct, none, more, picks-takeable}
 use Rattle.card.proofs.Secrecy.Closed.{Closed, Regular, Grown, inUse-added, used-added}
-use Rattle.card.proofs.Secrecy.Steps.{AllowedAll}
+use Rattle.card.proofs.Secrecy.StepsAlike.{AllowedAll}
 use Rattle.card.proofs.Secrecy.Opened.{AllPresented, opened-within}
 
 -- A sound card has the lengths that every change keeps.

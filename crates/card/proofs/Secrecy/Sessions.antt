@@ -27,7 +27,7 @@ use Rattle.card.specs.declared.Refusal.{Refusal}
 use Rattle.card.specs.declared.Call.{Call}
 use Rattle.card.specs.declared.Call.the-variants.{Read, Write, Alloc, Create, Delete, Key, Renew, Force, Free, Tick, Audit}
 use Rattle.card.proofs.Secrecy.Closed.{Closed}
-use Rattle.card.proofs.Secrecy.Steps.{Alike, Kept, GrownAll, grows, closed-changes, alike-changes, covered, FreesNone, KeptApart, apart-changes}
+use Rattle.card.proofs.Secrecy.StepsAlike.{Alike, Kept, GrownAll, grows, closed-changes, alike-changes, covered, FreesNone, KeptApart, apart-changes}
 use Rattle.card.proofs.Secrecy.Opened.{AllPresented}
 use Rattle.card.proofs.Secrecy.Plans.{sound-regular, ShownIn, Safe, CallPresents, safe}
 

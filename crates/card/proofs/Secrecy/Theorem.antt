@@ -21,7 +21,7 @@ use Rattle.card.specs.declared.Credential.{Credential}
 use Rattle.card.specs.declared.Credential.the-variants.{Nothing, Reference, Key}
 use Rattle.card.proofs.Guarantees.KeepsSound.{done-sound}
 use Rattle.card.proofs.Secrecy.Closed.{Closed}
-use Rattle.card.proofs.Secrecy.Steps.{Alike}
+use Rattle.card.proofs.Secrecy.StepsAlike.{Alike}
 use Rattle.card.proofs.Secrecy.Sessions.{KeyLink, CallsKeepSound, AllPresent, BothRun, both-run, hidden-kept}
 
 -- ---- the statement

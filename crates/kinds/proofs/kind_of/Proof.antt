@@ -1,75 +1,75 @@
 -- `kinds::kind_of` meets its contract: each arm is one kind of the table, and any other number is none.
 -- Assumes nothing.
-use Rattle.kinds.proofs.Table.{table, at-kind, unknown}
+use Rattle.kinds.proofs.Table.{tableRules, at-kind, unknown}
 use Rattle.kinds.proofs.kind_of.Statement.{statement}
 use Rattle.kinds.proofs.kind_of.Tie as tie
 
 returns : tie.Need-returns
-unfolding table
+unfolding tableRules
 returns c = at-kind (c .match .keys1)
 
 returns-2 : tie.Need-returns-2
-unfolding table
+unfolding tableRules
 returns-2 c = at-kind (c .match .keys2)
 
 returns-3 : tie.Need-returns-3
-unfolding table
+unfolding tableRules
 returns-3 c = at-kind (c .match .keys3)
 
 returns-4 : tie.Need-returns-4
-unfolding table
+unfolding tableRules
 returns-4 c = at-kind (c .match .keys4)
 
 returns-5 : tie.Need-returns-5
-unfolding table
+unfolding tableRules
 returns-5 c = at-kind (c .match .keys5)
 
 returns-6 : tie.Need-returns-6
-unfolding table
+unfolding tableRules
 returns-6 c = at-kind (c .match .keys6)
 
 returns-7 : tie.Need-returns-7
-unfolding table
+unfolding tableRules
 returns-7 c = at-kind (c .match .keys7)
 
 returns-8 : tie.Need-returns-8
-unfolding table
+unfolding tableRules
 returns-8 c = at-kind (c .match .keys8)
 
 returns-9 : tie.Need-returns-9
-unfolding table
+unfolding tableRules
 returns-9 c = at-kind (c .match .keys9)
 
 returns-10 : tie.Need-returns-10
-unfolding table
+unfolding tableRules
 returns-10 c = at-kind (c .match .keys10)
 
 returns-11 : tie.Need-returns-11
-unfolding table
+unfolding tableRules
 returns-11 c = at-kind (c .match .keys11)
 
 returns-12 : tie.Need-returns-12
-unfolding table
+unfolding tableRules
 returns-12 c = at-kind (c .match .keys12)
 
 returns-13 : tie.Need-returns-13
-unfolding table
+unfolding tableRules
 returns-13 c = at-kind (c .match .keys13)
 
 returns-14 : tie.Need-returns-14
-unfolding table
+unfolding tableRules
 returns-14 c = at-kind (c .match .keys14)
 
 returns-15 : tie.Need-returns-15
-unfolding table
+unfolding tableRules
 returns-15 c = at-kind (c .match .keys15)
 
 returns-16 : tie.Need-returns-16
-unfolding table
+unfolding tableRules
 returns-16 c = at-kind (c .match .keys16)
 
 returns-17 : tie.Need-returns-17
-unfolding table
+unfolding tableRules
 returns-17 c = at-kind (c .match .keys17)
 
 returns-18 : tie.Need-returns-18

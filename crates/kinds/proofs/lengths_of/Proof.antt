@@ -1,6 +1,6 @@
 -- `kinds::lengths_of` meets its contract: each arm is one row of the table. Assumes nothing.
 use mathlib.Core.Path.{_∙_}
-use Rattle.kinds.proofs.Table.{table, at-name}
+use Rattle.kinds.proofs.Table.{tableRules, at-name}
 use borrow.Author.Needs.{needs}
 use Rattle.kinds.proofs.lengths_of.Statement.{statement}
 use Rattle.kinds.proofs.lengths_of.Tie as tie
@@ -72,47 +72,47 @@ both-requires-11 : tie.Need-both-requires-11
 both-requires-11 c κs = search needs
 
 returns : tie.Need-returns
-unfolding table
+unfolding tableRules
 returns c = c .both .ensures ∙ at-name (c .before .enum-told .given .1)
 
 returns-2 : tie.Need-returns-2
-unfolding table
+unfolding tableRules
 returns-2 c = c .both2 .ensures ∙ at-name (c .before .enum-told2 .given .1)
 
 returns-3 : tie.Need-returns-3
-unfolding table
+unfolding tableRules
 returns-3 c = c .both3 .ensures ∙ at-name (c .before .enum-told3 .given .1)
 
 returns-4 : tie.Need-returns-4
-unfolding table
+unfolding tableRules
 returns-4 c = c .both4 .ensures ∙ at-name (c .before .enum-told4 .given .1)
 
 returns-5 : tie.Need-returns-5
-unfolding table
+unfolding tableRules
 returns-5 c = c .both5 .ensures ∙ at-name (c .before .enum-told5 .given .1)
 
 returns-6 : tie.Need-returns-6
-unfolding table
+unfolding tableRules
 returns-6 c = c .both6 .ensures ∙ at-name (c .before .enum-told6 .given .1)
 
 returns-7 : tie.Need-returns-7
-unfolding table
+unfolding tableRules
 returns-7 c = c .both7 .ensures ∙ at-name (c .before .enum-told7 .given .1)
 
 returns-8 : tie.Need-returns-8
-unfolding table
+unfolding tableRules
 returns-8 c = c .both8 .ensures ∙ at-name (c .before .enum-told8 .given .1)
 
 returns-9 : tie.Need-returns-9
-unfolding table
+unfolding tableRules
 returns-9 c = c .both9 .ensures ∙ at-name (c .before .enum-told9 .given .1)
 
 returns-10 : tie.Need-returns-10
-unfolding table
+unfolding tableRules
 returns-10 c = c .both10 .ensures ∙ at-name (c .before .enum-told10 .given .1)
 
 returns-11 : tie.Need-returns-11
-unfolding table
+unfolding tableRules
 returns-11 c = c .both11 .ensures ∙ at-name (c .before .enum-told11 .given .1)
 
 pub lengths-of-spec : {M : Type 1} → statement M

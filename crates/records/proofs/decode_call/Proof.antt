@@ -2,7 +2,7 @@
 -- Assumes nothing.
 use borrow.Author.Needs.{needs}
 use Rattle.records.specs.DecodeLaws.{by-name, room, free, audit}
-use Rattle.kinds.proofs.Table.{table}
+use Rattle.kinds.proofs.Table.{tableRules}
 use Rattle.records.proofs.decode_call.Statement.{statement}
 use Rattle.records.proofs.decode_call.Tie as tie
 
@@ -10,56 +10,56 @@ enum-told : tie.Need-enum-told
 enum-told c = search needs
 
 decode-read-requires : tie.Need-decode-read-requires
-unfolding table
+unfolding tableRules
 decode-read-requires c κs = room (c .enum-told .given .1) (c .before .before .before .pre)
 
 enum-told-2 : tie.Need-enum-told-2
 enum-told-2 c = search needs
 
 decode-write-requires : tie.Need-decode-write-requires
-unfolding table
+unfolding tableRules
 decode-write-requires c κs = room (c .enum-told2 .given .1) (c .before .before .before .pre)
 
 enum-told-3 : tie.Need-enum-told-3
 enum-told-3 c = search needs
 
 decode-alloc-requires : tie.Need-decode-alloc-requires
-unfolding table
+unfolding tableRules
 decode-alloc-requires c κs = room (c .enum-told3 .given .1) (c .before .before .before .pre)
 
 enum-told-4 : tie.Need-enum-told-4
 enum-told-4 c = search needs
 
 decode-create-requires : tie.Need-decode-create-requires
-unfolding table
+unfolding tableRules
 decode-create-requires c κs = room (c .enum-told4 .given .1) (c .before .before .before .pre)
 
 enum-told-5 : tie.Need-enum-told-5
 enum-told-5 c = search needs
 
 decode-delete-requires : tie.Need-decode-delete-requires
-unfolding table
+unfolding tableRules
 decode-delete-requires c κs = room (c .enum-told5 .given .1) (c .before .before .before .pre)
 
 enum-told-6 : tie.Need-enum-told-6
 enum-told-6 c = search needs
 
 decode-key-requires : tie.Need-decode-key-requires
-unfolding table
+unfolding tableRules
 decode-key-requires c κs = room (c .enum-told6 .given .1) (c .before .before .before .pre)
 
 enum-told-7 : tie.Need-enum-told-7
 enum-told-7 c = search needs
 
 decode-renew-requires : tie.Need-decode-renew-requires
-unfolding table
+unfolding tableRules
 decode-renew-requires c κs = room (c .enum-told7 .given .1) (c .before .before .before .pre)
 
 enum-told-8 : tie.Need-enum-told-8
 enum-told-8 c = search needs
 
 decode-force-requires : tie.Need-decode-force-requires
-unfolding table
+unfolding tableRules
 decode-force-requires c κs = room (c .enum-told8 .given .1) (c .before .before .before .pre)
 
 enum-told-9 : tie.Need-enum-told-9
@@ -69,7 +69,7 @@ enum-told-10 : tie.Need-enum-told-10
 enum-told-10 c = search needs
 
 decode-tick-requires : tie.Need-decode-tick-requires
-unfolding table
+unfolding tableRules
 decode-tick-requires c κs = room (c .enum-told10 .given .1) (c .before .before .before .pre)
 
 enum-told-11 : tie.Need-enum-told-11
