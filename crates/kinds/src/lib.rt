@@ -94,10 +94,7 @@ pub fn body_length(kind: u8) -> Length
 {
     let known = kind_of(kind);
     match known {
-        Kind::Known(_, name) => {
-            let lengths = lengths_of(name);
-            Length::Bytes(lengths.body)
-        }
+        Kind::Known(_, name) => Length::Bytes(lengths_of(name).body),
         Kind::Unknown => Length::Unknown,
     }
 }

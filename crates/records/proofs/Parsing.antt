@@ -14,9 +14,10 @@ use Rattle.kinds.specs.declared.Kind.the-variants.{Known}
 use Rattle.kinds.specs.declared.Lengths.{Lengths}
 use Rattle.records.specs.Decode.{decodeCall, nameOf, decodeBody}
 use Rattle.records.specs.DecodeLaws.{whole, decoded-kind}
-use Rattle.records.specs.Parsed.{ParsedIs}
+use Rattle.records.specs.Parsed.{parsedBad, ParsedIs}
 use Rattle.records.specs.declared.Decoding.{Decoding}
 use Rattle.records.specs.declared.Decoding.the-variants.{Decoded, Bad}
+use Rattle.records.specs.declared.Parsed.{Parsed}
 
 -- ---- the lengths of a call
 
@@ -37,14 +38,16 @@ body-room name e h = rw (body-is name e) at h
 
 -- ---- what is returned
 
-pub parsed-bad : (kind : ℕ) (xs : List ℕ) → Bad ≡ decodeBody kind xs → ParsedIs kind xs (record { decoding = Bad; payload = 0; end = 0 })
-parsed-bad kind xs e = record {
-  decodes = e;
-  ordered = omega arith;
-  within = omega arith;
-  payloadAt = λ d. absurd (apart d);
-  endAt = λ d. absurd (apart d);
-}
+pub parsed-bad : (kind : ℕ) (xs : List ℕ) {r : Parsed} → r ≡ parsedBad → Bad ≡ decodeBody kind xs → ParsedIs kind xs r
+parsed-bad kind xs b e =
+    rw b
+    (record {
+      decodes = e;
+      ordered = omega arith;
+      within = omega arith;
+      payloadAt = λ d. absurd (apart d);
+      endAt = λ d. absurd (apart d);
+    })
   where
     apart : {port : Port} {call : Call} → Bad ≡ Decoded port call → ⊥
     apart d = let z : _≡_ {A = ℕ} 0 1 = cc in omega arith

@@ -7,8 +7,11 @@ use Rattle.card.specs.declared.Port.{Port}
 use Rattle.card.specs.declared.Call.{Call}
 use Rattle.kinds.specs.Kinds.{lengthOf, operandsLength}
 use Rattle.records.specs.Decode.{nameOf, decodeBody}
-use Rattle.records.specs.declared.Decoding.the-variants.{Decoded}
+use Rattle.records.specs.declared.Decoding.the-variants.{Decoded, Bad}
 use Rattle.records.specs.declared.Parsed.{Parsed}
+
+abbrev pub parsedBad : Parsed
+parsedBad = record { decoding = Bad; payload = 0; end = 0 }
 
 -- A decoded call with the places of its body: its data start behind its operands. Both places lie within the bytes in any case.
 pub record ParsedIs (kind : ℕ) (xs : List ℕ) (r : Parsed) : Type 0 where

@@ -21,7 +21,7 @@ ghost use Prim.Native.Nat.{_≤_};
 ghost use lib.ListN.{length};
 ghost use Rattle.kinds.specs.Kinds.{lengthOf};
 ghost use Rattle.records.specs.Decode.{readWith, writeWith, allocWith, createWith, deleteWith, keyWith, renewWith, decodeCall};
-ghost use Rattle.records.specs.Parsed.{ParsedIs};
+ghost use Rattle.records.specs.Parsed.{parsedBad, ParsedIs};
 
 // A call at its port, or refusal 13.
 pub enum Decoding {
@@ -311,32 +311,33 @@ fn decode_call(port: Port, name: Name, body: &[u8]) -> Decoding
     }
 }
 
+// Refusal 13: there is no body.
+fn bad() -> Parsed
+    ensures { λ r. ⌜ r ≡ parsedBad ⌝ }
+{
+    Parsed {
+        decoding: Decoding::Bad,
+        payload: 0,
+        end: 0,
+    }
+}
+
 // What a kind and the bytes behind it hold, of which only the body's are looked at.
 pub fn decode(kind: u8, body: &[u8]) -> Parsed
     ensures { λ r. ⌜ ParsedIs kind (now (body .entry)) r ⌝ }
 {
     let known = kinds::kind_of(kind);
-    match known {
-        Kind::Known(port, name) => {
-            let lengths = kinds::lengths_of(name);
-            if body.len() < lengths.body {
-                return Parsed {
-                    decoding: Decoding::Bad,
-                    payload: 0,
-                    end: 0,
-                };
-            }
-            let decoding = decode_call(port, name, body);
-            Parsed {
-                decoding,
-                payload: lengths.operands,
-                end: lengths.body,
-            }
-        }
-        Kind::Unknown => Parsed {
-            decoding: Decoding::Bad,
-            payload: 0,
-            end: 0,
-        },
+    let Kind::Known(port, name) = known else {
+        return bad();
+    };
+    let lengths = kinds::lengths_of(name);
+    if body.len() < lengths.body {
+        return bad();
+    }
+    let decoding = decode_call(port, name, body);
+    Parsed {
+        decoding,
+        payload: lengths.operands,
+        end: lengths.body,
     }
 }
