@@ -4,6 +4,11 @@ use borrow.Author.Needs.{needs}
 use Rattle.adapter.proofs.perform.Statement.{statement}
 use Rattle.adapter.proofs.perform.Tie as tie
 
+-- ---- places of the code
+
+abbrev start-from-decoding : tie.After-decoding → tie.Start
+start-from-decoding c = search
+
 enum-known-decoding : tie.Need-enum-known-decoding
 enum-known-decoding c = search needs
 
@@ -11,15 +16,10 @@ enum-told : tie.Need-enum-told
 enum-told c = search needs
 
 returns : tie.Need-returns
-returns c =
-    let start = c .before .before .before .before .before .before .before .before .before .before .before .before in
-    effect-bad (start .args .input .now) (start .args .out .now) (start .args .places .now) (start .args .value .now) (start .args .info .now) _ (c .enum-told .given .1)
+returns c = search effect-bad
 
 returns-2 : tie.Need-returns-2
-returns-2 c =
-    let at-decoding = c .before .before in
-    let start = at-decoding .before .before .before .before .before .before .before .before .before .before .before .before in
-    effect-record (start .args .input .now) (start .args .out .now) (start .args .places .now) (start .args .value .now) (start .args .info .now) _ (at-decoding .decoding .given .1) (c .if1 .taken)
+returns-2 c = search effect-record
 
 load-requires : tie.Need-load-requires
 load-requires c κs = search needs
@@ -31,40 +31,40 @@ settle-requires : tie.Need-settle-requires
 settle-requires c κs = search needs
 
 same-length : tie.Need-same-length
-same-length c = c .before .before .settle .kept .0
+same-length c = search
 
 same-length-2 : tie.Need-same-length-2
-same-length-2 c = c .before .before .before .before .before .before .before .before .before .before .before .before .before .before .before .before .before .before .before .before .before .perform .kept .1 .0
+same-length-2 c = search
 
 same-length-3 : tie.Need-same-length-3
-same-length-3 c = c .before .before .before .before .before .before .before .before .before .before .before .before .before .before .before .before .before .before .before .before .before .perform .kept .1 .1 .0
+same-length-3 c = search
 
 same-length-4 : tie.Need-same-length-4
-same-length-4 c = c .before .before .before .before .before .before .before .before .before .before .before .before .before .before .before .before .before .before .before .before .before .perform .kept .1 .1 .1 .0
+same-length-4 c = search
 
 same-length-5 : tie.Need-same-length-5
-same-length-5 c = c .before .before .before .before .before .before .before .before .before .before .before .before .before .before .before .before .before .before .before .before .before .perform .kept .1 .1 .1 .1 .0
+same-length-5 c = search
 
 same-length-6 : tie.Need-same-length-6
-same-length-6 c = c .before .before .before .before .before .before .before .before .before .before .before .before .before .before .before .before .before .before .before .before .before .perform .kept .1 .1 .1 .1 .1 .0
+same-length-6 c = search
 
 same-length-7 : tie.Need-same-length-7
-same-length-7 c = c .before .before .before .before .before .before .before .before .before .before .before .before .before .before .before .before .before .before .before .before .before .perform .kept .1 .1 .1 .1 .1 .1 .0
+same-length-7 c = search
 
 same-length-8 : tie.Need-same-length-8
-same-length-8 c = c .before .before .before .before .before .before .before .before .before .before .before .before .before .before .before .before .before .before .before .before .before .perform .kept .1 .1 .1 .1 .1 .1 .1 .1 .1 .1 .0
+same-length-8 c = search
 
 same-length-9 : tie.Need-same-length-9
-same-length-9 c = c .before .before .before .before .before .before .before .before .before .before .before .before .before .before .before .before .before .before .before .before .before .perform .kept .1 .1 .1 .1 .1 .1 .1 .1 .1 .1 .1 .0
+same-length-9 c = search
 
 returns-3 : tie.Need-returns-3
 returns-3 c =
-    let at-settle = c .before .before in
-    let at-perform = at-settle .before .before .before .before .before .before .before .before .before .before .before .before .before .before .before .before .before .before .before in
-    let at-load = at-perform .before .before .before .before .before .before .before .before .before in
-    let at-if1 = at-load .before .before in
-    let at-decoding = at-if1 .before .before in
-    let start = at-decoding .before .before .before .before .before .before .before .before .before .before .before .before in
+    let at-settle : tie.After-settle = search in
+    let at-perform : tie.After-perform = search in
+    let at-load : tie.After-load = search in
+    let at-if1 : tie.Else1 = search in
+    let at-decoding : tie.After-decoding = search in
+    let start = start-from-decoding at-decoding in
     effect-called (start .args .input .now) (start .args .out .now) (start .args .places .now) (start .args .value .now) (start .args .info .now) _ _ _ _ _ _ _ _ _ _ _ _ _ (at-decoding .decoding .given .1) (at-if1 .if1 .left) (at-load .load .ensures) (at-perform .perform .ensures) (at-settle .settle .ensures .0) (at-settle .settle .ensures .1 .0) (at-settle .settle .ensures .1 .1)
 
 pub perform-spec : {M : Type 1} → statement M

@@ -36,7 +36,7 @@ same-length-7 c = search needs
 
 returns : tie.Need-returns
 returns c =
-    let at-perform = c .before .before .before .before .before .before .before .before .before .before .before .before .before .before .before .before in
+    let at-perform : tie.After-perform = search in
     no-places (no-out (at-perform .perform .ensures) (at-perform .perform .kept .1 .1 .1 .1 .1 .1 .1 .1 .1 .0)) (at-perform .perform .kept .1 .1 .1 .1 .1 .1 .1 .1 .1 .1 .0)
 
 pub perform-without-buffers-spec : {M : Type 1} → statement M

@@ -11,8 +11,16 @@ use borrow.Author.Needs.{needs}
 use Rattle.allocation.proofs.alloc_sound.Statement.{statement}
 use Rattle.allocation.proofs.alloc_sound.Tie as tie
 
+-- ---- places of the code
+
+abbrev start-from-alloc-check-arg : tie.After-alloc-check-arg → tie.Start
+start-from-alloc-check-arg c = search
+
+abbrev start-from-alloc-check : tie.After-alloc-check → tie.Start
+start-from-alloc-check c = search
+
 alloc-check-requires : tie.Need-alloc-check-requires
-alloc-check-requires c κs = c .before .before .before .before .before .before .before .before .before .before .before .before .pre
+alloc-check-requires c κs = search
 
 enum-known-why : tie.Need-enum-known-why
 enum-known-why c = search needs
@@ -31,11 +39,10 @@ cast-take-all c = omega arith
 
 take-all-requires : tie.Need-take-all-requires
 take-all-requires c κs =
-    let at-wanted = c .before .before .before .before .before .before in
-    let at-enum-told = at-wanted .before in
-    let at-alloc-check = at-enum-told .before .before in
-    let start = at-alloc-check .before .before .before .before .before .before .before .before .before .before .before .before .before in
-    let a = start .args in let k = card (a .info) (a .flags .now) (a .keys .now) (a .counts .now) (a .pointers .now) (a .windows .now) (a .contents .now) in can-take-all (a .port) k (a .o) (a .places .now) (start .pre) (passed-check (a .port) k _ (at-alloc-check .alloc-check .ensures) (at-enum-told .enum-told .given .1)) (at-wanted .wanted .ensures)
+    let at-wanted : tie.After-wanted = search in
+    let at-alloc-check-arg : tie.After-alloc-check-arg = search in
+    let start = start-from-alloc-check-arg at-alloc-check-arg in
+    let a = start .args in let k = card (a .info) (a .flags .now) (a .keys .now) (a .counts .now) (a .pointers .now) (a .windows .now) (a .contents .now) in can-take-all (a .port) k (a .o) (a .places .now) (start .pre) (search passed-check) (at-wanted .wanted .ensures)
 
 done-requires : tie.Need-done-requires
 done-requires c κs = tt
@@ -57,31 +64,33 @@ same-length-5 c = refl
 
 returns : tie.Need-returns
 unfolding performSound
-returns c = let a = c .before .before .before .before .before .before .before .before .before .before .before .before .before .before .before .before .before .args in let k = card (a .info) (a .flags .now) (a .keys .now) (a .counts .now) (a .pointers .now) (a .windows .now) (a .contents .now) in refuses k _ _ (c .refused .ensures) (refused-check (a .port) k _ (c .before .before .before .before .alloc-check .ensures) (c .before .before .why .given .1))
+returns c =
+    let at-alloc-check : tie.After-alloc-check = search in
+    let start = start-from-alloc-check at-alloc-check in
+    let a = start .args in let k = card (a .info) (a .flags .now) (a .keys .now) (a .counts .now) (a .pointers .now) (a .windows .now) (a .contents .now) in refuses k _ _ (c .refused .ensures) (refused-check (a .port) k _ (at-alloc-check .alloc-check .ensures) (c .before .before .why .given .1))
 
 same-length-6 : tie.Need-same-length-6
-same-length-6 c = c .before .before .before .before .before .before .before .before .before .before .before .take-all .kept .1 .0
+same-length-6 c = search
 
 same-length-7 : tie.Need-same-length-7
-same-length-7 c = c .before .before .before .before .before .before .before .before .before .before .before .take-all .kept .1 .1 .1 .0
+same-length-7 c = search
 
 same-length-8 : tie.Need-same-length-8
-same-length-8 c = c .before .before .before .before .before .before .before .before .before .before .before .take-all .kept .1 .1 .1 .1 .0
+same-length-8 c = search
 
 same-length-9 : tie.Need-same-length-9
-same-length-9 c = c .before .before .before .before .before .before .before .before .before .before .before .take-all .kept .1 .1 .1 .1 .1 .1 .0
+same-length-9 c = search
 
 same-length-10 : tie.Need-same-length-10
-same-length-10 c = c .before .before .before .before .before .before .before .before .before .before .before .take-all .kept .1 .1 .1 .1 .1 .1 .1 .1 .1 .1 .0
+same-length-10 c = search
 
 returns-2 : tie.Need-returns-2
 returns-2 c =
-    let at-take-all = c .before .before .before .before .before .before .before .before .before .before .before in
-    let at-wanted = at-take-all .before .before .before .before .before .before .before in
-    let at-enum-told = at-wanted .before in
-    let at-alloc-check = at-enum-told .before .before in
-    let start = at-alloc-check .before .before .before .before .before .before .before .before .before .before .before .before .before in
-    let a = start .args in let k = card (a .info) (a .flags .now) (a .keys .now) (a .counts .now) (a .pointers .now) (a .windows .now) (a .contents .now) in alloc-done (a .port) k (a .o) (a .places .now) (passed-check (a .port) k _ (at-alloc-check .alloc-check .ensures) (at-enum-told .enum-told .given .1)) (at-wanted .wanted .ensures) (c .done .ensures) (at-take-all .take-all .ensures)
+    let at-take-all : tie.After-take-all = search in
+    let at-wanted : tie.After-wanted = search in
+    let at-alloc-check-arg : tie.After-alloc-check-arg = search in
+    let start = start-from-alloc-check-arg at-alloc-check-arg in
+    let a = start .args in let k = card (a .info) (a .flags .now) (a .keys .now) (a .counts .now) (a .pointers .now) (a .windows .now) (a .contents .now) in alloc-done (a .port) k (a .o) (a .places .now) (search passed-check) (at-wanted .wanted .ensures) (c .done .ensures) (at-take-all .take-all .ensures)
 
 pub alloc-sound-spec : {M : Type 1} → statement M
 alloc-sound-spec =

@@ -25,22 +25,24 @@ clear-requires : tie.Need-clear-requires
 clear-requires c κs = tt
 
 slice-write-flags : tie.Need-slice-write-flags
-slice-write-flags c = c .before .before .before .before .before .before .before .pre .inFlags
+slice-write-flags c = search
 
 mul-counts : tie.Need-mul-counts
 mul-counts c = omega arith
 
 slice-read-counts : tie.Need-slice-read-counts
-slice-read-counts c = c .before .before .before .before .before .before .before .before .pre .inCounts
+slice-read-counts c = search
 
 add-counts : tie.Need-add-counts
-add-counts c = omega (arith, c .before .before .before .before .before .before .before .before .pre .countLow)
+add-counts c =
+    let start : tie.Start = search in
+    omega (arith, start .pre .countLow)
 
 mul-counts-2 : tie.Need-mul-counts-2
 mul-counts-2 c = omega arith
 
 slice-write-counts : tie.Need-slice-write-counts
-slice-write-counts c = c .before .before .before .before .before .before .before .before .pre .inCounts
+slice-write-counts c = search
 
 same-length : tie.Need-same-length
 same-length c = search needs
@@ -52,7 +54,7 @@ same-length-3 : tie.Need-same-length-3
 same-length-3 c = search needs
 
 returns : tie.Need-returns
-returns c = block-taken (c .before .before .before .before .before .before .before .before .pre) (c .before .before .before .clear .ensures)
+returns c = search block-taken
 
 pub take-spec : {M : Type 1} → statement M
 take-spec =

@@ -1,7 +1,7 @@
 -- `allocation::take_all` takes the picks: the walk so far has taken the first of them. The measure is what is left to pass.
 -- Assumes nothing.
 use Prim.Native.Nat.{_+_, _-_}
-use mathlib.Core.Path.{refl, sym}
+use mathlib.Core.Path.{sym}
 use native.Mathlib.Omega.{arith}
 use Rattle.card.specs.Card.{card}
 use Rattle.allocation.proofs.Outward.{few-taken, walked-spread, next-below, next-narrow, walked-fewer, can-take, flags-same, counts-same, contents-same}
@@ -18,9 +18,7 @@ abbrev μ-loop : tie.MeasureT-loop
     low + (blocks - high)
 
 loop-holds : tie.Need-loop-holds Inv-loop μ-loop
-loop-holds c =
-    let at-pre = c .before .before .before .before .before .before .before in
-    collected-start _ _ (at-pre .pre .0) (at-pre .pre .1 .0) refl (at-pre .pre .1 .1)
+loop-holds c = search collected-start
 
 next-requires : tie.Need-next-requires Inv-loop μ-loop
 next-requires c κs = walked-spread (c .before .loop .inv .walked) (c .loop-test .taken)
@@ -29,16 +27,21 @@ low-after-requires : tie.Need-low-after-requires Inv-loop μ-loop
 low-after-requires c κs = tt
 
 high-after-requires : tie.Need-high-after-requires Inv-loop μ-loop
-high-after-requires c κs = next-narrow (c .before .before .before .loop .inv .walked) (c .before .next .ensures)
+high-after-requires c κs = search next-narrow
 
 slice-read-allocated : tie.Need-slice-read-allocated Inv-loop μ-loop
-slice-read-allocated c = next-below (c .before .before .before .before .before .loop .inv .walked) (c .before .before .before .next .ensures)
+slice-read-allocated c =
+    let at-loop : tie.At-loop Inv-loop μ-loop = search in
+    next-below (at-loop .loop .inv .walked) (c .before .before .before .next .ensures)
 
 allocated-requires : tie.Need-allocated-requires Inv-loop μ-loop
 allocated-requires c κs = tt
 
 cast-number : tie.Need-cast-number Inv-loop μ-loop
-cast-number c = omega (arith, next-narrow (c .before .before .before .before .before .before .before .loop .inv .walked) (c .before .before .before .before .before .next .ensures))
+cast-number c =
+    let at-next : tie.After-next Inv-loop μ-loop = search in
+    let at-loop : tie.At-loop Inv-loop μ-loop = search in
+    omega (arith, next-narrow (at-loop .loop .inv .walked) (at-next .next .ensures))
 
 mul-pointer : tie.Need-mul-pointer Inv-loop μ-loop
 mul-pointer c = omega arith
@@ -47,113 +50,104 @@ cast-pointer : tie.Need-cast-pointer Inv-loop μ-loop
 cast-pointer c = omega arith
 
 add-pointer : tie.Need-add-pointer Inv-loop μ-loop
-add-pointer c = omega (arith, next-narrow (c .before .before .before .before .before .before .before .loop .inv .walked) (c .before .before .before .before .before .next .ensures))
+add-pointer c =
+    let at-next : tie.After-next Inv-loop μ-loop = search in
+    let at-loop : tie.At-loop Inv-loop μ-loop = search in
+    omega (arith, next-narrow (at-loop .loop .inv .walked) (at-next .next .ensures))
 
 take-requires : tie.Need-take-requires Inv-loop μ-loop
 take-requires c κs =
-    let at-if1 = c .before .before .before in
-    let at-next = at-if1 .before .before .before .before .before in
-    let at-loop = at-next .before .before in
+    let at-next : tie.After-next Inv-loop μ-loop = search in
+    let at-loop : tie.At-loop Inv-loop μ-loop = search in
     can-take (at-loop .loop .inv .walked) (at-next .next .ensures)
 
 slice-aggregate-insert : tie.Need-slice-aggregate-insert Inv-loop μ-loop
-slice-aggregate-insert c = sym (c .before .before .before .before .before .before .before .before .before .before .before .before .before .before .before .before .before .before .loop .inv .size)
+slice-aggregate-insert c = search sym
 
 insert-requires : tie.Need-insert-requires Inv-loop μ-loop
-insert-requires c κs =
-    let at-if1 = c .before .before .before .before .before .before .before .before .before .before .before in
-    let at-next = at-if1 .before .before .before .before .before in
-    let at-loop-test = at-next .before in
-    let at-loop = at-loop-test .before in
-    addable (at-loop .loop .inv) (at-next .next .ensures) (at-loop-test .loop-test .taken) (at-if1 .before .allocated .ensures) (at-if1 .if1 .taken)
+insert-requires c κs = search addable
 
 mul-places : tie.Need-mul-places Inv-loop μ-loop
-mul-places c = omega (arith, c .before .before .before .before .before .before .before .before .before .before .before .before .before .before .before .before .before .before .before .loop-test .taken, few-taken (c .before .before .before .before .before .before .before .before .before .before .before .before .before .before .before .before .before .before .before .before .before .before .before .before .before .before .before .before .pre .0))
+mul-places c =
+    let at-loop-test : tie.In-loop Inv-loop μ-loop = search in
+    let start : tie.Start Inv-loop μ-loop = search in
+    omega (arith, at-loop-test .loop-test .taken, few-taken (start .pre .0))
 
 slice-write-places : tie.Need-slice-write-places Inv-loop μ-loop
-slice-write-places c = omega (arith, c .before .before .before .before .before .before .before .before .before .before .before .before .before .before .before .before .before .before .before .loop-test .taken, c .before .before .before .before .before .before .before .before .before .before .before .before .before .before .before .before .before .before .before .before .loop .inv .walked .fits, c .before .before .before .before .before .before .before .before .before .before .before .before .before .before .before .before .before .before .before .before .loop .inv .walked .samePlaces)
+slice-write-places c =
+    let at-loop-test : tie.In-loop Inv-loop μ-loop = search in
+    let at-loop : tie.At-loop Inv-loop μ-loop = search in
+    omega (arith, at-loop-test .loop-test .taken, at-loop .loop .inv .walked .fits, at-loop .loop .inv .walked .samePlaces)
 
 add-taken : tie.Need-add-taken Inv-loop μ-loop
-add-taken c = omega (arith, c .before .before .before .before .before .before .before .before .before .before .before .before .before .before .before .before .before .before .before .loop-test .taken, few-taken (c .before .before .before .before .before .before .before .before .before .before .before .before .before .before .before .before .before .before .before .before .before .before .before .before .before .before .before .before .pre .0))
+add-taken c =
+    let at-loop-test : tie.In-loop Inv-loop μ-loop = search in
+    let start : tie.Start Inv-loop μ-loop = search in
+    omega (arith, at-loop-test .loop-test .taken, few-taken (start .pre .0))
 
 loop-less : tie.Need-loop-less Inv-loop μ-loop
 loop-less c =
-    let at-high-after = c .before .before .before .before .before .before .before .before .before .before .before .before .before .before .before .before in
-    let at-low-after = at-high-after .before in
-    let at-next = at-low-after .before in
-    let at-loop = at-next .before .before in
+    let at-high-after : tie.After-high-after Inv-loop μ-loop = search in
+    let at-low-after : tie.After-low-after Inv-loop μ-loop = search in
+    let at-next : tie.After-next Inv-loop μ-loop = search in
+    let at-loop : tie.At-loop Inv-loop μ-loop = search in
     walked-fewer (at-loop .loop .inv .walked) (at-next .next .ensures) (at-low-after .low-after .ensures) (at-high-after .high-after .ensures)
 
 loop-again : tie.Need-loop-again Inv-loop μ-loop
-loop-again c =
-    let at-take = c .before .before .before .before .before .before .before .before .before in
-    let at-if1 = at-take .before .before .before .before in
-    let at-high-after = at-if1 .before .before .before in
-    let at-low-after = at-high-after .before in
-    let at-next = at-low-after .before in
-    let at-loop-test = at-next .before in
-    let at-loop = at-loop-test .before in
-    collected-taken (at-loop .loop .inv) (at-next .next .ensures) (at-loop-test .loop-test .taken) (at-if1 .before .allocated .ensures) (at-if1 .if1 .taken) (at-take .take .ensures) (c .before .insert .ensures) (at-low-after .low-after .ensures) (at-high-after .high-after .ensures)
+loop-again c = search collected-taken
 
 loop-less-2 : tie.Need-loop-less-2 Inv-loop μ-loop
 loop-less-2 c =
-    let at-high-after = c .before .before .before in
-    let at-low-after = at-high-after .before in
-    let at-next = at-low-after .before in
-    let at-loop = at-next .before .before in
-    walked-fewer (at-loop .loop .inv .walked) (at-next .next .ensures) (at-low-after .low-after .ensures) (at-high-after .high-after .ensures)
+    let at-low-after : tie.After-low-after Inv-loop μ-loop = search in
+    let at-next : tie.After-next Inv-loop μ-loop = search in
+    let at-loop : tie.At-loop Inv-loop μ-loop = search in
+    walked-fewer (at-loop .loop .inv .walked) (at-next .next .ensures) (at-low-after .low-after .ensures) (c .before .before .before .high-after .ensures)
 
 loop-again-2 : tie.Need-loop-again-2 Inv-loop μ-loop
-loop-again-2 c =
-    let at-high-after = c .before .before .before in
-    let at-low-after = at-high-after .before in
-    let at-next = at-low-after .before in
-    let at-loop = at-next .before .before in
-    collected-passed (at-loop .loop .inv) (at-next .next .ensures) (c .before .allocated .ensures) (c .if1 .left) (at-low-after .low-after .ensures) (at-high-after .high-after .ensures)
+loop-again-2 c = search collected-passed
 
 slice-aggregate-merge : tie.Need-slice-aggregate-merge Inv-loop μ-loop
-slice-aggregate-merge c = sym (c .before .before .before .loop .inv .size)
+slice-aggregate-merge c = search sym
 
 merge-requires : tie.Need-merge-requires Inv-loop μ-loop
-merge-requires c κs = mergeable (c .before .before .before .loop .inv) (c .before .before .before .before .before .before .before .before .before .before .before .pre .0 .sound) (c .before .before .loop-test .left)
+merge-requires c κs =
+    let start : tie.Start Inv-loop μ-loop = search in
+    mergeable (c .before .before .before .loop .inv) (start .pre .0 .sound) (c .before .before .loop-test .left)
 
 add-with-used : tie.Need-add-with-used Inv-loop μ-loop
-add-with-used c = omega (arith, c .before .before .before .before .before .before .before .before .before .before .before .before .before .before .before .pre .0 .room, c .before .before .before .before .before .before .before .before .before .before .before .before .before .before .before .pre .0 .sound .shaped .hasLengths .placesHigh)
+add-with-used c =
+    let start : tie.Start Inv-loop μ-loop = search in
+    omega (arith, start .pre .0 .room, start .pre .0 .sound .shaped .hasLengths .placesHigh)
 
 with-used-requires : tie.Need-with-used-requires Inv-loop μ-loop
 with-used-requires c κs = tt
 
 same-length : tie.Need-same-length Inv-loop μ-loop
 same-length c =
-    let at-loop = c .before .before .before .before .before .before .before .before in
-    let at-pre = at-loop .before .before .before .before .before .before .before .before in
-    flags-same (at-loop .loop .inv .walked) (at-pre .pre .0 .sound)
+    let at-loop : tie.At-loop Inv-loop μ-loop = search in
+    let start : tie.Start Inv-loop μ-loop = search in
+    flags-same (at-loop .loop .inv .walked) (start .pre .0 .sound)
 
 same-length-2 : tie.Need-same-length-2 Inv-loop μ-loop
 same-length-2 c =
-    let at-loop = c .before .before .before .before .before .before .before .before in
-    let at-pre = at-loop .before .before .before .before .before .before .before .before in
-    counts-same (at-loop .loop .inv .walked) (at-pre .pre .0 .sound)
+    let at-loop : tie.At-loop Inv-loop μ-loop = search in
+    let start : tie.Start Inv-loop μ-loop = search in
+    counts-same (at-loop .loop .inv .walked) (start .pre .0 .sound)
 
 same-length-3 : tie.Need-same-length-3 Inv-loop μ-loop
-same-length-3 c = c .before .before .before .before .merge .kept .0
+same-length-3 c = search
 
 same-length-4 : tie.Need-same-length-4 Inv-loop μ-loop
 same-length-4 c =
-    let at-loop = c .before .before .before .before .before .before .before .before in
-    let at-pre = at-loop .before .before .before .before .before .before .before .before in
-    contents-same (at-loop .loop .inv .walked) (at-pre .pre .0 .sound)
+    let at-loop : tie.At-loop Inv-loop μ-loop = search in
+    let start : tie.Start Inv-loop μ-loop = search in
+    contents-same (at-loop .loop .inv .walked) (start .pre .0 .sound)
 
 same-length-5 : tie.Need-same-length-5 Inv-loop μ-loop
-same-length-5 c = c .before .before .before .before .before .before .before .before .loop .inv .walked .samePlaces
+same-length-5 c = search
 
 returns : tie.Need-returns Inv-loop μ-loop
-returns c =
-    let at-merge = c .before .before .before .before in
-    let at-loop-test = at-merge .before .before .before in
-    let at-loop = at-loop-test .before in
-    let at-pre = at-loop .before .before .before .before .before .before .before .before in
-    collected-whole (at-loop .loop .inv) (at-pre .pre .0 .sound) (at-loop-test .loop-test .left) (c .with-used .ensures) (at-merge .merge .ensures)
+returns c = search collected-whole
 
 pub take-all-spec : {M : Type 1} → statement M
 take-all-spec =

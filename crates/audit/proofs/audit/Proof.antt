@@ -9,13 +9,15 @@ shaped-requires : tie.Need-shaped-requires
 shaped-requires c κs = search needs
 
 walk-requires : tie.Need-walk-requires
-walk-requires c κs = let a = c .before .before .before .before .before .before .before .before .args in let k = card (a .info) (a .flags .now) (a .keys .now) (a .counts .now) (a .pointers .now) (a .windows .now) (a .contents .now) in shaped-fit k _ (c .before .shaped .ensures) (c .if1 .taken)
+walk-requires c κs =
+    let start : tie.Start = search in
+    let a = start .args in let k = card (a .info) (a .flags .now) (a .keys .now) (a .counts .now) (a .pointers .now) (a .windows .now) (a .contents .now) in search (shaped-fit k)
 
 returns : tie.Need-returns
-returns c = let a = c .before .before .before .before .before .before .before .before .before .args in let k = card (a .info) (a .flags .now) (a .keys .now) (a .counts .now) (a .pointers .now) (a .windows .now) (a .contents .now) in shaped-verdict k _ (c .before .before .shaped .ensures) _ (c .before .if1 .taken) (c .walk .ensures)
+returns c = search shaped-verdict
 
 returns-2 : tie.Need-returns-2
-returns-2 c = let a = c .before .before .before .before .before .before .before .before .args in let k = card (a .info) (a .flags .now) (a .keys .now) (a .counts .now) (a .pointers .now) (a .windows .now) (a .contents .now) in fault-shape k _ (c .before .shaped .ensures) (c .if1 .left)
+returns-2 c = search fault-shape
 
 pub audit-spec : {M : Type 1} → statement M
 audit-spec = tie.close (tie.spec shaped-requires walk-requires returns returns-2)

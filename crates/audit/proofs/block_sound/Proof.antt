@@ -64,12 +64,9 @@ add-latest c = search needs
 
 returns : tie.Need-returns
 returns c =
-    let at-zero-words = c .before .before in
-    let at-allocated = at-zero-words .before .before .before in
-    let a = at-allocated .before .before .before .before .before .before .before .before .before .before .args in
-    sound-block (rowed (a .info) (a .flags .now) (a .keys .now) (a .counts .now) (a .windows .now)) (a .tallied) (a .b)
-    (at-allocated .allocated .ensures) (at-zero-words .before .before .has-key .ensures) (at-zero-words .before .has-key2 .ensures)
-    (at-zero-words .zero-words .ensures) (c .before .zero-words2 .ensures)
+    let start : tie.Start = search in
+    let a = start .args in
+    search (sound-block (rowed (a .info) (a .flags .now) (a .keys .now) (a .counts .now) (a .windows .now)))
 
 pub block-sound-spec : {M : Type 1} → statement M
 block-sound-spec =

@@ -13,7 +13,9 @@ allocated-requires : tie.Need-allocated-requires
 allocated-requires c κs = search needs
 
 returns : tie.Need-returns
-returns c = let a = c .before .before .before .before .before .args in allocated-inside (pointing (a .info) (a .flags .now) []) (a .b) (c .before .before .if1 .taken) (c .allocated .ensures)
+returns c =
+    let start : tie.Start = search in
+    let a = start .args in allocated-inside (pointing (a .info) (a .flags .now) []) (a .b) (c .before .before .if1 .taken) (c .allocated .ensures)
 
 returns-2 : tie.Need-returns-2
 returns-2 c = let a = c .before .before .before .args in allocated-outside (pointing (a .info) (a .flags .now) []) (a .b) (c .if1 .left)

@@ -19,7 +19,9 @@ is-allocated-requires-2 : tie.Need-is-allocated-requires-2
 is-allocated-requires-2 c κs = search needs
 
 returns : tie.Need-returns
-returns c = let a = c .before .before .before .before .args in right-pointer (pointing (a .info) (a .flags .now) []) (a .w) _ _ (c .before .before .is-allocated .ensures) (c .before .is-allocated2 .ensures)
+returns c =
+    let start : tie.Start = search in
+    let a = start .args in right-pointer (pointing (a .info) (a .flags .now) []) (a .w) _ _ (c .before .before .is-allocated .ensures) (c .before .is-allocated2 .ensures)
 
 pub pointer-right-spec : {M : Type 1} → statement M
 pointer-right-spec =

@@ -25,7 +25,9 @@ element-copy-out-block-sound : tie.Need-element-copy-out-block-sound Inv-loop μ
 element-copy-out-block-sound c = search needs
 
 block-sound-requires : tie.Need-block-sound-requires Inv-loop μ-loop
-block-sound-requires c κs = (c .before .before .before .before .before .before .before .pre, omega arith)
+block-sound-requires c κs =
+    let start : tie.Start Inv-loop μ-loop = search in
+    (start .pre, omega arith)
 
 add-b : tie.Need-add-b Inv-loop μ-loop
 add-b c = search needs
@@ -34,13 +36,17 @@ loop-less : tie.Need-loop-less Inv-loop μ-loop
 loop-less c = search needs
 
 loop-again : tie.Need-loop-again Inv-loop μ-loop
-loop-again c = passed-more (c .before .before .before .before .loop .inv) (omega arith) (sym (c .before .block-sound .ensures) ∙ c .if2 .taken)
+loop-again c =
+    let at-loop : tie.At-loop Inv-loop μ-loop = search in
+    passed-more (at-loop .loop .inv) (omega arith) (sym (c .before .block-sound .ensures) ∙ c .if2 .taken)
 
 returns : tie.Need-returns Inv-loop μ-loop
 returns c = sym (ap judged (passed-whole (c .before .loop .inv) (c .if1 .taken)))
 
 returns-2 : tie.Need-returns-2 Inv-loop μ-loop
-returns-2 c = sym (ap judged (passed-fault (c .before .before .before .before .loop .inv) (omega arith) (sym (c .before .block-sound .ensures) ∙ c .if2 .left)))
+returns-2 c =
+    let at-loop : tie.At-loop Inv-loop μ-loop = search in
+    sym (ap judged (passed-fault (at-loop .loop .inv) (omega arith) (sym (c .before .block-sound .ensures) ∙ c .if2 .left)))
 
 pub walk-blocks-spec : {M : Type 1} → statement M
 walk-blocks-spec =

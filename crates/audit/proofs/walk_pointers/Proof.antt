@@ -14,7 +14,7 @@ abbrev μ-walk : tie.MeasureT-walk
 μ-walk info flags pointers tally₀ used least₀ i₀ tally least i = info .used - i
 
 walk-holds : tie.Need-walk-holds Inv-walk μ-walk
-walk-holds c = walk-none (c .before .before .pre .0) _ (c .before .before .pre .1)
+walk-holds c = search walk-none
 
 mul-w : tie.Need-mul-w Inv-walk μ-walk
 mul-w c = search needs
@@ -35,19 +35,26 @@ mul-tally : tie.Need-mul-tally Inv-walk μ-walk
 mul-tally c = omega arith
 
 element-copy-out-tally : tie.Need-element-copy-out-tally Inv-walk μ-walk
-element-copy-out-tally c = placed (c .before .before .before .before .before .before .before .pre .0) _ _ _ (c .before .pointer-right .ensures) (c .if1 .taken)
+element-copy-out-tally c = search placed
 
 add-tally : tie.Need-add-tally Inv-walk μ-walk
-add-tally c = omega (arith, room (c .before .before .before .before .before .before .before .before .pre .0) (c .before .before .before .before .before .walk .inv) _ (placed (c .before .before .before .before .before .before .before .before .pre .0) _ _ _ (c .before .before .pointer-right .ensures) (c .before .if1 .taken)) (omega arith))
+add-tally c =
+    let at-walk : tie.At-walk Inv-walk μ-walk = search in
+    let start : tie.Start Inv-walk μ-walk = search in
+    omega (arith, room (start .pre .0) (at-walk .walk .inv) _ (placed (start .pre .0) _ _ _ (c .before .before .pointer-right .ensures) (c .before .if1 .taken)) (omega arith))
 
 element-write-tally : tie.Need-element-write-tally Inv-walk μ-walk
-element-write-tally c = placed (c .before .before .before .before .before .before .before .before .pre .0) _ _ _ (c .before .before .pointer-right .ensures) (c .before .if1 .taken)
+element-write-tally c = search placed
 
 cast-least : tie.Need-cast-least Inv-walk μ-walk
-cast-least c = omega (arith, c .before .before .before .shared-slice-known3 .given (c .before .before .before .before .before .walk .i))
+cast-least c =
+    let at-walk : tie.At-walk Inv-walk μ-walk = search in
+    omega (arith, c .before .before .before .shared-slice-known3 .given (at-walk .walk .i))
 
 add-least : tie.Need-add-least Inv-walk μ-walk
-add-least c = omega (arith, c .before .before .before .shared-slice-known3 .given (c .before .before .before .before .before .walk .i))
+add-least c =
+    let at-walk : tie.At-walk Inv-walk μ-walk = search in
+    omega (arith, c .before .before .before .shared-slice-known3 .given (at-walk .walk .i))
 
 add-i : tie.Need-add-i Inv-walk μ-walk
 add-i c = search needs
@@ -56,10 +63,15 @@ walk-less : tie.Need-walk-less Inv-walk μ-walk
 walk-less c = search needs
 
 walk-again : tie.Need-walk-again Inv-walk μ-walk
-walk-again c = walk-more (c .before .before .before .before .before .before .before .before .pre .0) (c .before .before .before .before .before .walk .inv) _ (c .before .before .pointer-right .ensures) (omega arith) (c .before .if1 .taken)
+walk-again c =
+    let at-walk : tie.At-walk Inv-walk μ-walk = search in
+    let start : tie.Start Inv-walk μ-walk = search in
+    walk-more (start .pre .0) (at-walk .walk .inv) _ (c .before .before .pointer-right .ensures) (omega arith) (c .before .if1 .taken)
 
 returns : tie.Need-returns Inv-walk μ-walk
-returns c = let fit = c .before .before .before .before .pre .0 in let h = c .before .walk .inv in ⊎-elim (λ w. walk-whole fit h (w .left)) (λ w. walk-fault fit h _ (w .2 .ensures) (w .0 .taken) (w .3 .left)) (c .walk-test .came)
+returns c =
+    let start : tie.Start Inv-walk μ-walk = search in
+    let fit = start .pre .0 in let h = c .before .walk .inv in ⊎-elim (λ w. walk-whole fit h (w .left)) (λ w. walk-fault fit h _ (w .2 .ensures) (w .0 .taken) (w .3 .left)) (c .walk-test .came)
 
 pub walk-pointers-spec : {M : Type 1} → statement M
 walk-pointers-spec =

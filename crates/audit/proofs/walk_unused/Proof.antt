@@ -32,7 +32,7 @@ walk-less : tie.Need-walk-less Inv-walk μ-walk
 walk-less c = search needs
 
 walk-again : tie.Need-walk-again Inv-walk μ-walk
-walk-again c = remaining-more (c .before .before .before .walk .inv) (c .before .before .walk-test .taken) (eq-eqb _ _ (c .if1 .taken))
+walk-again c = search (remaining-more, eq-eqb)
 
 returns : tie.Need-returns Inv-walk μ-walk
 returns c = let h = c .before .walk .inv in ⊎-elim (λ w. remaining-whole h (w .left)) (λ w. remaining-fault h (w .0 .taken) (ne-eqb _ _ (w .2 .left))) (c .walk-test .came)

@@ -62,11 +62,7 @@ put-big-endian-put-byte-requires : (t : ℕ) → put-big-endian-lts.Need-put-byt
   put-byte-reads.Asked,
   put-byte-reads.Learnt,
 ) (put-big-endian-at t) put-big-endian.Post
-put-big-endian-put-byte-requires t c κs =
-    let at-put-big-endian = c .before .before .before in
-    let at-if1 = at-put-big-endian .before .before in
-    let start = at-if1 .before .before in
-    big-endian-room (start .args .width) (start .args .n) (at-if1 .if1 .left) (at-put-big-endian .put-big-endian .ensures) (at-put-big-endian .put-big-endian .kept .0) (start .pre .1)
+put-big-endian-put-byte-requires t c κs = search big-endian-room
 
 put-big-endian-returns : (t : ℕ) → put-big-endian-lts.Need-returns (
   put-big-endian-below t,
@@ -74,7 +70,7 @@ put-big-endian-returns : (t : ℕ) → put-big-endian-lts.Need-returns (
   put-byte-reads.Asked,
   put-byte-reads.Learnt,
 ) (put-big-endian-at t) put-big-endian.Post
-put-big-endian-returns t c = big-endian-none (c .before .before .args .width) (c .before .before .args .n) _ _ (c .if1 .taken)
+put-big-endian-returns t c = search big-endian-none
 
 put-big-endian-same-length : (t : ℕ) → put-big-endian-lts.Need-same-length (
   put-big-endian-below t,
@@ -90,12 +86,7 @@ put-big-endian-returns-2 : (t : ℕ) → put-big-endian-lts.Need-returns-2 (
   put-byte-reads.Asked,
   put-byte-reads.Learnt,
 ) (put-big-endian-at t) put-big-endian.Post
-put-big-endian-returns-2 t c =
-    let at-put-byte = c .before .before in
-    let at-put-big-endian = at-put-byte .before .before .before .before in
-    let at-if1 = at-put-big-endian .before .before in
-    let start = at-if1 .before .before in
-    big-endian-more (start .args .width) (start .args .n) (at-if1 .if1 .left) (at-put-big-endian .put-big-endian .ensures) (at-put-byte .put-byte .ensures) (start .pre .1)
+put-big-endian-returns-2 t c = search big-endian-more
 
 pub +put-big-endian-spec : {M : Type 1} → statement M
 +put-big-endian-spec = close μ-put-big-endian λ t. put-big-endian-lts.spec (

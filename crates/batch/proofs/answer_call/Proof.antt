@@ -5,6 +5,11 @@ use borrow.Author.Needs.{needs}
 use Rattle.batch.proofs.answer_call.Statement.{statement}
 use Rattle.batch.proofs.answer_call.Tie as tie
 
+-- ---- places of the code
+
+abbrev start-from-lent-size : tie.After-lent-size → tie.Start
+start-from-lent-size c = search
+
 lent-size-requires : tie.Need-lent-size-requires
 lent-size-requires c κs = search needs
 
@@ -12,7 +17,9 @@ add-start : tie.Need-add-start
 add-start c = search needs
 
 add-end : tie.Need-add-end
-add-end c = omega (arith, part-within (c .before .before .before .before .before .before .before .before .before .args .info .bytes) (c .before .before .before .before .before .before .before .before .before .args .call) (c .before .before .before .before .before .before .before .before .before .args .at) (c .lent-size .ensures) (c .before .before .before .before .before .before .before .before .before .pre .1))
+add-end c =
+    let start : tie.Start = search in
+    omega (arith, part-within (start .args .info .bytes) (start .args .call) (start .args .at) (c .lent-size .ensures) (start .pre .1))
 
 sub-perform-judged : tie.Need-sub-perform-judged
 sub-perform-judged c = search needs
@@ -21,10 +28,7 @@ part-perform-judged-start : tie.Need-part-perform-judged-start
 part-perform-judged-start c = search needs
 
 part-perform-judged-end : tie.Need-part-perform-judged-end
-part-perform-judged-end c =
-    let at-lent-size = c .before .before .before .before .before .before in
-    let start = at-lent-size .before .before .before .before .before .before .before .before .before in
-    part-within (start .args .info .bytes) (start .args .call) (start .args .at) (at-lent-size .lent-size .ensures) (start .pre .1)
+part-perform-judged-end c = search part-within
 
 slice-aggregate-perform-judged : tie.Need-slice-aggregate-perform-judged
 slice-aggregate-perform-judged c = search needs
@@ -37,9 +41,9 @@ slice-aggregate-put-answer-bytes c = search needs
 
 put-answer-bytes-requires : tie.Need-put-answer-bytes-requires
 put-answer-bytes-requires c κs =
-    let at-perform-judged = c .before .before .before .before .before .before .before .before .before .before .before .before .before .before .before .before .before in
-    let at-lent-size = at-perform-judged .before .before .before .before .before .before .before .before .before in
-    let start = at-lent-size .before .before .before .before .before .before .before .before .before in
+    let at-perform-judged : tie.After-perform-judged = search in
+    let at-lent-size : tie.After-lent-size = search in
+    let start = start-from-lent-size at-lent-size in
     answer-room (start .args .port) _ (start .args .call) (start .args .payload .now) (start .args .to .now) (start .args .at) (at-lent-size .lent-size .ensures) (start .pre .1) (at-perform-judged .perform-judged .ensures) (at-perform-judged .perform-judged .kept .1 .1 .1 .1 .1 .1 .1 .1 .1 .1 .1 .0) (at-perform-judged .perform-judged .kept .1 .1 .1 .1 .1 .1 .1 .1 .1 .1 .1 .1 .0)
 
 same-length : tie.Need-same-length
@@ -65,11 +69,10 @@ same-length-7 c = search needs
 
 returns : tie.Need-returns
 returns c =
-    let at-put-answer-bytes = c .before .before .before in
-    let at-perform-judged = at-put-answer-bytes .before .before .before .before .before .before .before .before .before .before .before .before .before .before .before .before .before .before in
-    let at-lent-size = at-perform-judged .before .before .before .before .before .before .before .before .before in
-    let start = at-lent-size .before .before .before .before .before .before .before .before .before in
-    answered (start .args .port) _ (start .args .call) (start .args .payload .now) (start .args .to .now) (start .args .at) (at-lent-size .lent-size .ensures) (start .pre .1) (at-perform-judged .perform-judged .ensures) (at-perform-judged .perform-judged .kept .1 .1 .1 .1 .1 .1 .1 .1 .1 .1 .1 .0) (at-perform-judged .perform-judged .kept .1 .1 .1 .1 .1 .1 .1 .1 .1 .1 .1 .1 .0) (at-put-answer-bytes .put-answer-bytes .ensures)
+    let at-perform-judged : tie.After-perform-judged = search in
+    let at-lent-size : tie.After-lent-size = search in
+    let start = start-from-lent-size at-lent-size in
+    answered (start .args .port) _ (start .args .call) (start .args .payload .now) (start .args .to .now) (start .args .at) (at-lent-size .lent-size .ensures) (start .pre .1) (at-perform-judged .perform-judged .ensures) (at-perform-judged .perform-judged .kept .1 .1 .1 .1 .1 .1 .1 .1 .1 .1 .1 .0) (at-perform-judged .perform-judged .kept .1 .1 .1 .1 .1 .1 .1 .1 .1 .1 .1 .1 .0) (c .before .before .before .put-answer-bytes .ensures)
 
 pub answer-call-spec : {M : Type 1} → statement M
 answer-call-spec =

@@ -22,18 +22,10 @@ unfolding lentSize
 returns c = search needs
 
 returns-2 : tie.Need-returns-2
-returns-2 c =
-    let at-enum-told2 = c .before .before in
-    let at-filled-by = at-enum-told2 .before .before in
-    let start = at-filled-by .before in
-    lent-whole (start .args .info .bytes) (start .args .call) (at-filled-by .filled-by .ensures) (at-enum-told2 .enum-told2 .given .1) (c .if1 .taken)
+returns-2 c = search lent-whole
 
 returns-3 : tie.Need-returns-3
-returns-3 c =
-    let at-enum-told2 = c .before .before in
-    let at-filled-by = at-enum-told2 .before .before in
-    let start = at-filled-by .before in
-    lent-none (start .args .info .bytes) (start .args .call) (at-filled-by .filled-by .ensures) (at-enum-told2 .enum-told2 .given .1) (c .if1 .left)
+returns-3 c = search lent-none
 
 returns-4 : tie.Need-returns-4
 unfolding lentSize

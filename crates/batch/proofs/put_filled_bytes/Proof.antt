@@ -21,21 +21,25 @@ cast-put-first-pairs : tie.Need-cast-put-first-pairs
 cast-put-first-pairs c = search needs
 
 put-first-pairs-requires : tie.Need-put-first-pairs-requires
-put-first-pairs-requires c κs = rw (c .before .before .filled .given .1) at (c .before .before .before .before .before .before .pre .1)
+put-first-pairs-requires c κs =
+    let start : tie.Start = search in
+    rw (c .before .before .filled .given .1) at (start .pre .1)
 
 returns : tie.Need-returns
 returns c = rw (c .enum-told .given .1) (written-none _ _)
 
 returns-2 : tie.Need-returns-2
 returns-2 c =
-    let start = c .before .before .before .before in
+    let start : tie.Start = search in
     rw (c .enum-told2 .given .1) (written-same (start .args .to .now) (start .args .at) (start .args .size) (start .pre .0))
 
 same-length : tie.Need-same-length
 same-length c = search needs
 
 returns-3 : tie.Need-returns-3
-returns-3 c = rw (c .before .before .before .before .before .filled .given .1) (c .before .before .put-first-pairs .ensures)
+returns-3 c =
+    let at-filled : tie.After-filled = search in
+    rw (at-filled .filled .given .1) (c .before .before .put-first-pairs .ensures)
 
 pub put-filled-bytes-spec : {M : Type 1} → statement M
 put-filled-bytes-spec =

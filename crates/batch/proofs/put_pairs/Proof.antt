@@ -18,7 +18,9 @@ abbrev μ-loop : tie.MeasureT-loop
 
 loop-holds : tie.Need-loop-holds Inv-loop μ-loop
 unfolding pairs
-loop-holds c = part-none 2 (length (c .before .before .args .values .now)) (λ k. pairs (take k (c .before .before .args .values .now))) _ _ refl (c .before .before .pre)
+loop-holds c =
+    let start : tie.Start Inv-loop μ-loop = search in
+    part-none 2 (length (start .args .values .now)) (λ k. pairs (take k (start .args .values .now))) _ _ refl (start .pre)
 
 mul-of-block : tie.Need-mul-of-block Inv-loop μ-loop
 mul-of-block c = search needs
@@ -30,7 +32,9 @@ of-block-requires : tie.Need-of-block-requires Inv-loop μ-loop
 of-block-requires c κs = tt
 
 put-big-endian-requires : tie.Need-put-big-endian-requires Inv-loop μ-loop
-put-big-endian-requires c κs = omega (arith, c .before .before .before .before .loop .inv .room, c .before .before .before .loop-test .taken)
+put-big-endian-requires c κs =
+    let at-loop : tie.At-loop Inv-loop μ-loop = search in
+    omega (arith, at-loop .loop .inv .room, c .before .before .before .loop-test .taken)
 
 add-i : tie.Need-add-i Inv-loop μ-loop
 add-i c = search needs
@@ -39,19 +43,13 @@ loop-less : tie.Need-loop-less Inv-loop μ-loop
 loop-less c = search needs
 
 loop-again : tie.Need-loop-again Inv-loop μ-loop
-loop-again c =
-    let at-put-big-endian = c .before .before in
-    let at-of-block = at-put-big-endian .before in
-    let at-loop-test = at-of-block .before .before .before in
-    let at-loop = at-loop-test .before in
-    let start = at-loop .before .before .before in
-    pairing-more (start .args .values .now) (start .args .to .now) (start .args .at) (at-loop .loop .inv) (at-loop-test .loop-test .taken) (at-of-block .of-block .ensures) (at-put-big-endian .put-big-endian .ensures)
+loop-again c = search pairing-more
 
 same-length : tie.Need-same-length Inv-loop μ-loop
 same-length c = c .before .loop .inv .kept
 
 returns : tie.Need-returns Inv-loop μ-loop
-returns c = pairing-done (c .before .before .before .before .args .values .now) (c .before .loop .inv) (c .loop-test .left)
+returns c = search pairing-done
 
 pub put-pairs-spec : {M : Type 1} → statement M
 put-pairs-spec =

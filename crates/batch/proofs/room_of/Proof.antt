@@ -39,7 +39,9 @@ lent-size-requires : tie.Need-lent-size-requires
 lent-size-requires c κs = search needs
 
 add-result : tie.Need-add-result
-add-result c = omega (arith, c .lent-size .ensures, lent-most (c .before .before .before .args .info .bytes) (c .before .before .before .args .call))
+add-result c =
+    let start : tie.Start = search in
+    omega (arith, c .lent-size .ensures, lent-most (start .args .info .bytes) (start .args .call))
 
 enum-told-2 : tie.Need-enum-told-2
 enum-told-2 c = search needs
@@ -54,7 +56,7 @@ enum-told-5 : tie.Need-enum-told-5
 enum-told-5 c = search needs
 
 returns : tie.Need-returns
-returns c = room-read (c .before .before .before .args .info .bytes) (c .before .enum-told .given .1) (c .lent-size .ensures)
+returns c = search room-read
 
 returns-2 : tie.Need-returns-2
 unfolding answerRoom
@@ -73,7 +75,7 @@ unfolding answerRoom
 returns-5 c = search needs
 
 returns-6 : tie.Need-returns-6
-returns-6 c = room-other (c .before .args .info .bytes) (c .before .args .call) (c .match .keys6)
+returns-6 c = search room-other
 
 pub room-of-spec : {M : Type 1} → statement M
 room-of-spec =

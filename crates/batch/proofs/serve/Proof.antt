@@ -17,35 +17,48 @@ abbrev μ-loop : tie.MeasureT-loop
 μ-loop flags₀ keys₀ counts₀ pointers₀ windows₀ contents₀ input answers₀ found left₀ count₀ from₀ at₀ flags keys counts pointers windows contents answers left count from at =
     length input - from
 
+-- ---- places of the code
+
+abbrev start-from-slice-known7 : tie.After-slice-known7 Inv-loop μ-loop → tie.Start Inv-loop μ-loop
+start-from-slice-known7 c = search
+
 audit-requires : tie.Need-audit-requires Inv-loop μ-loop
 audit-requires c κs = tt
 
 loop-holds : tie.Need-loop-holds Inv-loop μ-loop
 loop-holds c =
-    let start-again = c .before .before .before .before .before .before .before .before .before .before .before .before .before .before .before in
-    record { tables = same-tables _ _ _ _ _ _; sameAnswers = refl; serving = serving-none _ (start-again .args .input .now) (start-again .args .answers .now) }
+    let start : tie.Start Inv-loop μ-loop = search in
+    record { tables = same-tables _ _ _ _ _ _; sameAnswers = refl; serving = serving-none _ (start .args .input .now) (start .args .answers .now) }
 
 serve-turn-requires : tie.Need-serve-turn-requires Inv-loop μ-loop
 serve-turn-requires c κs =
-    let at-loop = c .before .before .before .before .before .before .before in
-    let at-audit = at-loop .before in
-    let start-again = at-audit .before .before .before .before .before .before .before .before .before .before .before .before .before .before .before in
-    (at-audit .audit .ensures ∙ sym (at-loop .loop .inv .serving .judged), (at-loop .loop .inv .serving .within, serving-at _ (start-again .args .input .now) (start-again .args .answers .now) (at-loop .loop .inv .serving)))
+    let at-loop : tie.At-loop Inv-loop μ-loop = search in
+    let at-audit : tie.After-audit Inv-loop μ-loop = search in
+    (at-audit .audit .ensures ∙ sym (at-loop .loop .inv .serving .judged), search serving-at)
 
 went-requires : tie.Need-went-requires Inv-loop μ-loop
 went-requires c κs = tt
 
 add-count : tie.Need-add-count Inv-loop μ-loop
-add-count c = omega (arith, c .before .before .before .before .before .before .before .before .before .before .before .before .before .before .before .before .before .before .before .before .before .before .before .before .before .loop .inv .serving .counted, c .before .before .before .before .before .before .before .before .before .before .before .before .before .before .before .before .before .before .before .before .before .before .before .before .before .loop .inv .serving .within, c .before .before .before .before .before .before .before .before .before .before .before .before .before .before .before .before .before .before .before .before .before .before .before .before .before .before .before .before .before .before .before .before .before .before .before .before .before .before .before .before .before .good .1 .1 .1 .1 .1 .1 .1 .0 .1)
+add-count c =
+    let at-loop : tie.At-loop Inv-loop μ-loop = search in
+    let start : tie.Start Inv-loop μ-loop = search in
+    omega (arith, at-loop .loop .inv .serving .counted, at-loop .loop .inv .serving .within, start .good .1 .1 .1 .1 .1 .1 .1 .0 .1)
 
 loop-less : tie.Need-loop-less Inv-loop μ-loop
-loop-less c = omega (arith, serving-further _ (c .before .before .before .before .before .before .before .before .before .before .before .before .before .before .before .before .before .before .before .before .before .before .before .before .before .before .before .before .before .before .before .before .before .before .before .before .before .before .before .before .before .args .input .now) (c .before .before .before .before .before .before .before .before .before .before .before .before .before .before .before .before .before .before .before .before .before .before .before .before .before .before .before .before .before .before .before .before .before .before .before .before .before .before .before .before .before .args .answers .now) (c .before .before .before .before .before .before .before .before .before .before .before .before .before .before .before .before .before .before .before .before .before .before .before .before .before .loop .inv .serving) (c .before .before .before .before .before .before .before .before .before .before .before .before .before .before .before .before .before .serve-turn .ensures) (sym (c .before .went .ensures) ∙ c .if1 .taken), c .before .before .before .before .before .before .before .before .before .before .before .before .before .before .before .before .before .serve-turn .ensures .within)
+loop-less c =
+    let at-serve-turn : tie.After-serve-turn Inv-loop μ-loop = search in
+    let at-loop : tie.At-loop Inv-loop μ-loop = search in
+    let at-slice-known7 : tie.After-slice-known7 Inv-loop μ-loop = search in
+    let start = start-from-slice-known7 at-slice-known7 in
+    omega (arith, serving-further _ (start .args .input .now) (start .args .answers .now) (at-loop .loop .inv .serving) (at-serve-turn .serve-turn .ensures) (sym (c .before .went .ensures) ∙ c .if1 .taken), at-serve-turn .serve-turn .ensures .within)
 
 loop-again : tie.Need-loop-again Inv-loop μ-loop
 loop-again c =
-    let at-serve-turn = c .before .before .before .before .before .before .before .before .before .before .before .before .before .before .before .before .before in
-    let at-loop = at-serve-turn .before .before .before .before .before .before .before .before in
-    let start-again = at-loop .before .before .before .before .before .before .before .before .before .before .before .before .before .before .before .before in
+    let at-serve-turn : tie.After-serve-turn Inv-loop μ-loop = search in
+    let at-loop : tie.At-loop Inv-loop μ-loop = search in
+    let at-slice-known7 : tie.After-slice-known7 Inv-loop μ-loop = search in
+    let start = start-from-slice-known7 at-slice-known7 in
     record {
       tables = record {
         sameFlags = at-serve-turn .serve-turn .kept .1 .1 .0 ∙ at-loop .loop .inv .tables .sameFlags;
@@ -56,57 +69,58 @@ loop-again c =
         sameContents = at-serve-turn .serve-turn .kept .1 .1 .1 .1 .1 .1 .1 .0 ∙ at-loop .loop .inv .tables .sameContents;
       };
       sameAnswers = at-serve-turn .serve-turn .kept .1 .1 .1 .1 .1 .1 .1 .1 .1 .1 .0 ∙ at-loop .loop .inv .sameAnswers;
-      serving = serving-more _ (start-again .args .input .now) (start-again .args .answers .now) (at-loop .loop .inv .serving) (at-serve-turn .serve-turn .ensures) (sym (c .before .went .ensures) ∙ c .if1 .taken);
+      serving = serving-more _ (start .args .input .now) (start .args .answers .now) (at-loop .loop .inv .serving) (at-serve-turn .serve-turn .ensures) (sym (c .before .went .ensures) ∙ c .if1 .taken);
     }
 
 same-length : tie.Need-same-length Inv-loop μ-loop
 same-length c =
-    let at-serve-turn = c .before .before .before .before .before .before .before .before .before .before .before .before .before .before .before .before .before in
-    let at-loop = at-serve-turn .before .before .before .before .before .before .before .before in
+    let at-serve-turn : tie.After-serve-turn Inv-loop μ-loop = search in
+    let at-loop : tie.At-loop Inv-loop μ-loop = search in
     at-serve-turn .serve-turn .kept .1 .1 .0 ∙ at-loop .loop .inv .tables .sameFlags
 
 same-length-2 : tie.Need-same-length-2 Inv-loop μ-loop
 same-length-2 c =
-    let at-serve-turn = c .before .before .before .before .before .before .before .before .before .before .before .before .before .before .before .before .before in
-    let at-loop = at-serve-turn .before .before .before .before .before .before .before .before in
+    let at-serve-turn : tie.After-serve-turn Inv-loop μ-loop = search in
+    let at-loop : tie.At-loop Inv-loop μ-loop = search in
     at-serve-turn .serve-turn .kept .1 .1 .1 .0 ∙ at-loop .loop .inv .tables .sameKeys
 
 same-length-3 : tie.Need-same-length-3 Inv-loop μ-loop
 same-length-3 c =
-    let at-serve-turn = c .before .before .before .before .before .before .before .before .before .before .before .before .before .before .before .before .before in
-    let at-loop = at-serve-turn .before .before .before .before .before .before .before .before in
+    let at-serve-turn : tie.After-serve-turn Inv-loop μ-loop = search in
+    let at-loop : tie.At-loop Inv-loop μ-loop = search in
     at-serve-turn .serve-turn .kept .1 .1 .1 .1 .0 ∙ at-loop .loop .inv .tables .sameCounts
 
 same-length-4 : tie.Need-same-length-4 Inv-loop μ-loop
 same-length-4 c =
-    let at-serve-turn = c .before .before .before .before .before .before .before .before .before .before .before .before .before .before .before .before .before in
-    let at-loop = at-serve-turn .before .before .before .before .before .before .before .before in
+    let at-serve-turn : tie.After-serve-turn Inv-loop μ-loop = search in
+    let at-loop : tie.At-loop Inv-loop μ-loop = search in
     at-serve-turn .serve-turn .kept .1 .1 .1 .1 .1 .0 ∙ at-loop .loop .inv .tables .samePointers
 
 same-length-5 : tie.Need-same-length-5 Inv-loop μ-loop
 same-length-5 c =
-    let at-serve-turn = c .before .before .before .before .before .before .before .before .before .before .before .before .before .before .before .before .before in
-    let at-loop = at-serve-turn .before .before .before .before .before .before .before .before in
+    let at-serve-turn : tie.After-serve-turn Inv-loop μ-loop = search in
+    let at-loop : tie.At-loop Inv-loop μ-loop = search in
     at-serve-turn .serve-turn .kept .1 .1 .1 .1 .1 .1 .0 ∙ at-loop .loop .inv .tables .sameWindows
 
 same-length-6 : tie.Need-same-length-6 Inv-loop μ-loop
 same-length-6 c =
-    let at-serve-turn = c .before .before .before .before .before .before .before .before .before .before .before .before .before .before .before .before .before in
-    let at-loop = at-serve-turn .before .before .before .before .before .before .before .before in
+    let at-serve-turn : tie.After-serve-turn Inv-loop μ-loop = search in
+    let at-loop : tie.At-loop Inv-loop μ-loop = search in
     at-serve-turn .serve-turn .kept .1 .1 .1 .1 .1 .1 .1 .0 ∙ at-loop .loop .inv .tables .sameContents
 
 same-length-7 : tie.Need-same-length-7 Inv-loop μ-loop
 same-length-7 c =
-    let at-serve-turn = c .before .before .before .before .before .before .before .before .before .before .before .before .before .before .before .before .before in
-    let at-loop = at-serve-turn .before .before .before .before .before .before .before .before in
+    let at-serve-turn : tie.After-serve-turn Inv-loop μ-loop = search in
+    let at-loop : tie.At-loop Inv-loop μ-loop = search in
     at-serve-turn .serve-turn .kept .1 .1 .1 .1 .1 .1 .1 .1 .1 .1 .0 ∙ at-loop .loop .inv .sameAnswers
 
 returns : tie.Need-returns Inv-loop μ-loop
 returns c =
-    let at-serve-turn = c .before .before .before .before .before .before .before .before .before .before .before .before .before .before .before .before .before in
-    let at-loop = at-serve-turn .before .before .before .before .before .before .before .before in
-    let start-again = at-loop .before .before .before .before .before .before .before .before .before .before .before .before .before .before .before .before in
-    serving-stopped _ (start-again .args .input .now) (start-again .args .answers .now) (at-loop .loop .inv .serving) (at-serve-turn .serve-turn .ensures) (sym (c .before .went .ensures) ∙ c .if1 .left)
+    let at-serve-turn : tie.After-serve-turn Inv-loop μ-loop = search in
+    let at-loop : tie.At-loop Inv-loop μ-loop = search in
+    let at-slice-known7 : tie.After-slice-known7 Inv-loop μ-loop = search in
+    let start = start-from-slice-known7 at-slice-known7 in
+    serving-stopped _ (start .args .input .now) (start .args .answers .now) (at-loop .loop .inv .serving) (at-serve-turn .serve-turn .ensures) (sym (c .before .went .ensures) ∙ c .if1 .left)
 
 pub serve-spec : {M : Type 1} → statement M
 serve-spec =

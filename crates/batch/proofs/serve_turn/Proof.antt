@@ -6,6 +6,11 @@ use borrow.Author.Needs.{needs}
 use Rattle.batch.proofs.serve_turn.Statement.{statement}
 use Rattle.batch.proofs.serve_turn.Tie as tie
 
+-- ---- places of the code
+
+abbrev start-from-room-of : tie.After-room-of → tie.Start
+start-from-room-of c = search
+
 find-requires : tie.Need-find-requires
 find-requires c κs = search needs
 
@@ -22,41 +27,38 @@ sub-if1 : tie.Need-sub-if1
 sub-if1 c = search needs
 
 returns : tie.Need-returns
-returns c =
-    let at-sent2 = c .before .before .before in
-    let at-find = at-sent2 .before .before in
-    let start = at-find .before .before .before .before .before .before .before .before .before in
-    full-served _ (start .args .input .now) (start .args .from) (start .pre .1 .0) (start .args .to .now) (start .args .at) (at-find .find .ensures) (at-sent2 .sent2 .given .1) (c .before .room-of .ensures) (c .if1 .taken)
+returns c = search full-served
 
 sub-answer-call : tie.Need-sub-answer-call
 sub-answer-call c =
-    let at-sent2 = c .before .before .before .before .before .before .before .before .before in
-    let at-find = at-sent2 .before .before in
-    let start = at-find .before .before .before .before .before .before .before .before .before in
+    let at-sent2 : tie.After-sent2 = search in
+    let at-find : tie.After-find = search in
+    let start : tie.Start = search in
     whole-within (start .args .input .now) (start .args .from) (at-find .find .ensures) (at-sent2 .sent2 .given .1) .0
 
 part-answer-call-start : tie.Need-part-answer-call-start
 part-answer-call-start c =
-    let at-sent2 = c .before .before .before .before .before .before .before .before .before in
-    let at-find = at-sent2 .before .before in
-    let start = at-find .before .before .before .before .before .before .before .before .before in
+    let at-sent2 : tie.After-sent2 = search in
+    let at-find : tie.After-find = search in
+    let start : tie.Start = search in
     whole-within (start .args .input .now) (start .args .from) (at-find .find .ensures) (at-sent2 .sent2 .given .1) .0
 
 part-answer-call-end : tie.Need-part-answer-call-end
 part-answer-call-end c =
-    let at-sent2 = c .before .before .before .before .before .before .before .before .before in
-    let at-find = at-sent2 .before .before in
-    let start = at-find .before .before .before .before .before .before .before .before .before in
+    let at-sent2 : tie.After-sent2 = search in
+    let at-find : tie.After-find = search in
+    let start : tie.Start = search in
     whole-within (start .args .input .now) (start .args .from) (at-find .find .ensures) (at-sent2 .sent2 .given .1) .1
 
 answer-call-requires : tie.Need-answer-call-requires
-answer-call-requires c κs = (c .before .before .before .before .before .before .before .before .before .before .before .before .before .before .before .before .before .before .before .before .before .before .pre .0, omega (arith, c .before .before .before .before .before .before .before .before .if1 .left, c .before .before .before .before .before .before .before .before .before .room-of .ensures, c .before .before .before .before .before .before .before .before .before .before .before .before .before .before .before .before .before .before .before .before .before .before .pre .1 .1))
+answer-call-requires c κs =
+    let at-if1 : tie.Else1 = search in
+    let at-room-of : tie.After-room-of = search in
+    let start = start-from-room-of at-room-of in
+    (start .pre .0, omega (arith, at-if1 .if1 .left, at-room-of .room-of .ensures, start .pre .1 .1))
 
 returns-2 : tie.Need-returns-2
-returns-2 c =
-    let at-find = c .before .before .before in
-    let start = at-find .before .before .before .before .before .before .before .before .before in
-    nothing-served _ (start .args .input .now) (start .args .from) (start .pre .1 .0) (start .args .to .now) (start .args .at) (at-find .find .ensures) (c .before .sent .given .1)
+returns-2 c = search nothing-served
 
 same-length : tie.Need-same-length
 same-length c = search needs
@@ -81,12 +83,12 @@ same-length-7 c = search needs
 
 returns-3 : tie.Need-returns-3
 returns-3 c =
-    let at-answer-call = c .before .before .before .before .before .before .before .before .before .before .before .before .before .before .before in
-    let at-if1 = at-answer-call .before .before .before .before .before .before .before .before .before in
-    let at-room-of = at-if1 .before in
-    let at-sent2 = at-room-of .before .before in
-    let at-find = at-sent2 .before .before in
-    let start = at-find .before .before .before .before .before .before .before .before .before in
+    let at-answer-call : tie.After-answer-call = search in
+    let at-if1 : tie.Else1 = search in
+    let at-room-of : tie.After-room-of = search in
+    let at-sent2 : tie.After-sent2 = search in
+    let at-find : tie.After-find = search in
+    let start = start-from-room-of at-room-of in
     whole-served _ (start .args .input .now) (start .args .from) (start .pre .1 .0) (start .args .to .now) (start .args .at) (at-find .find .ensures) (at-sent2 .sent2 .given .1) (at-room-of .room-of .ensures) (at-if1 .if1 .left) (at-answer-call .answer-call .ensures)
 
 pub serve-turn-spec : {M : Type 1} → statement M

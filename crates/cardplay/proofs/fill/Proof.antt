@@ -28,7 +28,9 @@ same-length c = search needs
 
 returns : tie.Need-returns
 returns c =
-    grown-is (c .before .before .before .before .before .before .before .before .before .before .args .buffer .now) (c .before .before .before .before .before .before .read .last .1 .0) _ _ _ (omega (arith, c .before .before .before .before .before .before .before .before .before .before .pre)) (c .before .before .count .ensures .0 .0)
+    let at-read : tie.After-read = search in
+    let start : tie.Start = search in
+    grown-is (start .args .buffer .now) (at-read .read .last .1 .0) _ _ _ (omega (arith, start .pre)) (c .before .before .count .ensures .0 .0)
 
 pub fill-spec : {M : Type 1} → statement M
 fill-spec =

@@ -19,15 +19,18 @@ loop-holds c = moved-none (c .args .buffer .now) (c .args .from) (c .args .fille
 
 add-buffer : tie.Need-add-buffer Inv-loop μ-loop
 add-buffer c =
-    omega (arith, c .loop-test .taken, c .before .before .pre .1, c .before .before .good .1 .1 .0 .1)
+    let start : tie.Start Inv-loop μ-loop = search in
+    omega (arith, c .loop-test .taken, start .pre .1, start .good .1 .1 .0 .1)
 
 slice-read-buffer : tie.Need-slice-read-buffer Inv-loop μ-loop
 slice-read-buffer c =
-    omega (arith, c .before .loop-test .taken, c .before .before .before .pre .1, moved-length (c .before .before .before .args .buffer .now) (c .before .before .before .args .from) (c .before .before .before .args .filled) (c .before .before .before .pre .1) (c .before .before .loop .inv))
+    let start : tie.Start Inv-loop μ-loop = search in
+    omega (arith, c .before .loop-test .taken, start .pre .1, moved-length (start .args .buffer .now) (start .args .from) (start .args .filled) (start .pre .1) (c .before .before .loop .inv))
 
 slice-write-buffer : tie.Need-slice-write-buffer Inv-loop μ-loop
 slice-write-buffer c =
-    omega (arith, c .before .loop-test .taken, c .before .before .before .pre .1, moved-length (c .before .before .before .args .buffer .now) (c .before .before .before .args .from) (c .before .before .before .args .filled) (c .before .before .before .pre .1) (c .before .before .loop .inv))
+    let start : tie.Start Inv-loop μ-loop = search in
+    omega (arith, c .before .loop-test .taken, start .pre .1, moved-length (start .args .buffer .now) (start .args .from) (start .args .filled) (start .pre .1) (c .before .before .loop .inv))
 
 add-i : tie.Need-add-i Inv-loop μ-loop
 add-i c = omega (arith, c .before .loop-test .taken)
@@ -37,13 +40,14 @@ loop-less c = omega (arith, c .before .loop-test .taken)
 
 loop-again : tie.Need-loop-again Inv-loop μ-loop
 loop-again c =
-    moved-more (c .before .before .before .args .buffer .now) (c .before .before .before .args .from) (c .before .before .before .args .filled) (c .before .before .before .pre .1) (c .before .before .loop .inv) (omega (arith, c .before .loop-test .taken))
+    let start : tie.Start Inv-loop μ-loop = search in
+    moved-more (start .args .buffer .now) (start .args .from) (start .args .filled) (start .pre .1) (c .before .before .loop .inv) (omega (arith, c .before .loop-test .taken))
 
 same-length : tie.Need-same-length Inv-loop μ-loop
-same-length c = moved-length (c .before .before .args .buffer .now) (c .before .before .args .from) (c .before .before .args .filled) (c .before .before .pre .1) (c .before .loop .inv)
+same-length c = search moved-length
 
 returns : tie.Need-returns Inv-loop μ-loop
-returns c = moved-all (c .before .before .args .buffer .now) (c .before .before .args .from) (c .before .before .args .filled) (c .before .before .pre .1) (c .before .loop .inv) (c .loop-test .left)
+returns c = search moved-all
 
 pub keep-spec : {M : Type 1} → statement M
 keep-spec =

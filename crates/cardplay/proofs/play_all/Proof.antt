@@ -24,28 +24,33 @@ loop-holds c =
     record { tables = same-tables _ _ _ _ _ _; sizeBuffer = length-replicate {A = ℕ} 65536 0; sizeOutput = length-replicate {A = ℕ} 65536 0; within = omega arith; pieces = pieces-none _; halts = λ on wrote. absurd (true≢false on) }
 
 slice-aggregate-play-on : tie.Need-slice-aggregate-play-on Inv-loop μ-loop
-slice-aggregate-play-on c = sym (c .before .before .before .before .before .before .before .before .before .before .before .loop .inv .sizeBuffer)
+slice-aggregate-play-on c = search sym
 
 slice-aggregate-play-on-2 : tie.Need-slice-aggregate-play-on-2 Inv-loop μ-loop
-slice-aggregate-play-on-2 c = sym (c .before .before .before .before .before .before .before .before .before .before .before .before .loop .inv .sizeOutput)
+slice-aggregate-play-on-2 c = search sym
 
 play-on-requires : tie.Need-play-on-requires Inv-loop μ-loop
 play-on-requires c κs =
-    (going (c .before .before .before .before .before .before .before .before .before .before .before .before .loop .progress .on) (c .before .before .before .before .before .before .before .before .before .before .before .before .loop .turns) (c .before .before .before .before .before .before .before .before .before .before .before .before .loop .progress .records) _ (c .before .before .before .before .before .before .before .before .before .if1 .taken) .1, (c .before .before .before .before .before .before .before .before .before .before .before .before .loop .inv .within, omega (arith, c .before .before .before .before .before .before .before .before .before .before .before .before .loop .inv .sizeBuffer)))
+    let at-if1 : tie.Then1 Inv-loop μ-loop = search in
+    let at-loop : tie.At-loop Inv-loop μ-loop = search in
+    (going (at-loop .loop .progress .on) (at-loop .loop .turns) (at-loop .loop .progress .records) _ (at-if1 .if1 .taken) .1, (at-loop .loop .inv .within, omega (arith, at-loop .loop .inv .sizeBuffer)))
 
 sub-turns : tie.Need-sub-turns Inv-loop μ-loop
 sub-turns c =
-    let at-if1 = c .before .before .before .before .before .before .before .before .before .before .before .before .before .before .before .before .before .before .before .before .before .before .before .before in
-    let at-loop = at-if1 .before .before .before in
+    let at-if1 : tie.Then1 Inv-loop μ-loop = search in
+    let at-loop : tie.At-loop Inv-loop μ-loop = search in
     going (at-loop .loop .progress .on) (at-loop .loop .turns) (at-loop .loop .progress .records) _ (at-if1 .if1 .taken) .0
 
 loop-less : tie.Need-loop-less Inv-loop μ-loop
-loop-less c = omega (arith, going (c .before .before .before .before .before .before .before .before .before .before .before .before .before .before .before .before .before .before .before .before .before .before .before .before .before .before .before .loop .progress .on) (c .before .before .before .before .before .before .before .before .before .before .before .before .before .before .before .before .before .before .before .before .before .before .before .before .before .before .before .loop .turns) (c .before .before .before .before .before .before .before .before .before .before .before .before .before .before .before .before .before .before .before .before .before .before .before .before .before .before .before .loop .progress .records) _ (c .before .before .before .before .before .before .before .before .before .before .before .before .before .before .before .before .before .before .before .before .before .before .before .before .if1 .taken) .0)
+loop-less c =
+    let at-if1 : tie.Then1 Inv-loop μ-loop = search in
+    let at-loop : tie.At-loop Inv-loop μ-loop = search in
+    omega (arith, going (at-loop .loop .progress .on) (at-loop .loop .turns) (at-loop .loop .progress .records) _ (at-if1 .if1 .taken) .0)
 
 loop-again : tie.Need-loop-again Inv-loop μ-loop
 loop-again c =
-    let at-play-on = c .before .before .before .before .before .before .before .before .before .before .before .before .before .before in
-    let at-loop = at-play-on .before .before .before .before .before .before .before .before .before .before .before .before .before in
+    let at-play-on : tie.After-play-on Inv-loop μ-loop = search in
+    let at-loop : tie.At-loop Inv-loop μ-loop = search in
     record {
       tables = record {
         sameFlags = at-play-on .play-on .kept .1 .0 ∙ at-loop .loop .inv .tables .sameFlags;
@@ -63,25 +68,25 @@ loop-again c =
     }
 
 same-length : tie.Need-same-length Inv-loop μ-loop
-same-length c = c .before .before .before .loop .inv .tables .sameFlags
+same-length c = search
 
 same-length-2 : tie.Need-same-length-2 Inv-loop μ-loop
-same-length-2 c = c .before .before .before .loop .inv .tables .sameKeys
+same-length-2 c = search
 
 same-length-3 : tie.Need-same-length-3 Inv-loop μ-loop
-same-length-3 c = c .before .before .before .loop .inv .tables .sameCounts
+same-length-3 c = search
 
 same-length-4 : tie.Need-same-length-4 Inv-loop μ-loop
-same-length-4 c = c .before .before .before .loop .inv .tables .samePointers
+same-length-4 c = search
 
 same-length-5 : tie.Need-same-length-5 Inv-loop μ-loop
-same-length-5 c = c .before .before .before .loop .inv .tables .sameWindows
+same-length-5 c = search
 
 same-length-6 : tie.Need-same-length-6 Inv-loop μ-loop
-same-length-6 c = c .before .before .before .loop .inv .tables .sameContents
+same-length-6 c = search
 
 returns : tie.Need-returns Inv-loop μ-loop
-returns c = played-in-pieces (c .before .before .before .loop .inv .pieces) (c .before .before .before .loop .inv .halts)
+returns c = search played-in-pieces
 
 pub play-all-spec : {M : Type 1} → statement M
 play-all-spec =

@@ -4,6 +4,11 @@ use Rattle.cardplay.proofs.PiecesLaws.{pieces-from}
 use Rattle.cardplay.proofs.play_fresh.Statement.{statement}
 use Rattle.cardplay.proofs.play_fresh.Tie as tie
 
+-- ---- places of the code
+
+abbrev format-from-slice-known10 : tie.After-slice-known10 → tie.After-format
+format-from-slice-known10 c = search
+
 format-requires : tie.Need-format-requires
 format-requires c κs = search needs
 
@@ -30,8 +35,9 @@ same-length-6 c = search needs
 
 returns : tie.Need-returns
 returns c =
-    let at-play-all = c .before .before .before .before .before .before .before .before .before .before .before .before in
-    let at-format = at-play-all .before .before .before .before .before .before .before .before .before .before .before .before .before .before .before .before .before .before .before .before in
+    let at-play-all : tie.After-play-all = search in
+    let at-slice-known10 : tie.After-slice-known10 = search in
+    let at-format = format-from-slice-known10 at-slice-known10 in
     pieces-from (at-format .format .ensures .leaves) (at-play-all .play-all .ensures)
 
 pub play-fresh-spec : {M : Type 1} → statement M

@@ -8,15 +8,23 @@ use Rattle.cardplay.proofs.ProgressLaws.{room-left, progress-is}
 use Rattle.cardplay.proofs.play_on.Statement.{statement}
 use Rattle.cardplay.proofs.play_on.Tie as tie
 
+-- ---- places of the code
+
+abbrev start-from-slice-known8 : tie.After-slice-known8 → tie.Start
+start-from-slice-known8 c = search
+
 play-some-requires : tie.Need-play-some-requires
 play-some-requires c κs = search needs
 
 slice-reshare-prefix-write-all : tie.Need-slice-reshare-prefix-write-all
-slice-reshare-prefix-write-all c = written-within (c .before .before .before .before .before .before .before .before .before .before .before .before .before .before .before .before .play-some .ensures .writes) .1
+slice-reshare-prefix-write-all c =
+    let at-play-some : tie.After-play-some = search in
+    written-within (at-play-some .play-some .ensures .writes) .1
 
 slice-aggregate-write-all : tie.Need-slice-aggregate-write-all
 slice-aggregate-write-all c =
-    sym (length-take-le _ _ (written-within (c .before .before .before .before .before .before .before .before .before .before .before .before .before .before .before .before .before .play-some .ensures .writes) .1))
+    let at-play-some : tie.After-play-some = search in
+    sym (length-take-le _ _ (written-within (at-play-some .play-some .ensures .writes) .1))
 
 write-all-requires : tie.Need-write-all-requires
 write-all-requires c κs = search needs
@@ -26,10 +34,10 @@ needs-input-requires c κs = search needs
 
 read-on-requires : tie.Need-read-on-requires
 read-on-requires c κs =
-    let at-write-all = c .before .before in
-    let at-play-some = at-write-all .before .before .before .before .before .before .before .before .before .before .before .before .before .before .before .before .before .before in
-    let at-pre = at-play-some .before .before .before .before .before .before .before .before .before .before .before .before .before .before .before .before .before in
-    (at-play-some .play-some .ensures .within, room-left (at-play-some .play-some .ensures) (play-awaits _ _ _ _) (at-write-all .write-all .result) (c .before .needs-input .ensures) (at-pre .pre .1 .1) (at-play-some .play-some .kept .1 .1 .1 .1 .1 .1 .1 .1 .0))
+    let at-play-some : tie.After-play-some = search in
+    let at-slice-known8 : tie.After-slice-known8 = search in
+    let start = start-from-slice-known8 at-slice-known8 in
+    (at-play-some .play-some .ensures .within, room-left (at-play-some .play-some .ensures) (play-awaits _ _ _ _) (c .before .before .write-all .result) (c .before .needs-input .ensures) (start .pre .1 .1) (at-play-some .play-some .kept .1 .1 .1 .1 .1 .1 .1 .1 .0))
 
 is-full-requires : tie.Need-is-full-requires
 is-full-requires c κs = search needs
@@ -60,11 +68,9 @@ same-length-8 c = search needs
 
 returns : tie.Need-returns
 returns c =
-    let at-read-on = c .before .before .before .before in
-    let at-needs-input = at-read-on .before .before in
-    let at-write-all = at-needs-input .before in
-    let at-play-some = at-write-all .before .before .before .before .before .before .before .before .before .before .before .before .before .before .before .before .before .before in
-    progress-is (at-play-some .play-some .ensures) (at-write-all .write-all .result) (at-needs-input .needs-input .ensures) (c .before .is-full .ensures) (at-read-on .read-on .ensures)
+    let at-write-all : tie.After-write-all = search in
+    let at-play-some : tie.After-play-some = search in
+    search (progress-is (at-play-some .play-some .ensures) (at-write-all .write-all .result))
 
 pub play-on-spec : {M : Type 1} → statement M
 play-on-spec =

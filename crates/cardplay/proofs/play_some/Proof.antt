@@ -6,20 +6,26 @@ use Rattle.cardplay.proofs.ProgressLaws.{read-within, piece-is}
 use Rattle.cardplay.proofs.play_some.Statement.{statement}
 use Rattle.cardplay.proofs.play_some.Tie as tie
 
+-- ---- places of the code
+
+abbrev start-from-slice-known8 : tie.After-slice-known8 → tie.Start
+start-from-slice-known8 c = search
+
 slice-reshare-prefix-play : tie.Need-slice-reshare-prefix-play
 slice-reshare-prefix-play c = search needs
 
 slice-aggregate-play : tie.Need-slice-aggregate-play
-slice-aggregate-play c = sym (length-take-le _ _ (c .before .before .before .before .before .before .before .before .before .before .before .before .before .before .before .pre .1))
+slice-aggregate-play c = search (sym, length-take-le)
 
 play-requires : tie.Need-play-requires
 play-requires c κs = search needs
 
 keep-requires : tie.Need-keep-requires
 keep-requires c κs =
-    let at-play = c .before .before .before .before .before .before .before .before .before .before .before .before .before .before .before in
-    let start = at-play .before .before .before .before .before .before .before .before .before .before .before .before .before .before .before .before .before in
-    (read-within (start .args .buffer .now) (start .args .filled) (start .pre .1) (at-play .play .ensures), start .pre .1)
+    let at-play : tie.After-play = search in
+    let at-slice-known8 : tie.After-slice-known8 = search in
+    let start = start-from-slice-known8 at-slice-known8 in
+    (read-within (start .args .buffer .now) (start .args .filled) (start .pre .1) (at-play .play .ensures), search)
 
 same-length : tie.Need-same-length
 same-length c = search needs
@@ -47,10 +53,10 @@ same-length-8 c = search needs
 
 returns : tie.Need-returns
 returns c =
-    let at-keep = c .before .before .before in
-    let at-play = at-keep .before .before .before .before .before .before .before .before .before .before .before .before .before .before .before .before in
-    let start = at-play .before .before .before .before .before .before .before .before .before .before .before .before .before .before .before .before .before in
-    piece-is (start .args .buffer .now) (start .args .filled) (start .pre .1) (at-play .play .ensures) (at-keep .keep .ensures)
+    let at-play : tie.After-play = search in
+    let at-slice-known8 : tie.After-slice-known8 = search in
+    let start = start-from-slice-known8 at-slice-known8 in
+    piece-is (start .args .buffer .now) (start .args .filled) (start .pre .1) (at-play .play .ensures) (c .before .before .before .keep .ensures)
 
 pub play-some-spec : {M : Type 1} → statement M
 play-some-spec =

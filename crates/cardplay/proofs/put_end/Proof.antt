@@ -14,8 +14,7 @@ same-length : tie.Need-same-length
 same-length c = search needs
 
 returns : tie.Need-returns
-returns c =
-    last-written (c .before .before .before .before .before .before .args .records) (c .before .before .before .end-number .ensures) (c .before .before .put-last-line .ensures)
+returns c = search last-written
 
 pub put-end-spec : {M : Type 1} → statement M
 put-end-spec = tie.close (tie.spec end-number-requires put-last-line-requires same-length returns)

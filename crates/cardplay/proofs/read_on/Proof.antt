@@ -13,7 +13,8 @@ same-length c = search needs
 
 returns : tie.Need-returns
 returns c =
-    record { fills = c .before .before .fill .ensures; idle = λ e. absurd (true≢false (sym (c .before .before .before .before .if1 .taken) ∙ e)) }
+    let at-if1 : tie.Then1 = search in
+    record { fills = c .before .before .fill .ensures; idle = λ e. absurd (true≢false (sym (at-if1 .if1 .taken) ∙ e)) }
 
 returns-2 : tie.Need-returns-2
 returns-2 c = search needs

@@ -1,5 +1,4 @@
 -- `dispatch::perform_sound` meets its contract: each arm by one law. Assumes nothing.
-use mathlib.Core.Path.{refl}
 use Rattle.card.specs.BuffersLaws.{with-read, with-write, with-alloc, with-create, with-delete, with-key, with-renew, with-force, with-free, with-tick, with-audit}
 use borrow.Author.Needs.{needs}
 use Rattle.dispatch.proofs.perform_sound.Statement.{statement}
@@ -90,12 +89,7 @@ same-length-7 : tie.Need-same-length-7
 same-length-7 c = search needs
 
 returns : tie.Need-returns
-returns c =
-    let at-read-sound = c .before .before .before .before in
-    let at-call = at-read-sound .before .before .before .before .before .before .before .before .before in
-    let start = at-call .before .before .before .before .before .before .before .before .before .before .before in
-    with-read (start .args .port) _ (start .args .input .now) (start .args .out .now) (start .args .places .now) (start .args .call) (at-call .call .given .1)
-    (at-read-sound .read-sound .ensures)
+returns c = search with-read
 
 same-length-8 : tie.Need-same-length-8
 same-length-8 c = search needs
@@ -116,12 +110,7 @@ same-length-13 : tie.Need-same-length-13
 same-length-13 c = search needs
 
 returns-2 : tie.Need-returns-2
-returns-2 c =
-    let at-write-sound = c .before .before .before .before in
-    let at-call2 = at-write-sound .before .before .before .before .before .before .before .before in
-    let start = at-call2 .before .before .before .before .before .before .before .before .before .before .before in
-    with-write (start .args .port) _ (start .args .input .now) (start .args .out .now) (start .args .places .now) (start .args .call) (at-call2 .call2 .given .1)
-    (at-write-sound .write-sound .ensures)
+returns-2 c = search with-write
 
 same-length-14 : tie.Need-same-length-14
 same-length-14 c = search needs
@@ -145,12 +134,7 @@ same-length-20 : tie.Need-same-length-20
 same-length-20 c = search needs
 
 returns-3 : tie.Need-returns-3
-returns-3 c =
-    let at-alloc-sound = c .before .before .before .before .before .before .before .before .before .before in
-    let at-call3 = at-alloc-sound .before .before .before .before .before .before .before .before .before in
-    let start = at-call3 .before .before .before .before .before .before .before .before .before .before .before in
-    with-alloc (start .args .port) _ (start .args .input .now) (start .args .out .now) (start .args .places .now) (start .args .call) (at-call3 .call3 .given .1)
-    (at-alloc-sound .alloc-sound .ensures)
+returns-3 c = search with-alloc
 
 same-length-21 : tie.Need-same-length-21
 same-length-21 c = search needs
@@ -171,12 +155,7 @@ same-length-26 : tie.Need-same-length-26
 same-length-26 c = search needs
 
 returns-4 : tie.Need-returns-4
-returns-4 c =
-    let at-create-sound = c .before .before .before .before in
-    let at-call4 = at-create-sound .before .before .before .before .before .before .before .before in
-    let start = at-call4 .before .before .before .before .before .before .before .before .before .before .before in
-    with-create (start .args .port) _ (start .args .input .now) (start .args .out .now) (start .args .places .now) (start .args .call) (at-call4 .call4 .given .1)
-    (at-create-sound .create-sound .ensures)
+returns-4 c = search with-create
 
 same-length-27 : tie.Need-same-length-27
 same-length-27 c = search needs
@@ -197,12 +176,7 @@ same-length-32 : tie.Need-same-length-32
 same-length-32 c = search needs
 
 returns-5 : tie.Need-returns-5
-returns-5 c =
-    let at-delete-sound = c .before .before .before .before .before .before .before .before .before .before in
-    let at-call5 = at-delete-sound .before .before .before .before .before .before .before .before in
-    let start = at-call5 .before .before .before .before .before .before .before .before .before .before .before in
-    with-delete (start .args .port) _ (start .args .input .now) (start .args .out .now) (start .args .places .now) (start .args .call) (at-call5 .call5 .given .1)
-    (at-delete-sound .delete-sound .ensures)
+returns-5 c = search with-delete
 
 same-length-33 : tie.Need-same-length-33
 same-length-33 c = search needs
@@ -223,12 +197,7 @@ same-length-38 : tie.Need-same-length-38
 same-length-38 c = search needs
 
 returns-6 : tie.Need-returns-6
-returns-6 c =
-    let at-key-sound = c .before .before .before .before .before .before in
-    let at-call6 = at-key-sound .before .before .before .before .before .before .before .before in
-    let start = at-call6 .before .before .before .before .before .before .before .before .before .before .before in
-    with-key (start .args .port) _ (start .args .input .now) (start .args .out .now) (start .args .places .now) (start .args .call) (at-call6 .call6 .given .1)
-    (at-key-sound .key-sound .ensures)
+returns-6 c = search with-key
 
 same-length-39 : tie.Need-same-length-39
 same-length-39 c = search needs
@@ -250,11 +219,10 @@ same-length-44 c = search needs
 
 returns-7 : tie.Need-returns-7
 returns-7 c =
-    let at-renew-sound = c .before .before in
-    let at-call7 = at-renew-sound .before .before .before .before .before .before .before .before in
-    let start = at-call7 .before .before .before .before .before .before .before .before .before .before .before in
+    let at-call7 : tie.After-call7 = search in
+    let start : tie.Start = search in
     with-renew (start .args .port) _ (start .args .input .now) (start .args .out .now) (start .args .places .now) (start .args .call) (at-call7 .call7 .given .1)
-    (at-renew-sound .renew-sound .ensures (start .args .port))
+    (c .before .before .renew-sound .ensures (start .args .port))
 
 same-length-45 : tie.Need-same-length-45
 same-length-45 c = search needs
@@ -276,11 +244,10 @@ same-length-50 c = search needs
 
 returns-8 : tie.Need-returns-8
 returns-8 c =
-    let at-force-sound = c .before .before in
-    let at-call8 = at-force-sound .before .before .before .before .before .before .before .before in
-    let start = at-call8 .before .before .before .before .before .before .before .before .before .before .before in
+    let at-call8 : tie.After-call8 = search in
+    let start : tie.Start = search in
     with-force (start .args .port) _ (start .args .input .now) (start .args .out .now) (start .args .places .now) (start .args .call) (at-call8 .call8 .given .1)
-    (at-force-sound .force-sound .ensures (start .args .port))
+    (c .before .before .force-sound .ensures (start .args .port))
 
 same-length-51 : tie.Need-same-length-51
 same-length-51 c = search needs
@@ -302,8 +269,8 @@ same-length-56 c = search needs
 
 returns-9 : tie.Need-returns-9
 returns-9 c =
-    let at-enum-told = c .before .before .before .before .before .before .before in
-    let start = at-enum-told .before .before .before .before .before .before .before .before .before .before .before in
+    let at-enum-told : tie.After-enum-told = search in
+    let start : tie.Start = search in
     with-free (start .args .port) _ (start .args .input .now) (start .args .out .now) (start .args .places .now) (start .args .call) (at-enum-told .enum-told .given .1)
     (c .free-sound .ensures (start .args .port))
 
@@ -327,15 +294,13 @@ same-length-62 c = search needs
 
 returns-10 : tie.Need-returns-10
 returns-10 c =
-    let at-call9 = c .before .before .before .before .before .before .before .before in
-    let start = at-call9 .before .before .before .before .before .before .before .before .before .before .before in
+    let at-call9 : tie.After-call9 = search in
+    let start : tie.Start = search in
     with-tick (start .args .port) _ (start .args .input .now) (start .args .out .now) (start .args .places .now) (start .args .call) (at-call9 .call9 .given .1)
     (c .tick-sound .ensures (start .args .port))
 
 returns-11 : tie.Need-returns-11
-returns-11 c =
-    let start = c .before .before .before .before .before .before .before .before .before .before .before in
-    with-audit (start .args .port) _ (start .args .input .now) (start .args .out .now) (start .args .places .now) (start .args .call) (c .enum-told2 .given .1) refl refl
+returns-11 c = search with-audit
 
 pub perform-sound-spec : {M : Type 1} → statement M
 perform-sound-spec =

@@ -9,6 +9,14 @@ use borrow.Author.Needs.{needs}
 use Rattle.format.proofs.format.Statement.{statement}
 use Rattle.format.proofs.format.Tie as tie
 
+-- ---- places of the code
+
+abbrev fresh-from-shaped : tie.After-shaped → tie.After-fresh
+fresh-from-shaped c = search
+
+abbrev start-from-fresh : tie.After-fresh → tie.Start
+start-from-fresh c = search
+
 fresh-requires : tie.Need-fresh-requires
 fresh-requires c κs = search needs
 
@@ -17,8 +25,8 @@ shaped-requires c κs = search needs
 
 mark-roots-requires : tie.Need-mark-roots-requires
 mark-roots-requires c κs =
-    let at-shaped = c .before .before in
-    roots-within _ (at-shaped .before .before .before .before .before .before .before .fresh .ensures) (at-shaped .shaped .ensures) (c .before .if1 .taken)
+    let at-fresh : tie.After-fresh = search in
+    roots-within _ (at-fresh .fresh .ensures) (c .before .before .shaped .ensures) (c .before .if1 .taken)
 
 clear-words-requires : tie.Need-clear-words-requires
 clear-words-requires c κs = search needs
@@ -34,21 +42,24 @@ clear-words-requires-2 c κs = search needs
 
 mul-size : tie.Need-mul-size
 mul-size c =
-    let at-if1 = c .before .before .before .before .before .before .before .before .before .before .before .before .before .before .before .before .before .before .before .before in
-    let at-shaped = at-if1 .before in
-    omega (arith, size-low _ (at-shaped .before .before .before .before .before .before .before .fresh .ensures) (at-shaped .shaped .ensures) (at-if1 .if1 .taken))
+    let at-if1 : tie.Then1 = search in
+    let at-shaped : tie.After-shaped = search in
+    let at-fresh : tie.After-fresh = search in
+    omega (arith, size-low _ (at-fresh .fresh .ensures) (at-shaped .shaped .ensures) (at-if1 .if1 .taken))
 
 slice-relend-prefix-clear : tie.Need-slice-relend-prefix-clear
 slice-relend-prefix-clear c =
-    let at-if1 = c .before .before .before .before .before .before .before .before .before .before .before .before .before .before .before .before .before .before .before .before in
-    let at-shaped = at-if1 .before in
-    size-within _ (at-shaped .before .before .before .before .before .before .before .fresh .ensures) (at-shaped .shaped .ensures) (at-if1 .if1 .taken)
+    let at-if1 : tie.Then1 = search in
+    let at-shaped : tie.After-shaped = search in
+    let at-fresh : tie.After-fresh = search in
+    size-within _ (at-fresh .fresh .ensures) (at-shaped .shaped .ensures) (at-if1 .if1 .taken)
 
 slice-aggregate-clear : tie.Need-slice-aggregate-clear
 slice-aggregate-clear c =
-    let at-if1 = c .before .before .before .before .before .before .before .before .before .before .before .before .before .before .before .before .before .before .before .before .before in
-    let at-shaped = at-if1 .before in
-    sym (length-take-le _ _ (size-within _ (at-shaped .before .before .before .before .before .before .before .fresh .ensures) (at-shaped .shaped .ensures) (at-if1 .if1 .taken)))
+    let at-if1 : tie.Then1 = search in
+    let at-shaped : tie.After-shaped = search in
+    let at-fresh : tie.After-fresh = search in
+    sym (length-take-le _ _ (size-within _ (at-fresh .fresh .ensures) (at-shaped .shaped .ensures) (at-if1 .if1 .taken)))
 
 clear-requires : tie.Need-clear-requires
 clear-requires c κs = search needs
@@ -76,17 +87,16 @@ same-length-6 c = search needs
 
 returns : tie.Need-returns
 returns c =
-    let at-clear = c .before .before .before in
-    let at-clear-words2 = at-clear .before .before .before .before in
-    let at-clear-places = at-clear-words2 .before .before .before .before in
-    let at-clear-counts = at-clear-places .before .before .before .before in
-    let at-clear-words = at-clear-counts .before .before .before .before in
-    let at-mark-roots = at-clear-words .before .before .before .before in
-    let at-if1 = at-mark-roots .before .before in
-    let at-shaped = at-if1 .before in
-    let at-fresh = at-shaped .before .before .before .before .before .before .before in
-    let start = at-fresh .before .before .before .before .before .before .before in
-    let a = start .args in format-done _ _ _ _ (at-fresh .fresh .ensures) (at-shaped .shaped .ensures) (at-if1 .if1 .taken) (c .done .ensures) (at-mark-roots .mark-roots .ensures) (at-clear-words .clear-words .ensures) (at-clear-counts .clear-counts .ensures) (at-clear-places .clear-places .ensures) (at-clear-words2 .clear-words2 .ensures) (front-cleared (a .contents .now) (a .roots * a .bytes) (at-clear .clear .ensures) (size-within _ (at-shaped .before .before .before .before .before .before .before .fresh .ensures) (at-shaped .shaped .ensures) (at-if1 .if1 .taken)))
+    let at-clear-words2 : tie.After-clear-words2 = search in
+    let at-clear-places : tie.After-clear-places = search in
+    let at-clear-counts : tie.After-clear-counts = search in
+    let at-clear-words : tie.After-clear-words = search in
+    let at-mark-roots : tie.After-mark-roots = search in
+    let at-if1 : tie.Then1 = search in
+    let at-shaped : tie.After-shaped = search in
+    let at-fresh = fresh-from-shaped at-shaped in
+    let start = start-from-fresh at-fresh in
+    let a = start .args in format-done _ _ _ _ (at-fresh .fresh .ensures) (at-shaped .shaped .ensures) (at-if1 .if1 .taken) (c .done .ensures) (at-mark-roots .mark-roots .ensures) (at-clear-words .clear-words .ensures) (at-clear-counts .clear-counts .ensures) (at-clear-places .clear-places .ensures) (at-clear-words2 .clear-words2 .ensures) (front-cleared (a .contents .now) (a .roots * a .bytes) (c .before .before .before .clear .ensures) (size-within _ (at-fresh .fresh .ensures) (at-shaped .shaped .ensures) (at-if1 .if1 .taken)))
 
 refused-requires : tie.Need-refused-requires
 refused-requires c κs = search needs
@@ -110,7 +120,7 @@ same-length-12 : tie.Need-same-length-12
 same-length-12 c = search needs
 
 returns-2 : tie.Need-returns-2
-returns-2 c = format-refused _ _ _ _ (c .before .before .before .before .before .before .before .before .before .fresh .ensures) (c .before .before .shaped .ensures) (c .before .if1 .left) (c .refused .ensures)
+returns-2 c = search format-refused
 
 pub format-spec : {M : Type 1} → statement M
 format-spec = tie.close (tie.spec fresh-requires shaped-requires mark-roots-requires clear-words-requires clear-counts-requires clear-places-requires clear-words-requires-2 mul-size slice-relend-prefix-clear slice-aggregate-clear clear-requires done-requires same-length same-length-2 same-length-3 same-length-4 same-length-5 same-length-6 returns refused-requires same-length-7 same-length-8 same-length-9 same-length-10 same-length-11 same-length-12 returns-2)

@@ -12,7 +12,7 @@ slice-relend-prefix-mark : tie.Need-slice-relend-prefix-mark
 slice-relend-prefix-mark c = search needs
 
 slice-aggregate-mark : tie.Need-slice-aggregate-mark
-slice-aggregate-mark c = front-count _ (c .before .before .before .clear .ensures) (c .before .before .before .before .before .before .pre)
+slice-aggregate-mark c = search front-count
 
 mark-requires : tie.Need-mark-requires
 mark-requires c κs = search needs
@@ -21,11 +21,7 @@ same-length : tie.Need-same-length
 same-length c = search needs
 
 returns : tie.Need-returns
-returns c =
-    let at-mark = c .before .before in
-    let at-clear = at-mark .before .before .before .before in
-    let at-pre = at-clear .before .before .before in
-    front-marked _ (at-clear .clear .ensures) (at-mark .mark .ensures) (at-pre .pre)
+returns c = search front-marked
 
 pub mark-roots-spec : {M : Type 1} → statement M
 mark-roots-spec = tie.close (tie.spec clear-requires slice-relend-prefix-mark slice-aggregate-mark mark-requires same-length returns)

@@ -6,7 +6,7 @@ use Rattle.input.proofs.find.Statement.{statement}
 use Rattle.input.proofs.find.Tie as tie
 
 returns : tie.Need-returns
-returns c = found-ended (c .before .before .args .input .now) (c .before .before .args .from) (c .if1 .taken)
+returns c = search found-ended
 
 shared-slice-read-kind : tie.Need-shared-slice-read-kind
 shared-slice-read-kind c = search needs
@@ -34,15 +34,14 @@ enum-told c = search needs
 
 returns-2 : tie.Need-returns-2
 returns-2 c =
-    let at-length = c .before .before in
-    let start = at-length .before .before .before .before .before in
-    found-unknown (start .args .input .now) (start .args .from) (omega arith) (at-length .body-length .ensures) (c .enum-told .given .1)
+    let start : tie.Start = search in
+    found-unknown (start .args .input .now) (start .args .from) (omega arith) (c .before .before .body-length .ensures) (c .enum-told .given .1)
 
 returns-3 : tie.Need-returns-3
 returns-3 c =
-    let at-length = c .before .before .before .before in
-    let start = at-length .before .before .before .before .before in
-    found-short (start .args .input .now) (start .args .from) (omega arith) (at-length .body-length .ensures) (c .before .before .length .given .1) (c .if2 .taken)
+    let at-body-length : tie.After-body-length = search in
+    let start : tie.Start = search in
+    found-short (start .args .input .now) (start .args .from) (omega arith) (at-body-length .body-length .ensures) (c .before .before .length .given .1) (c .if2 .taken)
 
 decode-requires : tie.Need-decode-requires
 decode-requires c κs = search needs
@@ -61,16 +60,15 @@ add-t24 c = search needs
 
 returns-4 : tie.Need-returns-4
 returns-4 c =
-    let at-known = c .before .before .before .before .before in
-    let at-length = at-known .before .before in
-    let start = at-length .before .before .before .before .before in
-    found-bad (start .args .input .now) (start .args .from) (omega arith) (at-length .body-length .ensures) (at-known .length .given .1) (c .before .before .before .if2 .left) (c .before .before .decode .ensures) (c .enum-told2 .given .1)
+    let at-length : tie.After-length = search in
+    let at-body-length : tie.After-body-length = search in
+    let start : tie.Start = search in
+    found-bad (start .args .input .now) (start .args .from) (omega arith) (at-body-length .body-length .ensures) (at-length .length .given .1) (c .before .before .before .if2 .left) (c .before .before .decode .ensures) (c .enum-told2 .given .1)
 
 returns-5 : tie.Need-returns-5
 returns-5 c =
-    let at-decode = c .before .before .before .before .before in
-    let at-length = at-decode .before .before .before .before .before in
-    let start = at-length .before .before .before .before .before in
+    let at-decode : tie.After-decode = search in
+    let start : tie.Start = search in
     found-whole (start .args .input .now) (start .args .from) (omega arith) (at-decode .decode .ensures) (c .before .before .before .decoding .given .1)
 
 pub find-spec : {M : Type 1} → statement M

@@ -23,10 +23,12 @@ refused-requires c κs = search needs
 
 returns : tie.Need-returns
 unfolding performSound plan forcePlan
-returns c = λ port. refuses _ _ _ (c .refused .ensures) (here (missing-told _ _ (c .before .before .missing .ensures) (c .before .if1 .taken)))
+returns c = λ port. search (refuses, here, missing-told)
 
 close-windows-requires : tie.Need-close-windows-requires
-close-windows-requires c κs = windows-there _ (c .before .before .before .before .before .before .before .before .before .before .pre) (c .before .before .missing .ensures) (c .before .if1 .left)
+close-windows-requires c κs =
+    let start : tie.Start = search in
+    windows-there _ (start .pre) (c .before .before .missing .ensures) (c .before .if1 .left)
 
 done-requires : tie.Need-done-requires
 done-requires c κs = search needs
@@ -36,11 +38,7 @@ same-length c = search needs
 
 returns-2 : tie.Need-returns-2
 unfolding performSound plan forcePlan outAfter placesAfter
-returns-2 c =
-    let at-close-windows = c .before .before .before in
-    let at-if1 = at-close-windows .before .before in
-    let at-missing = at-if1 .before in
-    λ port. finishes _ _ _ (c .done .ensures) (missing-told _ _ (at-missing .missing .ensures) (at-if1 .if1 .left), tt) (closes-windows _ _ (at-close-windows .close-windows .ensures)) refl refl
+returns-2 c = λ port. finishes _ _ _ (c .done .ensures) (search missing-told, tt) (closes-windows _ _ (c .before .before .before .close-windows .ensures)) refl refl
 
 pub force-sound-spec : {M : Type 1} → statement M
 force-sound-spec =

@@ -29,7 +29,7 @@ same-length c = search needs
 
 returns : tie.Need-returns
 unfolding performSound plan keyPlan
-returns c = refuses _ _ _ (c .refused .ensures) (here (missing-told _ _ (c .before .before .missing .ensures) (c .before .if1 .taken)))
+returns c = search (refuses, here, missing-told)
 
 root-at-host-requires : tie.Need-root-at-host-requires
 root-at-host-requires c κs = search needs
@@ -42,14 +42,14 @@ same-length-2 c = search needs
 
 returns-2 : tie.Need-returns-2
 unfolding performSound plan keyPlan
-returns-2 c = refuses _ _ _ (c .refused2 .ensures) (later (missing-told _ _ (c .before .before .before .before .missing .ensures) (c .before .before .before .if1 .left)) (here (root-told _ _ _ (c .before .before .root-at-host .ensures) (c .before .if2 .taken))))
+returns-2 c = search (refuses, later, missing-told, here, root-told)
 
 admits-requires : tie.Need-admits-requires
 admits-requires c κs =
-    let at-if1 = c .before .before .before .before .before in
-    let at-missing = at-if1 .before in
-    let at-pre = at-missing .before .before .before .before .before .before .before .before .before in
-    access-there _ (at-pre .pre) (at-missing .missing .ensures) (at-if1 .if1 .left)
+    let at-if1 : tie.Else1 = search in
+    let at-missing : tie.After-missing = search in
+    let start : tie.Start = search in
+    access-there _ (start .pre) (at-missing .missing .ensures) (at-if1 .if1 .left)
 
 refused-requires-3 : tie.Need-refused-requires-3
 refused-requires-3 c κs = search needs
@@ -65,13 +65,7 @@ same-length-5 c = search needs
 
 returns-3 : tie.Need-returns-3
 unfolding performSound plan keyPlan
-returns-3 c =
-    let at-admits = c .before .before in
-    let at-if2 = at-admits .before .before .before .before in
-    let at-root-at-host = at-if2 .before in
-    let at-if1 = at-root-at-host .before in
-    let at-missing = at-if1 .before in
-    refuses _ _ _ (c .refused3 .ensures) (later (missing-told _ _ (at-missing .missing .ensures) (at-if1 .if1 .left)) (later (root-told _ _ _ (at-root-at-host .root-at-host .ensures) (at-if2 .if2 .left)) (here (closed-told _ _ _ _ _ (at-admits .admits .ensures) (c .before .if3 .taken)))))
+returns-3 c = search (refuses, later, missing-told, root-told, here, closed-told)
 
 key-bit-requires : tie.Need-key-bit-requires
 key-bit-requires c κs = search needs
@@ -80,31 +74,35 @@ key-bit-requires-2 : tie.Need-key-bit-requires-2
 key-bit-requires-2 c κs = search needs
 
 add-flags : tie.Need-add-flags
-add-flags c = omega (arith, c .before .key-bit .ensures, bit-low Reading (c .before .before .before .before .before .before .before .before .before .before .before .before .before .before .before .before .before .before .before .args .o .read))
+add-flags c =
+    let start : tie.Start = search in
+    omega (arith, c .before .key-bit .ensures, bit-low Reading (start .args .o .read))
 
 add-flags-2 : tie.Need-add-flags-2
-add-flags-2 c = omega (arith, c .before .key-bit .ensures, c .key-bit2 .ensures, bit-low Reading (c .before .before .before .before .before .before .before .before .before .before .before .before .before .before .before .before .before .before .before .args .o .read), bit-low Writing (c .before .before .before .before .before .before .before .before .before .before .before .before .before .before .before .before .before .before .before .args .o .write))
+add-flags-2 c =
+    let start : tie.Start = search in
+    omega (arith, c .before .key-bit .ensures, c .key-bit2 .ensures, bit-low Reading (start .args .o .read), bit-low Writing (start .args .o .write))
 
 slice-write-flags : tie.Need-slice-write-flags
 slice-write-flags c =
-    let at-if1 = c .before .before .before .before .before .before .before .before .before in
-    let at-missing = at-if1 .before in
-    let at-pre = at-missing .before .before .before .before .before .before .before .before .before in
-    flag-there _ (at-pre .pre) (at-missing .missing .ensures) (at-if1 .if1 .left)
+    let at-if1 : tie.Else1 = search in
+    let at-missing : tie.After-missing = search in
+    let start : tie.Start = search in
+    flag-there _ (start .pre) (at-missing .missing .ensures) (at-if1 .if1 .left)
 
 replace-keys-requires : tie.Need-replace-keys-requires
 replace-keys-requires c κs =
-    let at-if1 = c .before .before .before .before .before .before .before .before .before .before in
-    let at-missing = at-if1 .before in
-    let at-pre = at-missing .before .before .before .before .before .before .before .before .before in
-    keys-there _ (at-pre .pre) (at-missing .missing .ensures) (at-if1 .if1 .left)
+    let at-if1 : tie.Else1 = search in
+    let at-missing : tie.After-missing = search in
+    let start : tie.Start = search in
+    keys-there _ (start .pre) (at-missing .missing .ensures) (at-if1 .if1 .left)
 
 close-windows-requires : tie.Need-close-windows-requires
 close-windows-requires c κs =
-    let at-if1 = c .before .before .before .before .before .before .before .before .before .before .before .before .before .before in
-    let at-missing = at-if1 .before in
-    let at-pre = at-missing .before .before .before .before .before .before .before .before .before in
-    windows-there _ (at-pre .pre) (at-missing .missing .ensures) (at-if1 .if1 .left)
+    let at-if1 : tie.Else1 = search in
+    let at-missing : tie.After-missing = search in
+    let start : tie.Start = search in
+    windows-there _ (start .pre) (at-missing .missing .ensures) (at-if1 .if1 .left)
 
 done-requires : tie.Need-done-requires
 done-requires c κs = search needs
@@ -121,17 +119,14 @@ same-length-8 c = search needs
 returns-4 : tie.Need-returns-4
 unfolding performSound plan keyPlan outAfter placesAfter
 returns-4 c =
-    let at-close-windows = c .before .before .before in
-    let at-replace-keys = at-close-windows .before .before .before .before in
-    let at-key-bit2 = at-replace-keys .before .before in
-    let at-key-bit = at-key-bit2 .before in
-    let at-if3 = at-key-bit .before in
-    let at-admits = at-if3 .before in
-    let at-if2 = at-admits .before .before .before .before in
-    let at-root-at-host = at-if2 .before in
-    let at-if1 = at-root-at-host .before in
-    let at-missing = at-if1 .before in
-    finishes _ _ _ (c .done .ensures) (missing-told _ _ (at-missing .missing .ensures) (at-if1 .if1 .left), (root-told _ _ _ (at-root-at-host .root-at-host .ensures) (at-if2 .if2 .left), (closed-told _ _ _ _ _ (at-admits .admits .ensures) (at-if3 .if3 .left), tt))) (replaces-keys _ _ _ _ (at-key-bit .key-bit .ensures) (at-key-bit2 .key-bit2 .ensures) (at-replace-keys .replace-keys .ensures) (at-close-windows .close-windows .ensures)) refl refl
+    let at-replace-keys : tie.After-replace-keys = search in
+    let at-key-bit2 : tie.After-key-bit2 = search in
+    let at-key-bit : tie.After-key-bit = search in
+    let at-if2 : tie.Else2 = search in
+    let at-root-at-host : tie.After-root-at-host = search in
+    let at-if1 : tie.Else1 = search in
+    let at-missing : tie.After-missing = search in
+    finishes _ _ _ (c .done .ensures) (missing-told _ _ (at-missing .missing .ensures) (at-if1 .if1 .left), (root-told _ _ _ (at-root-at-host .root-at-host .ensures) (at-if2 .if2 .left), search closed-told)) (replaces-keys _ _ _ _ (at-key-bit .key-bit .ensures) (at-key-bit2 .key-bit2 .ensures) (at-replace-keys .replace-keys .ensures) (c .before .before .before .close-windows .ensures)) refl refl
 
 pub key-sound-spec : {M : Type 1} → statement M
 key-sound-spec =

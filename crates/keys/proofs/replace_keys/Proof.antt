@@ -59,11 +59,7 @@ same-length : tie.Need-same-length
 same-length c = search needs
 
 returns : tie.Need-returns
-returns c =
-    let at-low-word = c .before .before in
-    let at-high-word = at-low-word .before in
-    let start = at-high-word .before .before in
-    let a = start .args in keys-replaced (a .keys .now) (a .block) (a .read) (a .write) (start .pre) (at-high-word .high-word .ensures) (at-low-word .low-word .ensures) (c .before .high-word2 .ensures) (c .low-word2 .ensures)
+returns c = search keys-replaced
 
 pub replace-keys-spec : {M : Type 1} → statement M
 replace-keys-spec =

@@ -46,7 +46,7 @@ put-number-put-byte-requires : (t : ℕ) → put-number-lts.Need-put-byte-requir
   put-number-below t,
   put-number.Post,
 ) (put-number-at t) put-number.Post
-put-number-put-byte-requires t c κs = room-one (c .before .before .before .args .n) (c .before .before .before .args .at) _ (c .before .if1 .taken) (c .before .before .before .pre .1)
+put-number-put-byte-requires t c κs = search room-one
 
 put-number-put-number-requires : (t : ℕ) → put-number-lts.Need-put-number-requires (
   put-byte-reads.Asked,
@@ -94,7 +94,7 @@ put-number-returns : (t : ℕ) → put-number-lts.Need-returns (
   put-number-below t,
   put-number.Post,
 ) (put-number-at t) put-number.Post
-put-number-returns t c = written-small (c .before .before .before .before .before .before .args .n) (c .before .before .before .before .if1 .taken) (c .before .before .put-byte .ensures)
+put-number-returns t c = search written-small
 
 put-number-same-length-2 : (t : ℕ) → put-number-lts.Need-same-length-2 (
   put-byte-reads.Asked,
@@ -110,12 +110,7 @@ put-number-returns-2 : (t : ℕ) → put-number-lts.Need-returns-2 (
   put-number-below t,
   put-number.Post,
 ) (put-number-at t) put-number.Post
-put-number-returns-2 t c =
-    let at-put-byte2 = c .before .before in
-    let at-put-number = at-put-byte2 .before .before .before .before in
-    let at-if1 = at-put-number .before .before in
-    let start = at-if1 .before .before in
-    written-large (start .args .n) (at-if1 .if1 .left) (start .fits .n .fits) (start .pre .1) (at-put-number .put-number .ensures) (at-put-byte2 .put-byte2 .ensures)
+put-number-returns-2 t c = search written-large
 
 pub +put-number-spec : {M : Type 1} → statement M
 +put-number-spec = close μ-put-number λ t. put-number-lts.spec (

@@ -27,8 +27,10 @@ filled-by-requires c κs = search needs
 
 put-filled-requires : tie.Need-put-filled-requires
 put-filled-requires c κs =
-    let fits : c .before .before .before .before .before .before .before .before .before .before .before .args .at + 21 + 1344 ≤ length (c .before .before .before .before .before .before .before .before .before .before .before .args .to .now) = omega arith in
-    (c .before .before .before .before .before .before .before .before .before .before .before .pre .0, room-spaced 0 1344 (c .before .before .before .before .put-spaced2 .ensures) fits)
+    let at-put-spaced2 : tie.After-put-spaced2 = search in
+    let start : tie.Start = search in
+    let fits : start .args .at + 21 + 1344 ≤ length (start .args .to .now) = omega arith in
+    (start .pre .0, room-spaced 0 1344 (at-put-spaced2 .put-spaced2 .ensures) fits)
 
 enum-known-answer-2 : tie.Need-enum-known-answer-2
 enum-known-answer-2 c = search needs
@@ -38,7 +40,8 @@ put-spaced-requires-3 c κs = search needs
 
 put-spaced-requires-4 : tie.Need-put-spaced-requires-4
 put-spaced-requires-4 c κs =
-    let fits : c .before .before .before .before .before .before .before .before .before .before .before .args .at + 21 + 21 ≤ length (c .before .before .before .before .before .before .before .before .before .before .before .args .to .now) = omega arith in
+    let start : tie.Start = search in
+    let fits : start .args .at + 21 + 21 ≤ length (start .args .to .now) = omega arith in
     room-spaced 0 21 (c .before .before .before .put-spaced3 .ensures) fits
 
 filled-by-requires-2 : tie.Need-filled-by-requires-2
@@ -46,48 +49,30 @@ filled-by-requires-2 c κs = search needs
 
 put-filled-requires-2 : tie.Need-put-filled-requires-2
 put-filled-requires-2 c κs =
-    let fits : c .before .before .before .before .before .before .before .before .before .before .before .before .before .before .before .before .args .at + 21 + 1365 ≤ length (c .before .before .before .before .before .before .before .before .before .before .before .before .before .before .before .before .args .to .now) = omega (arith, c .before .before .before .before .before .before .before .before .before .before .before .before .before .before .before .before .pre .1) in
-    let more : c .before .before .before .before .before .before .before .before .put-spaced3 .result + 21 + 1344 ≤ length (c .before .before .before .before .before .before .before .before .put-spaced3 .last .0) = omega (arith, room-spaced 0 1365 (c .before .before .before .before .before .before .before .before .put-spaced3 .ensures) fits) in
-    (c .before .before .before .before .before .before .before .before .before .before .before .before .before .before .before .before .pre .0, room-spaced _ 1344 (c .before .before .before .before .put-spaced4 .ensures) more)
+    let at-put-spaced4 : tie.After-put-spaced4 = search in
+    let at-put-spaced3 : tie.After-put-spaced3 = search in
+    let start : tie.Start = search in
+    let fits : start .args .at + 21 + 1365 ≤ length (start .args .to .now) = omega (arith, start .pre .1) in
+    let more : at-put-spaced3 .put-spaced3 .result + 21 + 1344 ≤ length (at-put-spaced3 .put-spaced3 .last .0) = omega (arith, room-spaced 0 1365 (at-put-spaced3 .put-spaced3 .ensures) fits) in
+    (start .pre .0, room-spaced _ 1344 (at-put-spaced4 .put-spaced4 .ensures) more)
 
 same-length : tie.Need-same-length
 same-length c = search needs
 
 returns : tie.Need-returns
-returns c =
-    let at-put-spaced = c .before .before in
-    let at-refusal-number = at-put-spaced .before in
-    let at-answer = at-refusal-number .before .before .before in
-    let start = at-answer .before .before .before .before .before in
-    answered-refused (start .args .call) (start .args .answer) (start .args .out .now) (start .args .places .now) _ (at-answer .answer .given .1) (at-refusal-number .refusal-number .ensures)
-    (at-put-spaced .put-spaced .ensures)
+returns c = search answered-refused
 
 same-length-2 : tie.Need-same-length-2
 same-length-2 c = search needs
 
 returns-2 : tie.Need-returns-2
-returns-2 c =
-    let at-put-filled = c .before .before in
-    let at-filled-by = at-put-filled .before in
-    let at-put-spaced2 = at-filled-by .before .before .before .before in
-    let at-enum-told = at-put-spaced2 .before .before in
-    let start = at-enum-told .before .before .before .before .before in
-    answered-done (start .args .call) (start .args .answer) (start .args .out .now) (start .args .places .now) (start .pre .0) (at-enum-told .enum-told .given .1) (at-filled-by .filled-by .ensures)
-    (start .pre .1) (at-put-spaced2 .put-spaced2 .ensures) (at-put-filled .put-filled .ensures)
+returns-2 c = search answered-done
 
 same-length-3 : tie.Need-same-length-3
 same-length-3 c = search needs
 
 returns-3 : tie.Need-returns-3
-returns-3 c =
-    let at-put-filled2 = c .before .before in
-    let at-filled-by2 = at-put-filled2 .before in
-    let at-put-spaced4 = at-filled-by2 .before .before .before .before in
-    let at-put-spaced3 = at-put-spaced4 .before .before .before .before in
-    let at-answer2 = at-put-spaced3 .before .before .before in
-    let start = at-answer2 .before .before .before .before .before in
-    answered-value (start .args .call) (start .args .answer) (start .args .out .now) (start .args .places .now) (start .pre .0) (at-answer2 .answer2 .given .1) (at-filled-by2 .filled-by2 .ensures)
-    (start .pre .1) (at-put-spaced3 .put-spaced3 .ensures) (at-put-spaced4 .put-spaced4 .ensures) (at-put-filled2 .put-filled2 .ensures)
+returns-3 c = search answered-value
 
 pub put-answer-spec : {M : Type 1} → statement M
 put-answer-spec =

@@ -13,7 +13,7 @@ abbrev μ-loop : tie.MeasureT-loop
 μ-loop to₀ at values next₀ i₀ to next i = length values - i
 
 loop-holds : tie.Need-loop-holds Inv-loop μ-loop
-loop-holds c = spacing-none (c .before .before .args .values .now) (c .before .before .args .to .now) (c .before .before .args .at) (c .before .before .pre)
+loop-holds c = search spacing-none
 
 mul-of-block : tie.Need-mul-of-block Inv-loop μ-loop
 mul-of-block c = search needs
@@ -25,7 +25,7 @@ of-block-requires : tie.Need-of-block-requires Inv-loop μ-loop
 of-block-requires c κs = search needs
 
 put-spaced-requires : tie.Need-put-spaced-requires Inv-loop μ-loop
-put-spaced-requires c κs = spacing-room (c .before .before .before .before .before .before .before .args .values .now) (c .before .before .before .before .loop .inv) (c .before .before .before .loop-test .taken)
+put-spaced-requires c κs = search spacing-room
 
 add-i : tie.Need-add-i Inv-loop μ-loop
 add-i c = search needs
@@ -34,20 +34,13 @@ loop-less : tie.Need-loop-less Inv-loop μ-loop
 loop-less c = search needs
 
 loop-again : tie.Need-loop-again Inv-loop μ-loop
-loop-again c =
-    let at-put-spaced = c .before .before in
-    let at-of-block = at-put-spaced .before in
-    let at-loop-test = at-of-block .before .before .before in
-    let at-loop = at-loop-test .before in
-    let start = at-loop .before .before .before in
-    spacing-more (start .args .values .now) (start .args .to .now) (start .args .at) (at-loop .loop .inv) (at-loop-test .loop-test .taken)
-    (at-of-block .of-block .ensures) (at-put-spaced .put-spaced .ensures)
+loop-again c = search spacing-more
 
 same-length : tie.Need-same-length Inv-loop μ-loop
 same-length c = c .before .loop .inv .kept
 
 returns : tie.Need-returns Inv-loop μ-loop
-returns c = spacing-done (c .before .before .before .before .args .values .now) (c .before .loop .inv) (c .loop-test .left)
+returns c = search spacing-done
 
 pub put-blocks-spec : {M : Type 1} → statement M
 put-blocks-spec =

@@ -13,7 +13,7 @@ abbrev μ-loop : tie.MeasureT-loop
 μ-loop to₀ at values next₀ i₀ to next i = length values - i
 
 loop-holds : tie.Need-loop-holds Inv-loop μ-loop
-loop-holds c = spacing-none (c .before .before .args .values .now) (c .before .before .args .to .now) (c .before .before .args .at) (c .before .before .pre)
+loop-holds c = search spacing-none
 
 shared-slice-read-of-byte : tie.Need-shared-slice-read-of-byte Inv-loop μ-loop
 shared-slice-read-of-byte c = search needs
@@ -22,7 +22,7 @@ of-byte-requires : tie.Need-of-byte-requires Inv-loop μ-loop
 of-byte-requires c κs = search needs
 
 put-spaced-requires : tie.Need-put-spaced-requires Inv-loop μ-loop
-put-spaced-requires c κs = spacing-room (c .before .before .before .before .before .before .before .args .values .now) (c .before .before .before .before .loop .inv) (c .before .before .before .loop-test .taken)
+put-spaced-requires c κs = search spacing-room
 
 add-i : tie.Need-add-i Inv-loop μ-loop
 add-i c = search needs
@@ -31,20 +31,13 @@ loop-less : tie.Need-loop-less Inv-loop μ-loop
 loop-less c = search needs
 
 loop-again : tie.Need-loop-again Inv-loop μ-loop
-loop-again c =
-    let at-put-spaced = c .before .before in
-    let at-of-byte = at-put-spaced .before in
-    let at-loop-test = at-of-byte .before .before .before in
-    let at-loop = at-loop-test .before in
-    let start = at-loop .before .before .before in
-    spacing-more (start .args .values .now) (start .args .to .now) (start .args .at) (at-loop .loop .inv) (at-loop-test .loop-test .taken)
-    (at-of-byte .of-byte .ensures) (at-put-spaced .put-spaced .ensures)
+loop-again c = search spacing-more
 
 same-length : tie.Need-same-length Inv-loop μ-loop
 same-length c = c .before .loop .inv .kept
 
 returns : tie.Need-returns Inv-loop μ-loop
-returns c = spacing-done (c .before .before .before .before .args .values .now) (c .before .loop .inv) (c .loop-test .left)
+returns c = search spacing-done
 
 pub put-bytes-spec : {M : Type 1} → statement M
 put-bytes-spec =

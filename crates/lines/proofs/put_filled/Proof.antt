@@ -16,10 +16,12 @@ enum-told-2 : tie.Need-enum-told-2
 enum-told-2 c = search needs
 
 slice-aggregate-put-bytes : tie.Need-slice-aggregate-put-bytes
-slice-aggregate-put-bytes c = sym (length-take-le 8 (c .before .before .before .before .before .before .before .args .out .now) (c .before .before .before .before .before .before .before .pre .0 .bytes))
+slice-aggregate-put-bytes c = search (sym, length-take-le)
 
 put-bytes-requires : tie.Need-put-bytes-requires
-put-bytes-requires c κs = omega (arith, length-take 8 (c .before .before .before .before .before .before .before .args .out .now))
+put-bytes-requires c κs =
+    let start : tie.Start = search in
+    omega (arith, length-take 8 (start .args .out .now))
 
 enum-known-filled : tie.Need-enum-known-filled
 enum-known-filled c = search needs
@@ -38,13 +40,17 @@ same-length : tie.Need-same-length
 same-length c = search needs
 
 returns-2 : tie.Need-returns-2
-returns-2 c = rw (c .before .before .before .before .before .enum-told2 .given .1) (c .before .before .put-bytes .ensures)
+returns-2 c =
+    let at-enum-told2 : tie.After-enum-told2 = search in
+    rw (at-enum-told2 .enum-told2 .given .1) (c .before .before .put-bytes .ensures)
 
 same-length-2 : tie.Need-same-length-2
 same-length-2 c = search needs
 
 returns-3 : tie.Need-returns-3
-returns-3 c = rw (c .before .before .before .before .before .filled .given .1) (c .before .before .put-first .ensures)
+returns-3 c =
+    let at-filled : tie.After-filled = search in
+    rw (at-filled .filled .given .1) (c .before .before .put-first .ensures)
 
 pub put-filled-spec : {M : Type 1} → statement M
 put-filled-spec =

@@ -9,10 +9,14 @@ use Rattle.lines.proofs.put_first.Statement.{statement}
 use Rattle.lines.proofs.put_first.Tie as tie
 
 slice-aggregate-put-blocks : tie.Need-slice-aggregate-put-blocks
-slice-aggregate-put-blocks c = sym (length-take-le (c .before .before .before .before .before .args .count) (c .before .before .before .before .before .args .values .now) (omega arith))
+slice-aggregate-put-blocks c =
+    let start : tie.Start = search in
+    sym (length-take-le (start .args .count) (start .args .values .now) (omega arith))
 
 put-blocks-requires : tie.Need-put-blocks-requires
-put-blocks-requires c κs = omega (arith, length-take (c .before .before .before .before .before .args .count) (c .before .before .before .before .before .args .values .now))
+put-blocks-requires c κs =
+    let start : tie.Start = search in
+    omega (arith, length-take (start .args .count) (start .args .values .now))
 
 put-blocks-requires-2 : tie.Need-put-blocks-requires-2
 put-blocks-requires-2 c κs = search needs
@@ -28,8 +32,9 @@ same-length-2 c = search needs
 
 returns-2 : tie.Need-returns-2
 returns-2 c =
-    let whole : length (c .before .before .before .before .before .before .before .args .values .now) ≤ c .before .before .before .before .before .before .before .args .count = omega arith in
-    rw (take-all (c .before .before .before .before .before .before .before .args .count) (c .before .before .before .before .before .before .before .args .values .now) whole) (c .before .before .put-blocks2 .ensures)
+    let start : tie.Start = search in
+    let whole : length (start .args .values .now) ≤ start .args .count = omega arith in
+    rw (take-all (start .args .count) (start .args .values .now) whole) (c .before .before .put-blocks2 .ensures)
 
 pub put-first-spec : {M : Type 1} → statement M
 put-first-spec =

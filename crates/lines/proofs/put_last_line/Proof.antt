@@ -18,29 +18,27 @@ put-spaced-requires c κs = search needs
 
 put-spaced-requires-2 : tie.Need-put-spaced-requires-2
 put-spaced-requires-2 c κs =
-    let fits : c .before .before .before .before .before .before .before .before .before .before .before .args .at + 3 + 2045 ≤ length (c .before .before .before .before .before .before .before .before .before .before .before .args .to .now) = omega (arith, c .before .before .before .before .before .before .before .before .before .before .before .pre) in
-    let more : c .before .before .before .before .before .before .before .put-text .result + 21 + 2024 ≤ length (c .before .before .before .before .before .before .before .put-text .last .0) = omega (arith, room-behind 3 2045 (c .before .before .before .before .before .before .before .put-text .ensures) (omega arith) fits) in
+    let at-put-text : tie.After-put-text = search in
+    let start : tie.Start = search in
+    let fits : start .args .at + 3 + 2045 ≤ length (start .args .to .now) = omega (arith, start .pre) in
+    let more : at-put-text .put-text .result + 21 + 2024 ≤ length (at-put-text .put-text .last .0) = omega (arith, room-behind 3 2045 (at-put-text .put-text .ensures) (omega arith) fits) in
     omega (arith, room-spaced _ 2024 (c .before .before .before .put-spaced .ensures) more)
 
 put-byte-requires : tie.Need-put-byte-requires
 put-byte-requires c κs =
-    let fits : c .before .before .before .before .before .before .before .before .before .before .before .before .before .before .before .args .at + 3 + 2045 ≤ length (c .before .before .before .before .before .before .before .before .before .before .before .before .before .before .before .args .to .now) = omega (arith, c .before .before .before .before .before .before .before .before .before .before .before .before .before .before .before .pre) in
-    let more : c .before .before .before .before .before .before .before .before .before .before .before .put-text .result + 21 + 2024 ≤ length (c .before .before .before .before .before .before .before .before .before .before .before .put-text .last .0) = omega (arith, room-behind 3 2045 (c .before .before .before .before .before .before .before .before .before .before .before .put-text .ensures) (omega arith) fits) in
-    let last : c .before .before .before .before .before .before .before .put-spaced .result + 21 + 2003 ≤ length (c .before .before .before .before .before .before .before .put-spaced .last .0) = omega (arith, room-spaced _ 2024 (c .before .before .before .before .before .before .before .put-spaced .ensures) more) in
+    let at-put-spaced : tie.After-put-spaced = search in
+    let at-put-text : tie.After-put-text = search in
+    let start : tie.Start = search in
+    let fits : start .args .at + 3 + 2045 ≤ length (start .args .to .now) = omega (arith, start .pre) in
+    let more : at-put-text .put-text .result + 21 + 2024 ≤ length (at-put-text .put-text .last .0) = omega (arith, room-behind 3 2045 (at-put-text .put-text .ensures) (omega arith) fits) in
+    let last : at-put-spaced .put-spaced .result + 21 + 2003 ≤ length (at-put-spaced .put-spaced .last .0) = omega (arith, room-spaced _ 2024 (at-put-spaced .put-spaced .ensures) more) in
     omega (arith, room-spaced _ 2003 (c .before .before .before .put-spaced2 .ensures) last)
 
 same-length : tie.Need-same-length
 same-length c = search needs
 
 returns : tie.Need-returns
-returns c =
-    let at-put-byte = c .before .before in
-    let at-put-spaced2 = at-put-byte .before .before .before .before in
-    let at-put-spaced = at-put-spaced2 .before .before .before .before in
-    let at-put-text = at-put-spaced .before .before .before .before in
-    let start = at-put-text .before .before .before .before in
-    last-line-written (start .args .records) (start .args .number) (start .pre)
-    (at-put-text .put-text .ensures) (at-put-spaced .put-spaced .ensures) (at-put-spaced2 .put-spaced2 .ensures) (at-put-byte .put-byte .ensures)
+returns c = search last-line-written
 
 pub put-last-line-spec : {M : Type 1} → statement M
 put-last-line-spec =

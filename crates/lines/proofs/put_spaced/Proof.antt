@@ -11,15 +11,19 @@ put-byte-requires c κs = search needs
 
 put-number-requires : tie.Need-put-number-requires
 put-number-requires c κs =
-    omega (arith, decimal-length (c .before .before .before .before .before .before .args .n), c .before .before .before .put-byte .ensures .ends, c .before .before .before .put-byte .kept .0, c .before .before .before .before .before .before .pre)
+    let at-put-byte : tie.After-put-byte = search in
+    let start : tie.Start = search in
+    omega (arith, decimal-length (start .args .n), at-put-byte .put-byte .ensures .ends, at-put-byte .put-byte .kept .0, start .pre)
 
 same-length : tie.Need-same-length
 same-length c = search needs
 
 returns : tie.Need-returns
 returns c =
-    written-join (c .before .before .before .before .before .before .put-byte .ensures) (c .before .before .put-number .ensures)
-    (omega (arith, decimal-length (c .before .before .before .before .before .before .before .before .before .args .n), c .before .before .before .before .before .before .before .before .before .pre))
+    let at-put-byte : tie.After-put-byte = search in
+    let start : tie.Start = search in
+    written-join (at-put-byte .put-byte .ensures) (c .before .before .put-number .ensures)
+    (omega (arith, decimal-length (start .args .n), start .pre))
 
 pub put-spaced-spec : {M : Type 1} → statement M
 put-spaced-spec = tie.close (tie.spec put-byte-requires put-number-requires same-length returns)

@@ -10,8 +10,13 @@ use borrow.Author.Needs.{needs}
 use Rattle.linking.proofs.create_sound.Statement.{statement}
 use Rattle.linking.proofs.create_sound.Tie as tie
 
+-- ---- places of the code
+
+abbrev start-from-add-pointer : tie.After-add-pointer → tie.Start
+start-from-add-pointer c = search
+
 create-check-requires : tie.Need-create-check-requires
-create-check-requires c κs = c .before .before .before .before .before .before .before .before .pre
+create-check-requires c κs = search
 
 enum-known-why : tie.Need-enum-known-why
 enum-known-why c = search needs
@@ -24,10 +29,8 @@ enum-told c = search needs
 
 add-pointer-requires : tie.Need-add-pointer-requires
 add-pointer-requires c κs =
-    let at-enum-told = c .before .before in
-    let at-create-check = at-enum-told .before .before in
-    let start = at-create-check .before .before .before .before .before .before .before .before .before in
-    let a = start .args in let k = card (a .info) (a .flags .now) (a .keys .now) (a .counts .now) (a .pointers .now) (a .windows .now) (a .contents .now) in create-addable (a .port) k (a .o) (start .pre) (passed-check (a .port) k _ (at-create-check .create-check .ensures) (at-enum-told .enum-told .given .1))
+    let start : tie.Start = search in
+    let a = start .args in let k = card (a .info) (a .flags .now) (a .keys .now) (a .counts .now) (a .pointers .now) (a .windows .now) (a .contents .now) in create-addable (a .port) k (a .o) (start .pre) (search passed-check)
 
 done-requires : tie.Need-done-requires
 done-requires c κs = tt
@@ -40,21 +43,22 @@ same-length-2 c = refl
 
 returns : tie.Need-returns
 unfolding performSound
-returns c = let a = c .before .before .before .before .before .before .before .before .before .before .before .before .before .args in let k = card (a .info) (a .flags .now) (a .keys .now) (a .counts .now) (a .pointers .now) (a .windows .now) (a .contents .now) in refuses k _ _ (c .refused .ensures) (refused-check (a .port) k _ (c .before .before .before .before .create-check .ensures) (c .before .before .why .given .1))
+returns c =
+    let at-create-check : tie.After-create-check = search in
+    let start : tie.Start = search in
+    let a = start .args in let k = card (a .info) (a .flags .now) (a .keys .now) (a .counts .now) (a .pointers .now) (a .windows .now) (a .contents .now) in refuses k _ _ (c .refused .ensures) (refused-check (a .port) k _ (at-create-check .create-check .ensures) (c .before .before .why .given .1))
 
 same-length-3 : tie.Need-same-length-3
-same-length-3 c = c .before .before .before .before .before .add-pointer .kept .1 .0
+same-length-3 c = search
 
 same-length-4 : tie.Need-same-length-4
-same-length-4 c = c .before .before .before .before .before .add-pointer .kept .1 .1 .0
+same-length-4 c = search
 
 returns-2 : tie.Need-returns-2
 returns-2 c =
-    let at-add-pointer = c .before .before .before .before .before in
-    let at-enum-told = at-add-pointer .before .before .before in
-    let at-create-check = at-enum-told .before .before in
-    let start = at-create-check .before .before .before .before .before .before .before .before .before in
-    let a = start .args in let k = card (a .info) (a .flags .now) (a .keys .now) (a .counts .now) (a .pointers .now) (a .windows .now) (a .contents .now) in create-done (a .port) k (a .o) (passed-check (a .port) k _ (at-create-check .create-check .ensures) (at-enum-told .enum-told .given .1)) (c .done .ensures) (at-add-pointer .add-pointer .ensures _ _ _ _)
+    let at-add-pointer : tie.After-add-pointer = search in
+    let start = start-from-add-pointer at-add-pointer in
+    let a = start .args in let k = card (a .info) (a .flags .now) (a .keys .now) (a .counts .now) (a .pointers .now) (a .windows .now) (a .contents .now) in create-done (a .port) k (a .o) (search passed-check) (c .done .ensures) (at-add-pointer .add-pointer .ensures _ _ _ _)
 
 pub create-sound-spec : {M : Type 1} → statement M
 create-sound-spec =

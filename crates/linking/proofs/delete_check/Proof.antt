@@ -9,6 +9,11 @@ use Rattle.linking.proofs.Deleting.{delete-source-missing, delete-desti
 use Rattle.linking.proofs.delete_check.Statement.{statement}
 use Rattle.linking.proofs.delete_check.Tie as tie
 
+-- ---- places of the code
+
+abbrev start-from-missing2 : tie.After-missing2 → tie.Start
+start-from-missing2 c = search
+
 cast-from : tie.Need-cast-from
 cast-from c = omega arith
 
@@ -16,122 +21,64 @@ cast-to : tie.Need-cast-to
 cast-to c = omega arith
 
 missing-requires : tie.Need-missing-requires
-missing-requires c κs = c .before .before .before .before .before .before .before .before .pre .shaped .hasLengths .flags
+missing-requires c κs = search
 
 returns : tie.Need-returns
-returns c = let a = c .before .before .before .before .before .before .before .before .before .before .args in let k = card (a .info) (a .flags .now) (a .keys .now) (a .counts .now) (a .pointers .now) (a .windows .now) (a .contents .now) in check-refused (a .port) k _ (delete-source-missing (a .port) k (a .o) (c .before .missing .ensures) (c .if1 .taken))
+returns c = search (check-refused, delete-source-missing)
 
 missing-requires-2 : tie.Need-missing-requires-2
-missing-requires-2 c κs = c .before .before .before .before .before .before .before .before .before .before .pre .shaped .hasLengths .flags
+missing-requires-2 c κs = search
 
 returns-2 : tie.Need-returns-2
-returns-2 c = let a = c .before .before .before .before .before .before .before .before .before .before .before .before .args in let k = card (a .info) (a .flags .now) (a .keys .now) (a .counts .now) (a .pointers .now) (a .windows .now) (a .contents .now) in check-refused (a .port) k _ (delete-destination-missing (a .port) k (a .o) (c .before .before .before .missing .ensures) (c .before .before .if1 .left) (c .before .missing2 .ensures) (c .if2 .taken))
+returns-2 c = search (check-refused, delete-destination-missing)
 
 root-at-host-requires : tie.Need-root-at-host-requires
 root-at-host-requires c κs = tt
 
 returns-3 : tie.Need-returns-3
-returns-3 c =
-    let at-if2 = c .before .before in
-    let at-missing2 = at-if2 .before in
-    let at-if1 = at-missing2 .before in
-    let at-missing = at-if1 .before in
-    let start = at-missing .before .before .before .before .before .before .before .before .before in
-    let a = start .args in let k = card (a .info) (a .flags .now) (a .keys .now) (a .counts .now) (a .pointers .now) (a .windows .now) (a .contents .now) in check-refused (a .port) k _ (root-source (a .port) k (a .o) (at-missing .missing .ensures) (at-if1 .if1 .left) (at-missing2 .missing2 .ensures) (at-if2 .if2 .left) (c .before .root-at-host .ensures) (c .if3 .taken))
+returns-3 c = search (check-refused, root-source)
 
 admits-requires : tie.Need-admits-requires
 admits-requires c κs =
-    let at-if1 = c .before .before .before .before in
-    let at-missing = at-if1 .before in
-    let start = at-missing .before .before .before .before .before .before .before .before .before in
+    let at-if1 : tie.Else1 = search in
+    let at-missing : tie.After-missing = search in
+    let start : tie.Start = search in
     let a = start .args in let k = card (a .info) (a .flags .now) (a .keys .now) (a .counts .now) (a .pointers .now) (a .windows .now) (a .contents .now) in access-there {c = k} _ (start .pre) (at-missing .missing .ensures) (at-if1 .if1 .left)
 
 returns-4 : tie.Need-returns-4
-returns-4 c =
-    let at-if3 = c .before .before in
-    let at-root-at-host = at-if3 .before in
-    let at-if2 = at-root-at-host .before in
-    let at-missing2 = at-if2 .before in
-    let at-if1 = at-missing2 .before in
-    let at-missing = at-if1 .before in
-    let start = at-missing .before .before .before .before .before .before .before .before .before in
-    let a = start .args in let k = card (a .info) (a .flags .now) (a .keys .now) (a .counts .now) (a .pointers .now) (a .windows .now) (a .contents .now) in check-refused (a .port) k _ (delete-source-shut (a .port) k (a .o) (at-missing .missing .ensures) (at-if1 .if1 .left) (at-missing2 .missing2 .ensures) (at-if2 .if2 .left) (at-root-at-host .root-at-host .ensures) (at-if3 .if3 .left) (c .before .admits .ensures) (c .if4 .taken))
+returns-4 c = search (check-refused, delete-source-shut)
 
 points-to-requires : tie.Need-points-to-requires
-points-to-requires c κs =
-    let start = c .before .before .before .before .before .before .before .before .before .before .before .before .before .before .before .before in
-    let a = start .args in let k = card (a .info) (a .flags .now) (a .keys .now) (a .counts .now) (a .pointers .now) (a .windows .now) (a .contents .now) in sound-sorted {c = k} (start .pre)
+points-to-requires c κs = search sound-sorted
 
 returns-5 : tie.Need-returns-5
-returns-5 c =
-    let at-if4 = c .before .before in
-    let at-admits = at-if4 .before in
-    let at-if3 = at-admits .before in
-    let at-root-at-host = at-if3 .before in
-    let at-if2 = at-root-at-host .before in
-    let at-missing2 = at-if2 .before in
-    let at-if1 = at-missing2 .before in
-    let at-missing = at-if1 .before in
-    let start = at-missing .before .before .before .before .before .before .before .before .before in
-    let a = start .args in let k = card (a .info) (a .flags .now) (a .keys .now) (a .counts .now) (a .pointers .now) (a .windows .now) (a .contents .now) in check-refused (a .port) k _ (delete-no-pointer (a .port) k (a .o) (at-missing .missing .ensures) (at-if1 .if1 .left) (at-missing2 .missing2 .ensures) (at-if2 .if2 .left) (at-root-at-host .root-at-host .ensures) (at-if3 .if3 .left) (at-admits .admits .ensures) (at-if4 .if4 .left) (c .before .points-to .ensures) (c .if5 .taken))
+returns-5 c = search (check-refused, delete-no-pointer)
 
 mul-if6 : tie.Need-mul-if6
-mul-if6 c = let a = c .before .before .before .before .before .before .before .before .before .before .before .before .before .before .before .before .before .before .args in let k = card (a .info) (a .flags .now) (a .keys .now) (a .counts .now) (a .pointers .now) (a .windows .now) (a .contents .now) in omega (arith, there (k .public) _ (c .before .before .before .before .before .before .before .missing2 .ensures) (c .before .before .before .before .before .before .if2 .left), c .before .before .before .before .before .before .before .before .before .before .before .before .before .before .before .before .before .before .pre .shaped .inRanges .blocksHigh)
+mul-if6 c =
+    let at-if2 : tie.Else2 = search in
+    let at-missing2 : tie.After-missing2 = search in
+    let start = start-from-missing2 at-missing2 in
+    let a = start .args in let k = card (a .info) (a .flags .now) (a .keys .now) (a .counts .now) (a .pointers .now) (a .windows .now) (a .contents .now) in omega (arith, there (k .public) _ (at-missing2 .missing2 .ensures) (at-if2 .if2 .left), start .pre .shaped .inRanges .blocksHigh)
 
 shared-slice-read-if6 : tie.Need-shared-slice-read-if6
-shared-slice-read-if6 c = let a = c .before .before .before .before .before .before .before .before .before .before .before .before .before .before .before .before .before .before .before .args in let k = card (a .info) (a .flags .now) (a .keys .now) (a .counts .now) (a .pointers .now) (a .windows .now) (a .contents .now) in omega (arith, there (k .public) _ (c .before .before .before .before .before .before .before .before .missing2 .ensures) (c .before .before .before .before .before .before .before .if2 .left), c .before .before .before .before .before .before .before .before .before .before .before .before .before .before .before .before .before .before .before .pre .shaped .hasLengths .counts)
+shared-slice-read-if6 c =
+    let at-if2 : tie.Else2 = search in
+    let at-missing2 : tie.After-missing2 = search in
+    let start = start-from-missing2 at-missing2 in
+    let a = start .args in let k = card (a .info) (a .flags .now) (a .keys .now) (a .counts .now) (a .pointers .now) (a .windows .now) (a .contents .now) in omega (arith, there (k .public) _ (at-missing2 .missing2 .ensures) (at-if2 .if2 .left), start .pre .shaped .hasLengths .counts)
 
 returns-6 : tie.Need-returns-6
-returns-6 c =
-    let at-if5 = c .before .before in
-    let at-points-to = at-if5 .before in
-    let at-if4 = at-points-to .before in
-    let at-admits = at-if4 .before in
-    let at-if3 = at-admits .before in
-    let at-root-at-host = at-if3 .before in
-    let at-if2 = at-root-at-host .before in
-    let at-missing2 = at-if2 .before in
-    let at-if1 = at-missing2 .before in
-    let at-missing = at-if1 .before in
-    let start = at-missing .before .before .before .before .before .before .before .before .before in
-    let a = start .args in let k = card (a .info) (a .flags .now) (a .keys .now) (a .counts .now) (a .pointers .now) (a .windows .now) (a .contents .now) in check-passed (a .port) k _ (passes-more (a .port) k (a .o) (at-missing .missing .ensures) (at-if1 .if1 .left) (at-missing2 .missing2 .ensures) (at-if2 .if2 .left) (at-root-at-host .root-at-host .ensures) (at-if3 .if3 .left) (at-admits .admits .ensures) (at-if4 .if4 .left) (at-points-to .points-to .ensures) (at-if5 .if5 .left) (c .if6 .taken))
+returns-6 c = search (check-passed, passes-more)
 
 points-from-requires : tie.Need-points-from-requires
-points-from-requires c κs =
-    let start = c .before .before .before .before .before .before .before .before .before .before .before .before .before .before .before .before .before .before .before .before in
-    let a = start .args in let k = card (a .info) (a .flags .now) (a .keys .now) (a .counts .now) (a .pointers .now) (a .windows .now) (a .contents .now) in sound-sorted {c = k} (start .pre)
+points-from-requires c κs = search sound-sorted
 
 returns-7 : tie.Need-returns-7
-returns-7 c =
-    let at-if6 = c .before .before in
-    let at-if5 = at-if6 .before .before in
-    let at-points-to = at-if5 .before in
-    let at-if4 = at-points-to .before in
-    let at-admits = at-if4 .before in
-    let at-if3 = at-admits .before in
-    let at-root-at-host = at-if3 .before in
-    let at-if2 = at-root-at-host .before in
-    let at-missing2 = at-if2 .before in
-    let at-if1 = at-missing2 .before in
-    let at-missing = at-if1 .before in
-    let start = at-missing .before .before .before .before .before .before .before .before .before in
-    let a = start .args in let k = card (a .info) (a .flags .now) (a .keys .now) (a .counts .now) (a .pointers .now) (a .windows .now) (a .contents .now) in check-refused (a .port) k _ (has-pointers (a .port) k (a .o) (at-missing .missing .ensures) (at-if1 .if1 .left) (at-missing2 .missing2 .ensures) (at-if2 .if2 .left) (at-root-at-host .root-at-host .ensures) (at-if3 .if3 .left) (at-admits .admits .ensures) (at-if4 .if4 .left) (at-points-to .points-to .ensures) (at-if5 .if5 .left) (at-if6 .if6 .left) (c .before .points-from .ensures) (c .if7 .taken))
+returns-7 c = search (check-refused, has-pointers)
 
 returns-8 : tie.Need-returns-8
-returns-8 c =
-    let at-if6 = c .before .before in
-    let at-if5 = at-if6 .before .before in
-    let at-points-to = at-if5 .before in
-    let at-if4 = at-points-to .before in
-    let at-admits = at-if4 .before in
-    let at-if3 = at-admits .before in
-    let at-root-at-host = at-if3 .before in
-    let at-if2 = at-root-at-host .before in
-    let at-missing2 = at-if2 .before in
-    let at-if1 = at-missing2 .before in
-    let at-missing = at-if1 .before in
-    let start = at-missing .before .before .before .before .before .before .before .before .before in
-    let a = start .args in let k = card (a .info) (a .flags .now) (a .keys .now) (a .counts .now) (a .pointers .now) (a .windows .now) (a .contents .now) in check-passed (a .port) k _ (passes-last (a .port) k (a .o) (at-missing .missing .ensures) (at-if1 .if1 .left) (at-missing2 .missing2 .ensures) (at-if2 .if2 .left) (at-root-at-host .root-at-host .ensures) (at-if3 .if3 .left) (at-admits .admits .ensures) (at-if4 .if4 .left) (at-points-to .points-to .ensures) (at-if5 .if5 .left) (at-if6 .if6 .left) (c .before .points-from .ensures) (c .if7 .left))
+returns-8 c = search (check-passed, passes-last)
 
 pub delete-check-spec : {M : Type 1} → statement M
 delete-check-spec =

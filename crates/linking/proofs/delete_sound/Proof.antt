@@ -11,8 +11,13 @@ use borrow.Author.Needs.{needs}
 use Rattle.linking.proofs.delete_sound.Statement.{statement}
 use Rattle.linking.proofs.delete_sound.Tie as tie
 
+-- ---- places of the code
+
+abbrev start-from-delete-check : tie.After-delete-check → tie.Start
+start-from-delete-check c = search
+
 delete-check-requires : tie.Need-delete-check-requires
-delete-check-requires c κs = c .before .before .before .before .before .before .before .before .before .before .before .pre
+delete-check-requires c κs = search
 
 enum-known-why : tie.Need-enum-known-why
 enum-known-why c = search needs
@@ -31,48 +36,45 @@ mul-last c = omega arith
 
 slice-read-last : tie.Need-slice-read-last
 slice-read-last c =
-    let at-enum-told = c .before .before in
-    let at-delete-check = at-enum-told .before .before in
-    let start = at-delete-check .before .before .before .before .before .before .before .before .before .before .before .before in
-    let a = start .args in let k = card (a .info) (a .flags .now) (a .keys .now) (a .counts .now) (a .pointers .now) (a .windows .now) (a .contents .now) in droppable (a .port) k (a .o) (start .pre) (passed-check (a .port) k _ (at-delete-check .delete-check .ensures) (at-enum-told .enum-told .given .1)) .1 .0
+    let at-delete-check : tie.After-delete-check = search in
+    let start : tie.Start = search in
+    let a = start .args in let k = card (a .info) (a .flags .now) (a .keys .now) (a .counts .now) (a .pointers .now) (a .windows .now) (a .contents .now) in droppable (a .port) k (a .o) (start .pre) (passed-check (a .port) k _ (at-delete-check .delete-check .ensures) (c .before .before .enum-told .given .1)) .1 .0
 
 drop-pointer-requires : tie.Need-drop-pointer-requires
 drop-pointer-requires c κs =
-    let at-enum-told = c .before .before .before .before in
-    let at-delete-check = at-enum-told .before .before in
-    let start = at-delete-check .before .before .before .before .before .before .before .before .before .before .before .before in
-    let a = start .args in let k = card (a .info) (a .flags .now) (a .keys .now) (a .counts .now) (a .pointers .now) (a .windows .now) (a .contents .now) in droppable (a .port) k (a .o) (start .pre) (passed-check (a .port) k _ (at-delete-check .delete-check .ensures) (at-enum-told .enum-told .given .1))
+    let start : tie.Start = search in
+    let a = start .args in let k = card (a .info) (a .flags .now) (a .keys .now) (a .counts .now) (a .pointers .now) (a .windows .now) (a .contents .now) in droppable (a .port) k (a .o) (start .pre) (search passed-check)
 
 free-block-requires : tie.Need-free-block-requires
 free-block-requires c κs =
-    let at-enum-told = c .before .before .before .before .before .before .before .before .before .before .before .before .before in
-    let at-delete-check = at-enum-told .before .before in
-    let start = at-delete-check .before .before .before .before .before .before .before .before .before .before .before .before in
+    let at-enum-told : tie.After-enum-told = search in
+    let at-delete-check : tie.After-delete-check = search in
+    let start : tie.Start = search in
     let a = start .args in let k = card (a .info) (a .flags .now) (a .keys .now) (a .counts .now) (a .pointers .now) (a .windows .now) (a .contents .now) in freeable (a .port) k (a .o) (start .pre) (passed-check (a .port) k _ (at-delete-check .delete-check .ensures) (at-enum-told .enum-told .given .1))
 
 same-length : tie.Need-same-length
-same-length c = c .before .before .before .before .before .before .free-block .kept .0
+same-length c = search
 
 same-length-2 : tie.Need-same-length-2
-same-length-2 c = c .before .before .before .before .before .before .free-block .kept .1 .0
+same-length-2 c = search
 
 same-length-3 : tie.Need-same-length-3
-same-length-3 c = c .before .before .before .before .before .before .before .before .before .before .before .before .before .before .before .drop-pointer .kept .1 .0
+same-length-3 c = search
 
 same-length-4 : tie.Need-same-length-4
-same-length-4 c = c .before .before .before .before .before .before .before .before .before .before .before .before .before .before .before .drop-pointer .kept .1 .1 .0
+same-length-4 c = search
 
 same-length-5 : tie.Need-same-length-5
-same-length-5 c = c .before .before .before .before .before .before .free-block .kept .1 .1 .0
+same-length-5 c = search
 
 returns : tie.Need-returns
 returns c =
-    let at-free-block = c .before .before .before .before .before .before in
-    let at-if1 = at-free-block .before .before .before .before in
-    let at-drop-pointer = at-if1 .before .before .before .before .before in
-    let at-enum-told = at-drop-pointer .before .before .before .before .before in
-    let at-delete-check = at-enum-told .before .before in
-    let start = at-delete-check .before .before .before .before .before .before .before .before .before .before .before .before in
+    let at-free-block : tie.After-free-block = search in
+    let at-if1 : tie.Then1 = search in
+    let at-drop-pointer : tie.After-drop-pointer = search in
+    let at-enum-told : tie.After-enum-told = search in
+    let at-delete-check : tie.After-delete-check = search in
+    let start = start-from-delete-check at-delete-check in
     let a = start .args in let k = card (a .info) (a .flags .now) (a .keys .now) (a .counts .now) (a .pointers .now) (a .windows .now) (a .contents .now) in deleted-last (a .port) k (a .o) (passed-check (a .port) k _ (at-delete-check .delete-check .ensures) (at-enum-told .enum-told .given .1)) (at-if1 .if1 .taken) (at-drop-pointer .drop-pointer .ensures (a .flags .now) (a .keys .now) (a .windows .now) (a .contents .now)) (at-free-block .free-block .ensures _ _ _ _)
 
 same-length-6 : tie.Need-same-length-6
@@ -92,7 +94,10 @@ same-length-10 c = refl
 
 returns-2 : tie.Need-returns-2
 unfolding performSound
-returns-2 c = let a = c .before .before .before .before .before .before .before .before .before .before .before .before .before .before .before .before .args in let k = card (a .info) (a .flags .now) (a .keys .now) (a .counts .now) (a .pointers .now) (a .windows .now) (a .contents .now) in refuses k _ _ (c .refused .ensures) (refused-check (a .port) k _ (c .before .before .before .before .delete-check .ensures) (c .before .before .why .given .1))
+returns-2 c =
+    let at-delete-check : tie.After-delete-check = search in
+    let start : tie.Start = search in
+    let a = start .args in let k = card (a .info) (a .flags .now) (a .keys .now) (a .counts .now) (a .pointers .now) (a .windows .now) (a .contents .now) in refuses k _ _ (c .refused .ensures) (refused-check (a .port) k _ (at-delete-check .delete-check .ensures) (c .before .before .why .given .1))
 
 same-length-11 : tie.Need-same-length-11
 same-length-11 c = refl
@@ -101,20 +106,20 @@ same-length-12 : tie.Need-same-length-12
 same-length-12 c = refl
 
 same-length-13 : tie.Need-same-length-13
-same-length-13 c = c .before .before .before .before .before .drop-pointer .kept .1 .0
+same-length-13 c = search
 
 same-length-14 : tie.Need-same-length-14
-same-length-14 c = c .before .before .before .before .before .drop-pointer .kept .1 .1 .0
+same-length-14 c = search
 
 same-length-15 : tie.Need-same-length-15
 same-length-15 c = refl
 
 returns-3 : tie.Need-returns-3
 returns-3 c =
-    let at-drop-pointer = c .before .before .before .before .before in
-    let at-enum-told = at-drop-pointer .before .before .before .before .before in
-    let at-delete-check = at-enum-told .before .before in
-    let start = at-delete-check .before .before .before .before .before .before .before .before .before .before .before .before in
+    let at-drop-pointer : tie.After-drop-pointer = search in
+    let at-enum-told : tie.After-enum-told = search in
+    let at-delete-check : tie.After-delete-check = search in
+    let start = start-from-delete-check at-delete-check in
     let a = start .args in let k = card (a .info) (a .flags .now) (a .keys .now) (a .counts .now) (a .pointers .now) (a .windows .now) (a .contents .now) in deleted-more (a .port) k (a .o) (passed-check (a .port) k _ (at-delete-check .delete-check .ensures) (at-enum-told .enum-told .given .1)) (c .if1 .left) (at-drop-pointer .drop-pointer .ensures _ _ _ _)
 
 pub delete-sound-spec : {M : Type 1} → statement M

@@ -17,54 +17,48 @@ abbrev μ-loop : tie.MeasureT-loop
 
 loop-holds : tie.Need-loop-holds Inv-loop μ-loop
 loop-holds c =
-    let start = c .before .before .before .before .before .before .before .before in
+    let start : tie.Start Inv-loop μ-loop = search in
     record { tables = same-tables _ _ _ _ _ _; sameOutput = refl; playing = playing-none (start .args .records) _ (start .args .input .now) (start .args .output .now) }
 
 sub-if1 : tie.Need-sub-if1 Inv-loop μ-loop
-sub-if1 c =
-    let start = c .before .before .before .before .before .before .before .before .before in
-    playing-at (start .args .records) _ (start .args .input .now) (start .args .output .now) (c .loop .inv .playing)
+sub-if1 c = search playing-at
 
 same-length : tie.Need-same-length Inv-loop μ-loop
-same-length c =
-    c .before .loop .inv .tables .sameFlags
+same-length c = c .before .loop .inv .tables .sameFlags
 
 same-length-2 : tie.Need-same-length-2 Inv-loop μ-loop
-same-length-2 c =
-    c .before .loop .inv .tables .sameKeys
+same-length-2 c = c .before .loop .inv .tables .sameKeys
 
 same-length-3 : tie.Need-same-length-3 Inv-loop μ-loop
-same-length-3 c =
-    c .before .loop .inv .tables .sameCounts
+same-length-3 c = c .before .loop .inv .tables .sameCounts
 
 same-length-4 : tie.Need-same-length-4 Inv-loop μ-loop
-same-length-4 c =
-    c .before .loop .inv .tables .samePointers
+same-length-4 c = c .before .loop .inv .tables .samePointers
 
 same-length-5 : tie.Need-same-length-5 Inv-loop μ-loop
-same-length-5 c =
-    c .before .loop .inv .tables .sameWindows
+same-length-5 c = c .before .loop .inv .tables .sameWindows
 
 same-length-6 : tie.Need-same-length-6 Inv-loop μ-loop
-same-length-6 c =
-    c .before .loop .inv .tables .sameContents
+same-length-6 c = c .before .loop .inv .tables .sameContents
 
 same-length-7 : tie.Need-same-length-7 Inv-loop μ-loop
-same-length-7 c =
-    c .before .loop .inv .sameOutput
+same-length-7 c = c .before .loop .inv .sameOutput
 
 returns : tie.Need-returns Inv-loop μ-loop
-returns c =
-    let start = c .before .before .before .before .before .before .before .before .before .before in
-    playing-full (start .args .records) _ (start .args .input .now) (start .args .output .now) (c .before .loop .inv .playing) (c .if1 .taken)
+returns c = search playing-full
 
 add-play-turn : tie.Need-add-play-turn Inv-loop μ-loop
 add-play-turn c =
-    omega (arith, c .before .before .before .before .before .before .before .loop .inv .playing .counted, c .before .before .before .before .before .before .before .loop .inv .playing .within, c .before .before .before .before .before .before .before .before .before .before .before .before .before .before .before .before .pre, c .before .before .before .before .before .before .before .before .before .before .before .before .before .before .before .before .good .1 .1 .1 .1 .1 .1 .1 .1 .0 .1)
+    let at-loop : tie.At-loop Inv-loop μ-loop = search in
+    let start : tie.Start Inv-loop μ-loop = search in
+    omega (arith, at-loop .loop .inv .playing .counted, at-loop .loop .inv .playing .within, start .pre, start .good .1 .1 .1 .1 .1 .1 .1 .1 .0 .1)
 
 play-turn-requires : tie.Need-play-turn-requires Inv-loop μ-loop
 play-turn-requires c κs =
-    (c .before .before .before .before .before .before .before .before .loop .inv .playing .within, omega (arith, c .before .before .before .before .before .before .before .if1 .left, playing-at (c .before .before .before .before .before .before .before .before .before .before .before .before .before .before .before .before .before .args .records) _ (c .before .before .before .before .before .before .before .before .before .before .before .before .before .before .before .before .before .args .input .now) (c .before .before .before .before .before .before .before .before .before .before .before .before .before .before .before .before .before .args .output .now) (c .before .before .before .before .before .before .before .before .loop .inv .playing)))
+    let at-if1 : tie.Else1 Inv-loop μ-loop = search in
+    let at-loop : tie.At-loop Inv-loop μ-loop = search in
+    let start : tie.Start Inv-loop μ-loop = search in
+    (at-loop .loop .inv .playing .within, omega (arith, at-if1 .if1 .left, playing-at (start .args .records) _ (start .args .input .now) (start .args .output .now) (at-loop .loop .inv .playing)))
 
 went-requires : tie.Need-went-requires Inv-loop μ-loop
 went-requires c κs =
@@ -72,18 +66,24 @@ went-requires c κs =
 
 add-count : tie.Need-add-count Inv-loop μ-loop
 add-count c =
-    omega (arith, c .before .before .before .before .before .before .before .before .before .before .before .before .before .before .before .before .before .before .before .before .before .before .before .before .before .before .loop .inv .playing .counted, c .before .before .before .before .before .before .before .before .before .before .before .before .before .before .before .before .before .before .before .before .before .before .before .before .before .before .loop .inv .playing .within, c .before .before .before .before .before .before .before .before .before .before .before .before .before .before .before .before .before .before .before .before .before .before .before .before .before .before .before .before .before .before .before .before .before .before .before .pre, c .before .before .before .before .before .before .before .before .before .before .before .before .before .before .before .before .before .before .before .before .before .before .before .before .before .before .before .before .before .before .before .before .before .before .before .good .1 .1 .1 .1 .1 .1 .1 .1 .0 .1)
+    let at-loop : tie.At-loop Inv-loop μ-loop = search in
+    let start : tie.Start Inv-loop μ-loop = search in
+    omega (arith, at-loop .loop .inv .playing .counted, at-loop .loop .inv .playing .within, start .pre, start .good .1 .1 .1 .1 .1 .1 .1 .1 .0 .1)
 
 loop-less : tie.Need-loop-less Inv-loop μ-loop
 loop-less c =
-    omega (arith, playing-further (c .before .before .before .before .before .before .before .before .before .before .before .before .before .before .before .before .before .before .before .before .before .before .before .before .before .before .before .before .before .before .before .before .before .before .before .args .records) _ (c .before .before .before .before .before .before .before .before .before .before .before .before .before .before .before .before .before .before .before .before .before .before .before .before .before .before .before .before .before .before .before .before .before .before .before .args .input .now) (c .before .before .before .before .before .before .before .before .before .before .before .before .before .before .before .before .before .before .before .before .before .before .before .before .before .before .before .before .before .before .before .before .before .before .before .args .output .now) (c .before .before .before .before .before .before .before .before .before .before .before .before .before .before .before .before .before .before .before .before .before .before .before .before .before .before .loop .inv .playing) (c .before .before .before .before .before .before .before .before .before .before .before .before .before .before .before .before .before .before .before .before .before .before .before .before .before .if1 .left) (c .before .before .before .before .before .before .before .before .before .before .before .before .before .before .before .before .before .play-turn .ensures) (sym (c .before .went .ensures) ∙ c .if2 .taken), c .before .before .before .before .before .before .before .before .before .before .before .before .before .before .before .before .before .play-turn .ensures .within)
+    let at-play-turn : tie.After-play-turn Inv-loop μ-loop = search in
+    let at-if1 : tie.Else1 Inv-loop μ-loop = search in
+    let at-loop : tie.At-loop Inv-loop μ-loop = search in
+    let start : tie.Start Inv-loop μ-loop = search in
+    omega (arith, playing-further (start .args .records) _ (start .args .input .now) (start .args .output .now) (at-loop .loop .inv .playing) (at-if1 .if1 .left) (at-play-turn .play-turn .ensures) (sym (c .before .went .ensures) ∙ c .if2 .taken), at-play-turn .play-turn .ensures .within)
 
 loop-again : tie.Need-loop-again Inv-loop μ-loop
 loop-again c =
-    let at-play-turn = c .before .before .before .before .before .before .before .before .before .before .before .before .before .before .before .before .before in
-    let at-if1 = at-play-turn .before .before .before .before .before .before .before .before in
-    let at-loop = at-if1 .before in
-    let start = at-loop .before .before .before .before .before .before .before .before .before in
+    let at-play-turn : tie.After-play-turn Inv-loop μ-loop = search in
+    let at-if1 : tie.Else1 Inv-loop μ-loop = search in
+    let at-loop : tie.At-loop Inv-loop μ-loop = search in
+    let start : tie.Start Inv-loop μ-loop = search in
     record {
       tables = record {
         sameFlags = at-play-turn .play-turn .kept .1 .0 ∙ at-loop .loop .inv .tables .sameFlags;
@@ -99,52 +99,52 @@ loop-again c =
 
 same-length-8 : tie.Need-same-length-8 Inv-loop μ-loop
 same-length-8 c =
-    let at-play-turn = c .before .before .before .before .before .before .before .before .before .before .before .before .before .before .before .before .before in
-    let at-loop = at-play-turn .before .before .before .before .before .before .before .before .before in
+    let at-play-turn : tie.After-play-turn Inv-loop μ-loop = search in
+    let at-loop : tie.At-loop Inv-loop μ-loop = search in
     at-play-turn .play-turn .kept .1 .0 ∙ at-loop .loop .inv .tables .sameFlags
 
 same-length-9 : tie.Need-same-length-9 Inv-loop μ-loop
 same-length-9 c =
-    let at-play-turn = c .before .before .before .before .before .before .before .before .before .before .before .before .before .before .before .before .before in
-    let at-loop = at-play-turn .before .before .before .before .before .before .before .before .before in
+    let at-play-turn : tie.After-play-turn Inv-loop μ-loop = search in
+    let at-loop : tie.At-loop Inv-loop μ-loop = search in
     at-play-turn .play-turn .kept .1 .1 .0 ∙ at-loop .loop .inv .tables .sameKeys
 
 same-length-10 : tie.Need-same-length-10 Inv-loop μ-loop
 same-length-10 c =
-    let at-play-turn = c .before .before .before .before .before .before .before .before .before .before .before .before .before .before .before .before .before in
-    let at-loop = at-play-turn .before .before .before .before .before .before .before .before .before in
+    let at-play-turn : tie.After-play-turn Inv-loop μ-loop = search in
+    let at-loop : tie.At-loop Inv-loop μ-loop = search in
     at-play-turn .play-turn .kept .1 .1 .1 .0 ∙ at-loop .loop .inv .tables .sameCounts
 
 same-length-11 : tie.Need-same-length-11 Inv-loop μ-loop
 same-length-11 c =
-    let at-play-turn = c .before .before .before .before .before .before .before .before .before .before .before .before .before .before .before .before .before in
-    let at-loop = at-play-turn .before .before .before .before .before .before .before .before .before in
+    let at-play-turn : tie.After-play-turn Inv-loop μ-loop = search in
+    let at-loop : tie.At-loop Inv-loop μ-loop = search in
     at-play-turn .play-turn .kept .1 .1 .1 .1 .0 ∙ at-loop .loop .inv .tables .samePointers
 
 same-length-12 : tie.Need-same-length-12 Inv-loop μ-loop
 same-length-12 c =
-    let at-play-turn = c .before .before .before .before .before .before .before .before .before .before .before .before .before .before .before .before .before in
-    let at-loop = at-play-turn .before .before .before .before .before .before .before .before .before in
+    let at-play-turn : tie.After-play-turn Inv-loop μ-loop = search in
+    let at-loop : tie.At-loop Inv-loop μ-loop = search in
     at-play-turn .play-turn .kept .1 .1 .1 .1 .1 .0 ∙ at-loop .loop .inv .tables .sameWindows
 
 same-length-13 : tie.Need-same-length-13 Inv-loop μ-loop
 same-length-13 c =
-    let at-play-turn = c .before .before .before .before .before .before .before .before .before .before .before .before .before .before .before .before .before in
-    let at-loop = at-play-turn .before .before .before .before .before .before .before .before .before in
+    let at-play-turn : tie.After-play-turn Inv-loop μ-loop = search in
+    let at-loop : tie.At-loop Inv-loop μ-loop = search in
     at-play-turn .play-turn .kept .1 .1 .1 .1 .1 .1 .0 ∙ at-loop .loop .inv .tables .sameContents
 
 same-length-14 : tie.Need-same-length-14 Inv-loop μ-loop
 same-length-14 c =
-    let at-play-turn = c .before .before .before .before .before .before .before .before .before .before .before .before .before .before .before .before .before in
-    let at-loop = at-play-turn .before .before .before .before .before .before .before .before .before in
+    let at-play-turn : tie.After-play-turn Inv-loop μ-loop = search in
+    let at-loop : tie.At-loop Inv-loop μ-loop = search in
     at-play-turn .play-turn .kept .1 .1 .1 .1 .1 .1 .1 .1 .1 .1 .0 ∙ at-loop .loop .inv .sameOutput
 
 returns-2 : tie.Need-returns-2 Inv-loop μ-loop
 returns-2 c =
-    let at-play-turn = c .before .before .before .before .before .before .before .before .before .before .before .before .before .before .before .before .before in
-    let at-if1 = at-play-turn .before .before .before .before .before .before .before .before in
-    let at-loop = at-if1 .before in
-    let start = at-loop .before .before .before .before .before .before .before .before .before in
+    let at-play-turn : tie.After-play-turn Inv-loop μ-loop = search in
+    let at-if1 : tie.Else1 Inv-loop μ-loop = search in
+    let at-loop : tie.At-loop Inv-loop μ-loop = search in
+    let start : tie.Start Inv-loop μ-loop = search in
     playing-stopped (start .args .records) _ (start .args .input .now) (start .args .output .now) (at-loop .loop .inv .playing) (at-if1 .if1 .left) (at-play-turn .play-turn .ensures) (sym (c .before .went .ensures) ∙ c .if2 .left)
 
 pub play-spec : {M : Type 1} → statement M

@@ -6,6 +6,11 @@ use borrow.Author.Needs.{needs}
 use Rattle.player.proofs.play_call.Statement.{statement}
 use Rattle.player.proofs.play_call.Tie as tie
 
+-- ---- places of the code
+
+abbrev start-from-slice-known7 : tie.After-slice-known7 → tie.Start
+start-from-slice-known7 c = search
+
 slice-aggregate-perform : tie.Need-slice-aggregate-perform
 slice-aggregate-perform c = search needs
 
@@ -23,7 +28,10 @@ slice-aggregate-put-line-2 c = search needs
 
 put-line-requires : tie.Need-put-line-requires
 put-line-requires c κs =
-    (record { bytes = omega (arith, c .before .before .before .before .before .before .before .before .before .before .before .before .before .before .before .before .before .perform .kept .1 .1 .1 .1 .1 .1 .1 .1 .1 .1 .0); numbers = omega (arith, c .before .before .before .before .before .before .before .before .before .before .before .before .before .before .before .before .before .perform .kept .1 .1 .1 .1 .1 .1 .1 .1 .1 .1 .1 .0) }, c .before .before .before .before .before .before .before .before .before .before .before .before .before .before .before .before .before .before .before .before .before .before .before .before .before .before .before .before .before .before .before .before .before .before .pre)
+    let at-perform : tie.After-perform = search in
+    let at-slice-known7 : tie.After-slice-known7 = search in
+    let start = start-from-slice-known7 at-slice-known7 in
+    (record { bytes = omega (arith, at-perform .perform .kept .1 .1 .1 .1 .1 .1 .1 .1 .1 .1 .0); numbers = omega (arith, at-perform .perform .kept .1 .1 .1 .1 .1 .1 .1 .1 .1 .1 .1 .0) }, start .pre)
 
 same-length : tie.Need-same-length
 same-length c = search needs
@@ -49,8 +57,11 @@ same-length-7 c = search needs
 returns : tie.Need-returns
 unfolding played
 returns c =
-    call-played (c .before .before .before .before .before .before .before .before .before .before .before .before .before .before .before .before .before .before .before .before .before .before .before .before .before .before .before .before .before .before .before .before .before .before .before .before .before .before .args .ordinal) (c .before .before .before .before .before .before .before .before .before .before .before .before .before .before .before .before .before .before .before .before .before .before .before .before .before .before .before .before .before .before .before .before .before .before .before .before .before .before .args .kind) (c .before .before .before .before .before .before .before .before .before .before .before .before .before .before .before .before .before .before .before .before .before .before .before .before .before .before .before .before .before .before .before .before .before .before .before .before .before .before .args .call) (record { bytes = omega (arith, c .before .before .before .before .before .before .before .before .before .before .before .before .before .before .before .before .before .before .before .before .before .perform .kept .1 .1 .1 .1 .1 .1 .1 .1 .1 .1 .0); numbers = omega (arith, c .before .before .before .before .before .before .before .before .before .before .before .before .before .before .before .before .before .before .before .before .before .perform .kept .1 .1 .1 .1 .1 .1 .1 .1 .1 .1 .1 .0) })
-    (c .before .before .before .before .before .before .before .before .before .before .before .before .before .before .before .before .before .before .before .before .before .perform .ensures) (c .before .before .before .put-line .ensures)
+    let at-perform : tie.After-perform = search in
+    let at-slice-known7 : tie.After-slice-known7 = search in
+    let start = start-from-slice-known7 at-slice-known7 in
+    call-played (start .args .ordinal) (start .args .kind) (start .args .call) (record { bytes = omega (arith, at-perform .perform .kept .1 .1 .1 .1 .1 .1 .1 .1 .1 .1 .0); numbers = omega (arith, at-perform .perform .kept .1 .1 .1 .1 .1 .1 .1 .1 .1 .1 .1 .0) })
+    (at-perform .perform .ensures) (c .before .before .before .put-line .ensures)
 
 pub play-call-spec : {M : Type 1} → statement M
 play-call-spec =

@@ -5,6 +5,11 @@ use borrow.Author.Needs.{needs}
 use Rattle.player.proofs.play_turn.Statement.{statement}
 use Rattle.player.proofs.play_turn.Tie as tie
 
+-- ---- places of the code
+
+abbrev start-from-find : tie.After-find → tie.Start
+start-from-find c = search
+
 find-requires : tie.Need-find-requires
 find-requires c κs = search needs
 
@@ -16,33 +21,30 @@ enum-known-found-2 c = search needs
 
 sub-play-call : tie.Need-sub-play-call
 sub-play-call c =
-    let at-found2 = c .before .before .before .before .before .before .before in
-    let at-find = at-found2 .before .before in
-    let start = at-find .before .before .before .before .before .before .before .before .before in
+    let at-found2 : tie.After-found2 = search in
+    let at-find : tie.After-find = search in
+    let start : tie.Start = search in
     whole-within (start .args .input .now) (start .args .from) (at-find .find .ensures) (at-found2 .found2 .given .1) .0
 
 part-play-call-start : tie.Need-part-play-call-start
 part-play-call-start c =
-    let at-found2 = c .before .before .before .before .before .before .before in
-    let at-find = at-found2 .before .before in
-    let start = at-find .before .before .before .before .before .before .before .before .before in
+    let at-found2 : tie.After-found2 = search in
+    let at-find : tie.After-find = search in
+    let start : tie.Start = search in
     whole-within (start .args .input .now) (start .args .from) (at-find .find .ensures) (at-found2 .found2 .given .1) .0
 
 part-play-call-end : tie.Need-part-play-call-end
 part-play-call-end c =
-    let at-found2 = c .before .before .before .before .before .before .before in
-    let at-find = at-found2 .before .before in
-    let start = at-find .before .before .before .before .before .before .before .before .before in
+    let at-found2 : tie.After-found2 = search in
+    let at-find : tie.After-find = search in
+    let start : tie.Start = search in
     whole-within (start .args .input .now) (start .args .from) (at-find .find .ensures) (at-found2 .found2 .given .1) .1
 
 play-call-requires : tie.Need-play-call-requires
 play-call-requires c κs = search needs
 
 returns : tie.Need-returns
-returns c =
-    let at-find = c .before .before .before in
-    let start = at-find .before .before .before .before .before .before .before .before .before in
-    nothing-played (start .args .ordinal) _ (start .args .input .now) (start .args .from) (start .pre .0) (start .args .to .now) (start .args .at) (at-find .find .ensures) (c .before .found .given .1)
+returns c = search nothing-played
 
 same-length : tie.Need-same-length
 same-length c = search needs
@@ -67,10 +69,10 @@ same-length-7 c = search needs
 
 returns-2 : tie.Need-returns-2
 returns-2 c =
-    let at-play-call = c .before .before .before .before .before .before .before .before .before .before .before .before .before .before .before in
-    let at-found2 = at-play-call .before .before .before .before .before .before .before .before .before .before in
-    let at-find = at-found2 .before .before in
-    let start = at-find .before .before .before .before .before .before .before .before .before in
+    let at-play-call : tie.After-play-call = search in
+    let at-found2 : tie.After-found2 = search in
+    let at-find : tie.After-find = search in
+    let start = start-from-find at-find in
     whole-played (start .args .ordinal) _ (start .args .input .now) (start .args .from) (start .pre .0) (start .args .to .now) (start .args .at) (at-find .find .ensures) (at-found2 .found2 .given .1)
     (at-play-call .play-call .ensures)
 

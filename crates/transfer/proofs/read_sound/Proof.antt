@@ -14,6 +14,11 @@ use borrow.Author.Needs.{needs}
 use Rattle.transfer.proofs.read_sound.Statement.{statement}
 use Rattle.transfer.proofs.read_sound.Tie as tie
 
+-- ---- places of the code
+
+abbrev start-from-if1 : tie.Else1 → tie.Start
+start-from-if1 c = search
+
 cast-block : tie.Need-cast-block
 cast-block c = search needs
 
@@ -32,10 +37,12 @@ refused-requires-2 c κs = search needs
 
 returns-2 : tie.Need-returns-2
 unfolding performSound plan readPlan
-returns-2 c = refuses _ _ _ (c .refused2 .ensures) (later (c .before .before .before .if1 .left) (here (missing-told _ _ (c .before .before .missing .ensures) (c .before .if2 .taken))))
+returns-2 c = search (refuses, later, here, missing-told)
 
 admits-requires : tie.Need-admits-requires
-admits-requires c κs = access-there _ (c .before .before .before .before .before .before .before .before .before .before .before .before .before .pre) (c .before .before .missing .ensures) (c .before .if2 .left)
+admits-requires c κs =
+    let start : tie.Start = search in
+    access-there _ (start .pre) (c .before .before .missing .ensures) (c .before .if2 .left)
 
 refused-requires-3 : tie.Need-refused-requires-3
 refused-requires-3 c κs = search needs
@@ -45,28 +52,34 @@ same-length c = search needs
 
 returns-3 : tie.Need-returns-3
 unfolding performSound plan readPlan
-returns-3 c =
-    let at-admits = c .before .before in
-    let at-if2 = at-admits .before .before in
-    let at-missing = at-if2 .before in
-    let at-if1 = at-missing .before in
-    refuses _ _ _ (c .refused3 .ensures) (later (at-if1 .if1 .left) (later (missing-told _ _ (at-missing .missing .ensures) (at-if2 .if2 .left)) (here (closed-told _ _ _ _ _ (at-admits .admits .ensures) (c .before .if3 .taken)))))
+returns-3 c = search (refuses, later, missing-told, here, closed-told)
 
 mul-at : tie.Need-mul-at
-mul-at c = omega (arith, lies _ (c .before .before .before .before .before .before .before .before .before .before .before .before .before .before .before .pre) (c .before .before .before .before .missing .ensures) (c .before .before .before .if2 .left))
+mul-at c =
+    let at-missing : tie.After-missing = search in
+    let start : tie.Start = search in
+    omega (arith, lies _ (start .pre) (at-missing .missing .ensures) (c .before .before .before .if2 .left))
 
 add-end : tie.Need-add-end
-add-end c = omega (arith, lies _ (c .before .before .before .before .before .before .before .before .before .before .before .before .before .before .before .pre) (c .before .before .before .before .missing .ensures) (c .before .before .before .if2 .left))
+add-end c =
+    let at-missing : tie.After-missing = search in
+    let start : tie.Start = search in
+    omega (arith, lies _ (start .pre) (at-missing .missing .ensures) (c .before .before .before .if2 .left))
 
 show-requires : tie.Need-show-requires
-show-requires c κs = let l = lies _ (c .before .before .before .before .before .before .before .before .before .before .before .before .before .before .before .before .pre) (c .before .before .before .before .before .missing .ensures) (c .before .before .before .before .if2 .left) in (omega arith, (l .within, lent-size _ (c .before .before .before .before .before .before .before .before .before .before .before .before .before .before .before .before .args .out .now) _ l (c .before .before .before .before .before .before .if1 .left)))
+show-requires c κs =
+    let at-if2 : tie.Else2 = search in
+    let at-missing : tie.After-missing = search in
+    let at-if1 : tie.Else1 = search in
+    let start = start-from-if1 at-if1 in
+    let l = lies _ (start .pre) (at-missing .missing .ensures) (at-if2 .if2 .left) in (omega arith, (l .within, lent-size _ (start .args .out .now) _ l (at-if1 .if1 .left)))
 
 open-window-requires : tie.Need-open-window-requires
 open-window-requires c κs =
-    let at-if2 = c .before .before .before .before .before .before .before .before in
-    let at-missing = at-if2 .before in
-    let at-pre = at-missing .before .before .before .before .before .before .before .before .before .before .before in
-    windows-low _ (at-pre .pre) (at-missing .missing .ensures) (at-if2 .if2 .left)
+    let at-if2 : tie.Else2 = search in
+    let at-missing : tie.After-missing = search in
+    let start : tie.Start = search in
+    windows-low _ (start .pre) (at-missing .missing .ensures) (at-if2 .if2 .left)
 
 done-requires : tie.Need-done-requires
 done-requires c κs = search needs
@@ -80,14 +93,13 @@ same-length-3 c = search needs
 returns-4 : tie.Need-returns-4
 unfolding performSound plan readPlan outAfter placesAfter
 returns-4 c =
-    let at-open-window = c .before .before .before in
-    let at-show = at-open-window .before .before .before .before in
-    let at-if3 = at-show .before .before in
-    let at-admits = at-if3 .before in
-    let at-if2 = at-admits .before .before in
-    let at-missing = at-if2 .before in
-    let at-if1 = at-missing .before in
-    finishes _ _ _ (c .done .ensures) (at-if1 .if1 .left, (missing-told _ _ (at-missing .missing .ensures) (at-if2 .if2 .left), (closed-told _ _ _ _ _ (at-admits .admits .ensures) (at-if3 .if3 .left), tt))) (opened-whole _ _ _ _ _ (at-open-window .open-window .ensures)) (lent-part _ _ _ (at-show .show .ensures)) refl
+    let at-show : tie.After-show = search in
+    let at-if3 : tie.Else3 = search in
+    let at-admits : tie.After-admits = search in
+    let at-if2 : tie.Else2 = search in
+    let at-missing : tie.After-missing = search in
+    let at-if1 : tie.Else1 = search in
+    finishes _ _ _ (c .done .ensures) (at-if1 .if1 .left, (missing-told _ _ (at-missing .missing .ensures) (at-if2 .if2 .left), (closed-told _ _ _ _ _ (at-admits .admits .ensures) (at-if3 .if3 .left), tt))) (opened-whole _ _ _ _ _ (c .before .before .before .open-window .ensures)) (lent-part _ _ _ (at-show .show .ensures)) refl
 
 pub read-sound-spec : {M : Type 1} → statement M
 read-sound-spec = tie.close (tie.spec cast-block refused-requires returns missing-requires refused-requires-2 returns-2 admits-requires refused-requires-3 same-length returns-3 mul-at add-end show-requires open-window-requires done-requires same-length-2 same-length-3 returns-4)

@@ -14,6 +14,11 @@ use borrow.Author.Needs.{needs}
 use Rattle.transfer.proofs.write_sound.Statement.{statement}
 use Rattle.transfer.proofs.write_sound.Tie as tie
 
+-- ---- places of the code
+
+abbrev start-from-if1 : tie.Else1 → tie.Start
+start-from-if1 c = search
+
 cast-block : tie.Need-cast-block
 cast-block c = search needs
 
@@ -32,10 +37,12 @@ refused-requires-2 c κs = search needs
 
 returns-2 : tie.Need-returns-2
 unfolding performSound plan writePlan
-returns-2 c = refuses _ _ _ (c .refused2 .ensures) (later (c .before .before .before .if1 .left) (here (missing-told _ _ (c .before .before .missing .ensures) (c .before .if2 .taken))))
+returns-2 c = search (refuses, later, here, missing-told)
 
 admits-requires : tie.Need-admits-requires
-admits-requires c κs = access-there _ (c .before .before .before .before .before .before .before .before .before .before .before .before .before .pre) (c .before .before .missing .ensures) (c .before .if2 .left)
+admits-requires c κs =
+    let start : tie.Start = search in
+    access-there _ (start .pre) (c .before .before .missing .ensures) (c .before .if2 .left)
 
 refused-requires-3 : tie.Need-refused-requires-3
 refused-requires-3 c κs = search needs
@@ -45,18 +52,19 @@ same-length c = search needs
 
 returns-3 : tie.Need-returns-3
 unfolding performSound plan writePlan
-returns-3 c =
-    let at-admits = c .before .before in
-    let at-if2 = at-admits .before .before in
-    let at-missing = at-if2 .before in
-    let at-if1 = at-missing .before in
-    refuses _ _ _ (c .refused3 .ensures) (later (at-if1 .if1 .left) (later (missing-told _ _ (at-missing .missing .ensures) (at-if2 .if2 .left)) (here (closed-told _ _ _ _ _ (at-admits .admits .ensures) (c .before .if3 .taken)))))
+returns-3 c = search (refuses, later, missing-told, here, closed-told)
 
 mul-at : tie.Need-mul-at
-mul-at c = omega (arith, lies _ (c .before .before .before .before .before .before .before .before .before .before .before .before .before .before .before .pre) (c .before .before .before .before .missing .ensures) (c .before .before .before .if2 .left))
+mul-at c =
+    let at-missing : tie.After-missing = search in
+    let start : tie.Start = search in
+    omega (arith, lies _ (start .pre) (at-missing .missing .ensures) (c .before .before .before .if2 .left))
 
 add-end : tie.Need-add-end
-add-end c = omega (arith, lies _ (c .before .before .before .before .before .before .before .before .before .before .before .before .before .before .before .pre) (c .before .before .before .before .missing .ensures) (c .before .before .before .if2 .left))
+add-end c =
+    let at-missing : tie.After-missing = search in
+    let start : tie.Start = search in
+    omega (arith, lies _ (start .pre) (at-missing .missing .ensures) (c .before .before .before .if2 .left))
 
 sub-copy : tie.Need-sub-copy
 sub-copy c = search needs
@@ -65,22 +73,25 @@ part-copy-start : tie.Need-part-copy-start
 part-copy-start c = search needs
 
 part-copy-end : tie.Need-part-copy-end
-part-copy-end c = omega (arith, lies _ (c .before .before .before .before .before .before .before .before .before .before .before .before .before .before .before .pre) (c .before .before .before .before .missing .ensures) (c .before .before .before .if2 .left))
+part-copy-end c =
+    let at-missing : tie.After-missing = search in
+    let start : tie.Start = search in
+    omega (arith, lies _ (start .pre) (at-missing .missing .ensures) (c .before .before .before .if2 .left))
 
 copy-requires : tie.Need-copy-requires
 copy-requires c κs =
-    let at-if2 = c .before .before .before .before in
-    let at-missing = at-if2 .before in
-    let at-if1 = at-missing .before in
-    let start = at-if1 .before .before .before .before .before .before .before .before .before .before in
+    let at-if2 : tie.Else2 = search in
+    let at-missing : tie.After-missing = search in
+    let at-if1 : tie.Else1 = search in
+    let start = start-from-if1 at-if1 in
     taken-size _ (start .args .input .now) _ (lies _ (start .pre) (at-missing .missing .ensures) (at-if2 .if2 .left)) (at-if1 .if1 .left)
 
 open-window-requires : tie.Need-open-window-requires
 open-window-requires c κs =
-    let at-if2 = c .before .before .before .before .before .before .before .before in
-    let at-missing = at-if2 .before in
-    let at-pre = at-missing .before .before .before .before .before .before .before .before .before .before .before in
-    windows-low _ (at-pre .pre) (at-missing .missing .ensures) (at-if2 .if2 .left)
+    let at-if2 : tie.Else2 = search in
+    let at-missing : tie.After-missing = search in
+    let start : tie.Start = search in
+    windows-low _ (start .pre) (at-missing .missing .ensures) (at-if2 .if2 .left)
 
 done-requires : tie.Need-done-requires
 done-requires c κs = search needs
@@ -94,15 +105,14 @@ same-length-3 c = search needs
 returns-4 : tie.Need-returns-4
 unfolding performSound plan writePlan outAfter placesAfter
 returns-4 c =
-    let at-open-window = c .before .before .before in
-    let at-copy = at-open-window .before .before .before .before in
-    let at-if3 = at-copy .before .before in
-    let at-admits = at-if3 .before in
-    let at-if2 = at-admits .before .before in
-    let at-missing = at-if2 .before in
-    let at-if1 = at-missing .before in
-    let start = at-if1 .before .before .before .before .before .before .before .before .before .before in
-    let a = start .args in finishes _ _ _ (c .done .ensures) (at-if1 .if1 .left, (missing-told _ _ (at-missing .missing .ensures) (at-if2 .if2 .left), (closed-told _ _ _ _ _ (at-admits .admits .ensures) (at-if3 .if3 .left), tt))) (block-stored _ _ _ _ (a .input .now) (at-open-window .open-window .ensures) (put-block (a .info .bytes) (a .contents .now) (a .o .block) (a .input .now) _ (at-copy .copy .ensures) (at-if1 .if1 .left))) refl refl
+    let at-copy : tie.After-copy = search in
+    let at-if3 : tie.Else3 = search in
+    let at-admits : tie.After-admits = search in
+    let at-if2 : tie.Else2 = search in
+    let at-missing : tie.After-missing = search in
+    let at-if1 : tie.Else1 = search in
+    let start = start-from-if1 at-if1 in
+    let a = start .args in finishes _ _ _ (c .done .ensures) (at-if1 .if1 .left, (missing-told _ _ (at-missing .missing .ensures) (at-if2 .if2 .left), (closed-told _ _ _ _ _ (at-admits .admits .ensures) (at-if3 .if3 .left), tt))) (block-stored _ _ _ _ (a .input .now) (c .before .before .before .open-window .ensures) (put-block (a .info .bytes) (a .contents .now) (a .o .block) (a .input .now) _ (at-copy .copy .ensures) (at-if1 .if1 .left))) refl refl
 
 pub write-sound-spec : {M : Type 1} → statement M
 write-sound-spec = tie.close (tie.spec cast-block refused-requires returns missing-requires refused-requires-2 returns-2 admits-requires refused-requires-3 same-length returns-3 mul-at add-end sub-copy part-copy-start part-copy-end copy-requires open-window-requires done-requires same-length-2 same-length-3 returns-4)
