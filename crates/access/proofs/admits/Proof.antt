@@ -9,7 +9,7 @@ enum-told : tie.Need-enum-told
 enum-told c = search needs
 
 opens-requires : tie.Need-opens-requires
-opens-requires c κs = c .before .before .before .before .before .before .pre
+opens-requires c κs = search
 
 enum-told-2 : tie.Need-enum-told-2
 enum-told-2 c = search needs

@@ -25,7 +25,7 @@ key-is-requires-3 : tie.Need-key-is-requires-3
 key-is-requires-3 c κs = omega arith
 
 returns : tie.Need-returns
-returns c = λ card k g. opens-reading card _ _ _ (c .before .before .before .enum-told .given .1) (c .before .before .key-is .ensures) (c .before .key-is2 .ensures) (c .has-key .ensures) k g
+returns c = λ card k g. search opens-reading
 
 returns-2 : tie.Need-returns-2
 returns-2 c = λ card k g. opens-writing card _ _ _ (c .before .enum-told2 .given .1) (c .key-is3 .ensures) k

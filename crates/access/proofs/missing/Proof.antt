@@ -15,7 +15,7 @@ allocated-requires : tie.Need-allocated-requires
 allocated-requires c κs = search needs
 
 returns-2 : tie.Need-returns-2
-returns-2 c = missing-below _ _ (c .before .before .if1 .left) (c .allocated .ensures)
+returns-2 c = search missing-below
 
 pub missing-spec : {M : Type 1} → statement M
 missing-spec = tie.close (tie.spec returns shared-slice-read-allocated allocated-requires returns-2)

@@ -20,10 +20,10 @@ enum-known-credential : tie.Need-enum-known-credential
 enum-known-credential c = search needs
 
 returns : tie.Need-returns
-returns c = reference-refused _ _ _ (c .before .before .before .before .before .has-key .ensures) (c .before .before .credential .given .1) (c .if1 .taken)
+returns c = search reference-refused
 
 reference-opens-requires : tie.Need-reference-opens-requires
-reference-opens-requires c κs = c .before .before .before .before .before .before .before .before .before .before .before .pre .referable
+reference-opens-requires c κs = search
 
 enum-known-credential-2 : tie.Need-enum-known-credential-2
 enum-known-credential-2 c = search needs
@@ -32,16 +32,18 @@ key-opens-requires : tie.Need-key-opens-requires
 key-opens-requires c κs = omega arith
 
 returns-2 : tie.Need-returns-2
-returns-2 c = key-opens _ _ _ (c .before .before .before .before .before .before .has-key .ensures) (c .before .before .before .credential2 .given .1) (c .before .if2 .taken) (c .key-opens .ensures _ refl refl)
+returns-2 c =
+    let at-has-key : tie.After-has-key = search in
+    key-opens _ _ _ (at-has-key .has-key .ensures) (c .before .before .before .credential2 .given .1) (c .before .if2 .taken) (c .key-opens .ensures _ refl refl)
 
 returns-3 : tie.Need-returns-3
 returns-3 c = nothing-opens _ _ _ (c .before .before .before .has-key .ensures) (c .enum-told .given .1)
 
 returns-4 : tie.Need-returns-4
-returns-4 c = reference-opens _ _ _ (c .before .before .before .before .before .before .has-key .ensures) (c .before .before .before .credential .given .1) (c .before .if1 .left) (c .reference-opens .ensures)
+returns-4 c = search reference-opens
 
 returns-5 : tie.Need-returns-5
-returns-5 c = keyless-refused _ _ _ (c .before .before .before .before .before .has-key .ensures) (c .before .before .credential2 .given .1) (c .if2 .left)
+returns-5 c = search keyless-refused
 
 pub opens-spec : {M : Type 1} → statement M
 opens-spec =

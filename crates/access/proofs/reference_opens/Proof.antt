@@ -29,16 +29,18 @@ add-pointer : tie.Need-add-pointer
 add-pointer c = omega arith
 
 holds-requires : tie.Need-holds-requires
-holds-requires c κs = c .before .before .before .before .before .before .before .before .pre .sorted
+holds-requires c κs = search
 
 window-open-requires : tie.Need-window-open-requires
 window-open-requires c κs = omega arith
 
 returns-3 : tie.Need-returns-3
 returns-3 c =
-    let at = c .before .before .before .before .before .before .before .before .before .before .args in
+    let at-if1 : tie.Else1 = search in
+    let start : tie.Start = search in
+    let at = start .args in
     reference-followed (card (at .info) (at .flags .now) [] [] (at .pointers .now) (at .windows .now) [] .public) (at .mode) (at .block) (at .reference)
-    (c .before .before .before .before .before .if1 .left) (c .before .before .before .allocated .ensures) (c .before .before .if2 .left) (c .before .holds .ensures) (c .window-open .ensures)
+    (at-if1 .if1 .left) (c .before .before .before .allocated .ensures) (c .before .before .if2 .left) (c .before .holds .ensures) (c .window-open .ensures)
 
 pub reference-opens-spec : {M : Type 1} → statement M
 reference-opens-spec =

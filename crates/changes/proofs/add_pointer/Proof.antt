@@ -42,7 +42,7 @@ same-length-2 : tie.Need-same-length-2
 same-length-2 c = search needs
 
 returns : tie.Need-returns
-returns c = added _ _ _ _ _ (c .with-used .ensures) (c .before .before .before .before .before .insert .ensures)
+returns c = search added
 
 pub add-pointer-spec : {M : Type 1} → statement M
 add-pointer-spec =

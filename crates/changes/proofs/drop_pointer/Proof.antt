@@ -42,7 +42,7 @@ same-length-2 : tie.Need-same-length-2
 same-length-2 c = search needs
 
 returns : tie.Need-returns
-returns c = dropped _ _ _ _ _ (c .with-used .ensures) (c .before .before .before .before .before .remove .ensures)
+returns c = search dropped
 
 pub drop-pointer-spec : {M : Type 1} → statement M
 drop-pointer-spec =

@@ -41,7 +41,7 @@ same-length-3 : tie.Need-same-length-3
 same-length-3 c = search needs
 
 returns : tie.Need-returns
-returns c = freed _ _ _ _ (c .before .before .clear-keys .ensures)
+returns c = search freed
 
 pub free-block-spec : {M : Type 1} → statement M
 free-block-spec =

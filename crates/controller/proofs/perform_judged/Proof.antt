@@ -18,18 +18,18 @@ enum-told-3 c = search needs
 
 perform-sound-requires : tie.Need-perform-sound-requires
 perform-sound-requires c κs =
-    let at-enum-told3 = c .before .before .before .before .before .before .before .before in
-    let at-pre = at-enum-told3 .before .before .before .before .before .before .before .before .before .before .before in
-    verdict-sound _ (sym (at-pre .pre) ∙ at-enum-told3 .enum-told3 .given .1)
+    let at-enum-told3 : tie.After-enum-told3 = search in
+    let start : tie.Start = search in
+    verdict-sound _ (sym (start .pre) ∙ at-enum-told3 .enum-told3 .given .1)
 
 returns : tie.Need-returns
 returns c =
-    let start = c .before .before .before .before .before .before .before .before .before .before .before in
+    let start : tie.Start = search in
     is-misshapen (start .args .port) _ (request (start .args .call) (start .args .input .now) (start .args .out .now) (start .args .places .now)) (sym (start .pre) ∙ c .enum-told .given .1)
 
 returns-2 : tie.Need-returns-2
 returns-2 c =
-    let start = c .before .before .before .before .before .before .before .before .before .before .before in
+    let start : tie.Start = search in
     is-unsound (start .args .port) _ (request (start .args .call) (start .args .input .now) (start .args .out .now) (start .args .places .now)) (sym (start .pre) ∙ c .enum-told2 .given .1)
 
 same-length : tie.Need-same-length
@@ -58,9 +58,9 @@ same-length-8 c = search needs
 
 returns-3 : tie.Need-returns-3
 returns-3 c =
-    let at-perform-sound = c .before .before .before .before .before .before .before .before .before .before .before .before .before .before .before .before in
-    let at-enum-told3 = at-perform-sound .before .before .before .before .before .before .before .before .before in
-    let start = at-enum-told3 .before .before .before .before .before .before .before .before .before .before .before in
+    let at-perform-sound : tie.After-perform-sound = search in
+    let at-enum-told3 : tie.After-enum-told3 = search in
+    let start : tie.Start = search in
     is-audited (start .args .port) _ (request (start .args .call) (start .args .input .now) (start .args .out .now) (start .args .places .now)) (sym (start .pre) ∙ at-enum-told3 .enum-told3 .given .1) (at-perform-sound .perform-sound .ensures)
 
 pub perform-judged-spec : {M : Type 1} → statement M

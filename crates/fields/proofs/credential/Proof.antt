@@ -15,12 +15,7 @@ zeroed-requires : tie.Need-zeroed-requires
 zeroed-requires c κs = search needs
 
 returns : tie.Need-returns
-returns c =
-    let a = c .before .before .before .before .before .args in
-    nothing (a .bytes .now) (a .at)
-    (c .before .before .match .keys1)
-    (c .before .zeroed .ensures)
-    (c .if1 .taken)
+returns c = search nothing
 
 add-zeroed-2 : tie.Need-add-zeroed-2
 add-zeroed-2 c = search needs
@@ -35,13 +30,7 @@ two-requires : tie.Need-two-requires
 two-requires c κs = search needs
 
 returns-2 : tie.Need-returns-2
-returns-2 c =
-    let a = c .before .before .before .before .before .before .args in
-    reference (a .bytes .now) (a .at)
-    (c .before .before .before .match .keys2)
-    (c .before .before .zeroed2 .ensures)
-    (c .before .if2 .taken)
-    (c .two .ensures)
+returns-2 c = search reference
 
 add-eight : tie.Need-add-eight
 add-eight c = search needs
@@ -56,36 +45,16 @@ eight-requires-2 : tie.Need-eight-requires-2
 eight-requires-2 c κs = search needs
 
 returns-3 : tie.Need-returns-3
-returns-3 c =
-    let a = c .before .before .before .before .before .args in
-    not-nothing (a .bytes .now) (a .at)
-    (c .before .before .match .keys1)
-    (c .before .zeroed .ensures)
-    (c .if1 .left)
+returns-3 c = search not-nothing
 
 returns-4 : tie.Need-returns-4
-returns-4 c =
-    let a = c .before .before .before .before .before .args in
-    not-reference (a .bytes .now) (a .at)
-    (c .before .before .match .keys2)
-    (c .before .zeroed2 .ensures)
-    (c .if2 .left)
+returns-4 c = search not-reference
 
 returns-5 : tie.Need-returns-5
-returns-5 c =
-    let a = c .before .before .before .before .before .args in
-    key (a .bytes .now) (a .at)
-    (c .before .before .match .keys3)
-    (c .before .eight .ensures)
-    (c .eight2 .ensures)
+returns-5 c = search key
 
 returns-6 : tie.Need-returns-6
-returns-6 c =
-    let a = c .before .before .before .args in
-    no-credential (a .bytes .now) (a .at)
-    (c .match .rest .0 .0 .1)
-    (c .match .rest .0 .1)
-    (c .match .rest .1)
+returns-6 c = search no-credential
 
 pub credential-spec : {M : Type 1} → statement M
 credential-spec =

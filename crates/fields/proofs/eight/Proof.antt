@@ -27,11 +27,7 @@ add-result : tie.Need-add-result
 add-result c = search needs
 
 returns : tie.Need-returns
-returns c =
-    let a = c .before .before .before .args in
-    number-eight (a .bytes .now) (a .at)
-    (c .before .four .ensures)
-    (c .four2 .ensures)
+returns c = search number-eight
 
 pub eight-spec : {M : Type 1} → statement M
 eight-spec =

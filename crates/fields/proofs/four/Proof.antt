@@ -27,11 +27,7 @@ add-result : tie.Need-add-result
 add-result c = search needs
 
 returns : tie.Need-returns
-returns c =
-    let a = c .before .before .before .args in
-    number-four (a .bytes .now) (a .at)
-    (c .before .two .ensures)
-    (c .two2 .ensures)
+returns c = search number-four
 
 pub four-spec : {M : Type 1} → statement M
 four-spec =

@@ -15,12 +15,7 @@ zeroed-requires : tie.Need-zeroed-requires
 zeroed-requires c κs = search needs
 
 returns : tie.Need-returns
-returns c =
-    let a = c .before .before .before .before .before .args in
-    absent (a .bytes .now) (a .at)
-    (c .before .before .match .keys1)
-    (c .before .zeroed .ensures)
-    (c .if1 .taken)
+returns c = search absent
 
 add-eight : tie.Need-add-eight
 add-eight c = search needs
@@ -35,27 +30,13 @@ eight-requires-2 : tie.Need-eight-requires-2
 eight-requires-2 c κs = search needs
 
 returns-2 : tie.Need-returns-2
-returns-2 c =
-    let a = c .before .before .before .before .before .args in
-    not-absent (a .bytes .now) (a .at)
-    (c .before .before .match .keys1)
-    (c .before .zeroed .ensures)
-    (c .if1 .left)
+returns-2 c = search not-absent
 
 returns-3 : tie.Need-returns-3
-returns-3 c =
-    let a = c .before .before .before .before .before .args in
-    present (a .bytes .now) (a .at)
-    (c .before .before .match .keys2)
-    (c .before .eight .ensures)
-    (c .eight2 .ensures)
+returns-3 c = search present
 
 returns-4 : tie.Need-returns-4
-returns-4 c =
-    let a = c .before .before .before .args in
-    no-new-key (a .bytes .now) (a .at)
-    (c .match .rest .0 .1)
-    (c .match .rest .1)
+returns-4 c = search no-new-key
 
 pub new-key-spec : {M : Type 1} → statement M
 new-key-spec =

@@ -30,11 +30,7 @@ cast-result : tie.Need-cast-result
 cast-result c = search needs
 
 returns : tie.Need-returns
-returns c =
-    let a = c .before .before .before .before .before .args in
-    number-two (a .bytes .now) (a .at)
-    (c .before .before .wide .ensures .0)
-    (c .wide2 .ensures .0)
+returns c = search number-two
 
 pub two-spec : {M : Type 1} → statement M
 two-spec =

@@ -22,11 +22,7 @@ shared-slice-read-if1 : tie.Need-shared-slice-read-if1 Inv-loop μ-loop
 shared-slice-read-if1 c = omega arith
 
 returns : tie.Need-returns Inv-loop μ-loop
-returns c =
-    let a = c .before .before .before .before .args in
-    filler-fault (a .bytes .now) (a .at)
-    (c .before .before .loop-test .taken)
-    (c .if1 .taken)
+returns c = search filler-fault
 
 add-i : tie.Need-add-i Inv-loop μ-loop
 add-i c = omega arith
@@ -35,7 +31,7 @@ loop-less : tie.Need-loop-less Inv-loop μ-loop
 loop-less c = omega arith
 
 loop-again : tie.Need-loop-again Inv-loop μ-loop
-loop-again c = filler-more (c .before .before .before .loop .inv) (c .before .before .loop-test .taken) (c .if1 .left)
+loop-again c = search filler-more
 
 returns-2 : tie.Need-returns-2 Inv-loop μ-loop
 returns-2 c = filler-whole (c .before .loop .inv) (c .loop-test .left)

@@ -9,7 +9,7 @@ count-free-requires : tie.Need-count-free-requires
 count-free-requires c κs = search needs
 
 returns : tie.Need-returns
-returns c = λ port. free-done port (c .before .before .before .before .before .before .before .pre) (c .count-free .ensures)
+returns c = λ port. search free-done
 
 pub free-sound-spec : {M : Type 1} → statement M
 free-sound-spec = tie.close (tie.spec count-free-requires returns)

@@ -21,7 +21,7 @@ with-time-requires : tie.Need-with-time-requires
 with-time-requires c κs = search needs
 
 returns-2 : tie.Need-returns-2
-returns-2 c = λ port. tick-done _ _ port (c .before .before .before .if1 .left) (c .with-time .ensures)
+returns-2 c = λ port. search tick-done
 
 pub tick-sound-spec : {M : Type 1} → statement M
 tick-sound-spec = tie.close (tie.spec sub-if1 refused-requires returns add-time with-time-requires returns-2)

@@ -1,7 +1,6 @@
 -- `tables::copy` meets its contract: the list is `from` up to `i`. The measure is what is left.
 -- Assumes nothing.
 use Prim.Native.Nat.{_-_}
-use mathlib.Core.Path.{refl}
 use native.Mathlib.Omega.{arith}
 use lib.ListN.{length}
 use Rattle.tables.proofs.Overlay.{Overlaid, overlaid-start, overlaid-more, overlaid-whole}
@@ -30,7 +29,7 @@ loop-less : tie.Need-loop-less Inv-loop μ-loop
 loop-less c = omega arith
 
 loop-again : tie.Need-loop-again Inv-loop μ-loop
-loop-again c = overlaid-more _ (c .before .before .loop .inv) (c .before .loop-test .taken) refl
+loop-again c = search overlaid-more
 
 same-length : tie.Need-same-length Inv-loop μ-loop
 same-length c = c .before .loop .inv .same

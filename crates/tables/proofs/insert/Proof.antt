@@ -13,13 +13,13 @@ abbrev μ-loop : tie.MeasureT-loop
 μ-loop pointers₀ used wanted at first i₀ pointers i = i
 
 place-requires : tie.Need-place-requires Inv-loop μ-loop
-place-requires c κs = c .before .before .pre .sorted
+place-requires c κs = search
 
 add-first : tie.Need-add-first Inv-loop μ-loop
 add-first c = let low = raised-start (c .before .before .before .pre) (c .place .ensures) in omega arith
 
 loop-holds : tie.Need-loop-holds Inv-loop μ-loop
-loop-holds c = raised-start (c .before .before .before .pre) (c .place .ensures)
+loop-holds c = search raised-start
 
 sub-pointers : tie.Need-sub-pointers Inv-loop μ-loop
 sub-pointers c = omega arith
@@ -55,7 +55,9 @@ same-length : tie.Need-same-length Inv-loop μ-loop
 same-length c = simp length-set (c .before .loop .inv .same)
 
 returns : tie.Need-returns Inv-loop μ-loop
-returns c = inserted (c .before .before .before .before .before .pre) (c .before .before .place .ensures) (c .before .loop .inv) (omega arith)
+returns c =
+    let start : tie.Start Inv-loop μ-loop = search in
+    inserted (start .pre) (c .before .before .place .ensures) (c .before .loop .inv) (omega arith)
 
 pub insert-spec : {M : Type 1} → statement M
 insert-spec =

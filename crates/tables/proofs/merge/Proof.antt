@@ -63,7 +63,10 @@ loop-less : tie.Need-loop-less Inv-loop μ-loop
 loop-less c = omega arith
 
 loop-again : tie.Need-loop-again Inv-loop μ-loop
-loop-again c = let l = c .before .before .before .before .before .before .loop in merging-old (c .before .before .before .before .before .before .before .pre) (l .inv) (l .old - 1) (l .new - 1) _ (omega arith) (omega arith) (omega arith) (ltb-true _ _ (c .before .if2 .taken))
+loop-again c =
+    let at-loop : tie.At-loop Inv-loop μ-loop = search in
+    let start : tie.Start Inv-loop μ-loop = search in
+    let l = at-loop .loop in merging-old (start .pre) (l .inv) (l .old - 1) (l .new - 1) _ (omega arith) (omega arith) (omega arith) (ltb-true _ _ (c .before .if2 .taken))
 
 mul-pointers-3 : tie.Need-mul-pointers-3 Inv-loop μ-loop
 mul-pointers-3 c = omega arith
@@ -78,13 +81,15 @@ loop-less-2 : tie.Need-loop-less-2 Inv-loop μ-loop
 loop-less-2 c = omega arith
 
 loop-again-2 : tie.Need-loop-again-2 Inv-loop μ-loop
-loop-again-2 c = merging-new (c .before .before .before .before .pre) (c .before .before .before .loop .inv) _ _ (omega arith) (omega arith) (λ l. ⊎-elim (λ w. ltb-false _ _ (w .2 .left)) (λ w. absurd (omega arith)) (c .if1 .came))
+loop-again-2 c =
+    let start : tie.Start Inv-loop μ-loop = search in
+    merging-new (start .pre) (c .before .before .before .loop .inv) _ _ (omega arith) (omega arith) (λ l. ⊎-elim (λ w. ltb-false _ _ (w .2 .left)) (λ w. absurd (omega arith)) (c .if1 .came))
 
 same-length : tie.Need-same-length Inv-loop μ-loop
 same-length c = c .before .loop .inv .same
 
 returns : tie.Need-returns Inv-loop μ-loop
-returns c = merging-whole (c .before .before .pre) (c .before .loop .inv) (c .loop-test .left)
+returns c = search merging-whole
 
 pub merge-spec : {M : Type 1} → statement M
 merge-spec =

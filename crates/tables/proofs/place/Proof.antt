@@ -34,13 +34,17 @@ loop-less : tie.Need-loop-less Inv-loop μ-loop
 loop-less c = omega arith
 
 loop-again : tie.Need-loop-again Inv-loop μ-loop
-loop-again c = between-above (c .before .before .before .before .pre) _ (c .before .before .before .loop .inv) (omega arith) (c .if1 .taken)
+loop-again c =
+    let start : tie.Start Inv-loop μ-loop = search in
+    between-above (start .pre) _ (c .before .before .before .loop .inv) (omega arith) (c .if1 .taken)
 
 loop-less-2 : tie.Need-loop-less-2 Inv-loop μ-loop
 loop-less-2 c = omega arith
 
 loop-again-2 : tie.Need-loop-again-2 Inv-loop μ-loop
-loop-again-2 c = between-below (c .before .before .before .before .pre) _ (c .before .before .before .loop .inv) (omega arith) (c .if1 .left)
+loop-again-2 c =
+    let start : tie.Start Inv-loop μ-loop = search in
+    between-below (start .pre) _ (c .before .before .before .loop .inv) (omega arith) (c .if1 .left)
 
 returns : tie.Need-returns Inv-loop μ-loop
 returns c = omega arith

@@ -21,10 +21,14 @@ shared-slice-read-result : tie.Need-shared-slice-read-result
 shared-slice-read-result c = omega arith
 
 returns : tie.Need-returns
-returns c = let start = c .before .before .before .before in look-found (start .pre) (λ x. eqb (source x) (start .args .block)) (points-rank (start .args .block) _ (start .pre .ascends)) (c .before .before .place .ensures) (c .before .if1 .taken)
+returns c =
+    let start : tie.Start = search in
+    look-found (start .pre) (λ x. eqb (source x) (start .args .block)) (search points-rank) (c .before .before .place .ensures) (c .before .if1 .taken)
 
 returns-2 : tie.Need-returns-2
-returns-2 c = let start = c .before .before .before in look-missed (start .pre) (λ x. eqb (source x) (start .args .block)) (points-rank (start .args .block) _ (start .pre .ascends)) (c .before .place .ensures) (c .if1 .left)
+returns-2 c =
+    let start : tie.Start = search in
+    look-missed (start .pre) (λ x. eqb (source x) (start .args .block)) (search points-rank) (c .before .place .ensures) (c .if1 .left)
 
 pub points-from-spec : {M : Type 1} → statement M
 points-from-spec =

@@ -14,10 +14,10 @@ abbrev μ-loop : tie.MeasureT-loop
 μ-loop pointers₀ used wanted i₀ pointers i = used - i
 
 place-requires : tie.Need-place-requires Inv-loop μ-loop
-place-requires c κs = c .before .before .pre .sorted
+place-requires c κs = search
 
 loop-holds : tie.Need-loop-holds Inv-loop μ-loop
-loop-holds c = lowered-start (c .before .before .before .pre) (c .place .ensures)
+loop-holds c = search lowered-start
 
 add-loop : tie.Need-add-loop Inv-loop μ-loop
 add-loop c = omega arith
@@ -44,7 +44,7 @@ loop-less : tie.Need-loop-less Inv-loop μ-loop
 loop-less c = omega arith
 
 loop-again : tie.Need-loop-again Inv-loop μ-loop
-loop-again c = lowered-more (c .before .before .loop .inv) (c .before .loop-test .taken)
+loop-again c = search lowered-more
 
 mul-pointers-3 : tie.Need-mul-pointers-3 Inv-loop μ-loop
 mul-pointers-3 c = omega arith
@@ -56,7 +56,7 @@ same-length : tie.Need-same-length Inv-loop μ-loop
 same-length c = simp length-set (c .before .loop .inv .same)
 
 returns : tie.Need-returns Inv-loop μ-loop
-returns c = removed (c .before .before .before .before .before .pre) (c .before .before .place .ensures) (c .before .loop .inv) (c .loop-test .left)
+returns c = search removed
 
 pub remove-spec : {M : Type 1} → statement M
 remove-spec =

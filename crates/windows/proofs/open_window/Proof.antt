@@ -21,7 +21,7 @@ same-length : tie.Need-same-length
 same-length c = search needs
 
 returns-2 : tie.Need-returns-2
-returns-2 c = opened-host _ _ _ _ _ (c .before .before .before .before .before .enum-told .given .1) (c .before .before .before .before .if1 .left) (c .before .before .set-window .ensures)
+returns-2 c = search opened-host
 
 returns-3 : tie.Need-returns-3
 returns-3 c = opened-service _ _ _ _ _ (c .enum-told2 .given .1)

@@ -13,18 +13,18 @@ window-at-requires : tie.Need-window-at-requires
 window-at-requires c κs = search needs
 
 mul-windows : tie.Need-mul-windows
-mul-windows c = omega (arith, at-within (c .before .before .before .args .mode) _ _ (c .window-at .ensures) (c .before .before .before .pre .1 .1))
+mul-windows c =
+    let start : tie.Start = search in
+    omega (arith, at-within (start .args .mode) _ _ (c .window-at .ensures) (start .pre .1 .1))
 
 slice-write-windows : tie.Need-slice-write-windows
-slice-write-windows c = at-within (c .before .before .before .args .mode) _ _ (c .window-at .ensures) (c .before .before .before .pre .1 .1)
+slice-write-windows c = search at-within
 
 same-length : tie.Need-same-length
 same-length c = search needs
 
 returns : tie.Need-returns
-returns c =
-    let a = c .before .before .before .args in
-    after-set (a .info) (a .windows .now) (a .mode) (a .block) (a .interval) (c .window-at .ensures)
+returns c = search after-set
 
 pub set-window-spec : {M : Type 1} → statement M
 set-window-spec =
