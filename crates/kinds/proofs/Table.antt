@@ -1,8 +1,9 @@
 -- Laws of the table of kinds: what the arms of a match on it cite.
 -- Assumes nothing.
-use Prim.Native.Nat.{ℕ}
+use Prim.Native.Nat.{ℕ, _≤_, _<_}
 use mathlib.Core.Path.{_≡_, sym, ap}
 use mathlib.Core.List.{List, [], _∷_}
+use native.Mathlib.Omega.{arith}
 use borrow.Author.Tests.{ne-eqb}
 use Rattle.kinds.specs.Kinds.{row, names, kindNumber, lengthOf, dataLength, operandsLength, lengthsOf, among, kindOf, kindLength, bodyLength}
 use Rattle.kinds.specs.declared.Name.{Name}
@@ -28,21 +29,44 @@ abbrev pub Apart : ℕ → List ℕ → Type 0
 Apart k [] = Unit {0}
 Apart k (n ∷ ns) = Apart k ns × (k ≡ n → ⊥)
 
-pub unknown : (k : ℕ) → Apart k (134 ∷ 133 ∷ 132 ∷ 131 ∷ 130 ∷ 129 ∷ 11 ∷ 10 ∷ 9 ∷ 8 ∷ 7 ∷ 6 ∷ 5 ∷ 4 ∷ 3 ∷ 2 ∷ 1 ∷ []) → Unknown ≡ kindOf k
+pub unknown-host : (k : ℕ) → k < 128 → Apart k (11 ∷ 10 ∷ 9 ∷ 8 ∷ 7 ∷ 6 ∷ 5 ∷ 4 ∷ 3 ∷ 2 ∷ 1 ∷ []) → Unknown ≡ kindOf k
 unfolding tableRules
-unknown k h =
+unknown-host k l h =
     rw (
-      ne-eqb k 1 (h .0 .0 .0 .0 .0 .0 .0 .0 .0 .0 .0 .0 .0 .0 .0 .0 .1),
-      ne-eqb k 2 (h .0 .0 .0 .0 .0 .0 .0 .0 .0 .0 .0 .0 .0 .0 .0 .1),
-      ne-eqb k 3 (h .0 .0 .0 .0 .0 .0 .0 .0 .0 .0 .0 .0 .0 .0 .1),
-      ne-eqb k 4 (h .0 .0 .0 .0 .0 .0 .0 .0 .0 .0 .0 .0 .0 .1),
-      ne-eqb k 5 (h .0 .0 .0 .0 .0 .0 .0 .0 .0 .0 .0 .0 .1),
-      ne-eqb k 6 (h .0 .0 .0 .0 .0 .0 .0 .0 .0 .0 .0 .1),
-      ne-eqb k 7 (h .0 .0 .0 .0 .0 .0 .0 .0 .0 .0 .1),
-      ne-eqb k 8 (h .0 .0 .0 .0 .0 .0 .0 .0 .0 .1),
-      ne-eqb k 9 (h .0 .0 .0 .0 .0 .0 .0 .0 .1),
-      ne-eqb k 10 (h .0 .0 .0 .0 .0 .0 .0 .1),
-      ne-eqb k 11 (h .0 .0 .0 .0 .0 .0 .1),
+      ne-eqb k 1 (h .0 .0 .0 .0 .0 .0 .0 .0 .0 .0 .1),
+      ne-eqb k 2 (h .0 .0 .0 .0 .0 .0 .0 .0 .0 .1),
+      ne-eqb k 3 (h .0 .0 .0 .0 .0 .0 .0 .0 .1),
+      ne-eqb k 4 (h .0 .0 .0 .0 .0 .0 .0 .1),
+      ne-eqb k 5 (h .0 .0 .0 .0 .0 .0 .1),
+      ne-eqb k 6 (h .0 .0 .0 .0 .0 .1),
+      ne-eqb k 7 (h .0 .0 .0 .0 .1),
+      ne-eqb k 8 (h .0 .0 .0 .1),
+      ne-eqb k 9 (h .0 .0 .1),
+      ne-eqb k 10 (h .0 .1),
+      ne-eqb k 11 (h .1),
+      ne-eqb k 129 (λ (e : k ≡ 129). omega arith),
+      ne-eqb k 130 (λ (e : k ≡ 130). omega arith),
+      ne-eqb k 131 (λ (e : k ≡ 131). omega arith),
+      ne-eqb k 132 (λ (e : k ≡ 132). omega arith),
+      ne-eqb k 133 (λ (e : k ≡ 133). omega arith),
+      ne-eqb k 134 (λ (e : k ≡ 134). omega arith),
+    )
+
+pub unknown-service : (k : ℕ) → 128 ≤ k → Apart k (134 ∷ 133 ∷ 132 ∷ 131 ∷ 130 ∷ 129 ∷ []) → Unknown ≡ kindOf k
+unfolding tableRules
+unknown-service k l h =
+    rw (
+      ne-eqb k 1 (λ (e : k ≡ 1). omega arith),
+      ne-eqb k 2 (λ (e : k ≡ 2). omega arith),
+      ne-eqb k 3 (λ (e : k ≡ 3). omega arith),
+      ne-eqb k 4 (λ (e : k ≡ 4). omega arith),
+      ne-eqb k 5 (λ (e : k ≡ 5). omega arith),
+      ne-eqb k 6 (λ (e : k ≡ 6). omega arith),
+      ne-eqb k 7 (λ (e : k ≡ 7). omega arith),
+      ne-eqb k 8 (λ (e : k ≡ 8). omega arith),
+      ne-eqb k 9 (λ (e : k ≡ 9). omega arith),
+      ne-eqb k 10 (λ (e : k ≡ 10). omega arith),
+      ne-eqb k 11 (λ (e : k ≡ 11). omega arith),
       ne-eqb k 129 (h .0 .0 .0 .0 .0 .1),
       ne-eqb k 130 (h .0 .0 .0 .0 .1),
       ne-eqb k 131 (h .0 .0 .0 .1),

@@ -2,6 +2,7 @@
 // What is right is defined in specs/, after document 01, "Call records and the player".
 use card::Port;
 ghost use mathlib.Core.Path.{_≡_};
+ghost use Prim.Native.Nat.{_<_, _≤_};
 ghost use Rattle.kinds.specs.Kinds.{lengthsAre, lengthsOf, kindOf, bodyLength};
 
 // The calls that a record may hold.
@@ -37,8 +38,9 @@ pub enum Length {
     Unknown,
 }
 
-// The port and the call of a byte of kind.
-pub fn kind_of(kind: u8) -> Kind
+// A kind below 128 is a call at the host port.
+fn host_kind_of(kind: u8) -> Kind
+    requires { ⌜ kind < 128 ⌝ }
     ensures { λ r. ⌜ r ≡ kindOf kind ⌝ }
 {
     match kind {
@@ -53,6 +55,16 @@ pub fn kind_of(kind: u8) -> Kind
         9 => Kind::Known(Port::Host, Name::Free),
         10 => Kind::Known(Port::Host, Name::Tick),
         11 => Kind::Known(Port::Host, Name::Audit),
+        _ => Kind::Unknown,
+    }
+}
+
+// Any other is one at the service port.
+fn service_kind_of(kind: u8) -> Kind
+    requires { ⌜ 128 ≤ kind ⌝ }
+    ensures { λ r. ⌜ r ≡ kindOf kind ⌝ }
+{
+    match kind {
         129 => Kind::Known(Port::Service, Name::Read),
         130 => Kind::Known(Port::Service, Name::Write),
         131 => Kind::Known(Port::Service, Name::Alloc),
@@ -60,6 +72,17 @@ pub fn kind_of(kind: u8) -> Kind
         133 => Kind::Known(Port::Service, Name::Delete),
         134 => Kind::Known(Port::Service, Name::Key),
         _ => Kind::Unknown,
+    }
+}
+
+// The port and the call of a byte of kind.
+pub fn kind_of(kind: u8) -> Kind
+    ensures { λ r. ⌜ r ≡ kindOf kind ⌝ }
+{
+    if kind < 128 {
+        host_kind_of(kind)
+    } else {
+        service_kind_of(kind)
     }
 }
 

@@ -1,8 +1,8 @@
--- `kinds::kind_of` meets its contract: each arm is one kind of the table, and any other number is none.
+-- `kinds::host_kind_of` meets its contract: each arm is one kind of the table, and any other number is none.
 -- Assumes nothing.
-use Rattle.kinds.proofs.Table.{tableRules, at-kind, unknown}
-use Rattle.kinds.proofs.kind_of.Statement.{statement}
-use Rattle.kinds.proofs.kind_of.Tie as tie
+use Rattle.kinds.proofs.Table.{tableRules, at-kind, unknown-host}
+use Rattle.kinds.proofs.host_kind_of.Statement.{statement}
+use Rattle.kinds.proofs.host_kind_of.Tie as tie
 
 returns : tie.Need-returns
 unfolding tableRules
@@ -49,34 +49,10 @@ unfolding tableRules
 returns-11 c = at-kind (c .match .keys11)
 
 returns-12 : tie.Need-returns-12
-unfolding tableRules
-returns-12 c = at-kind (c .match .keys12)
+returns-12 c = unknown-host _ (c .before .pre) (c .match .rest)
 
-returns-13 : tie.Need-returns-13
-unfolding tableRules
-returns-13 c = at-kind (c .match .keys13)
-
-returns-14 : tie.Need-returns-14
-unfolding tableRules
-returns-14 c = at-kind (c .match .keys14)
-
-returns-15 : tie.Need-returns-15
-unfolding tableRules
-returns-15 c = at-kind (c .match .keys15)
-
-returns-16 : tie.Need-returns-16
-unfolding tableRules
-returns-16 c = at-kind (c .match .keys16)
-
-returns-17 : tie.Need-returns-17
-unfolding tableRules
-returns-17 c = at-kind (c .match .keys17)
-
-returns-18 : tie.Need-returns-18
-returns-18 c = unknown _ (c .match .rest)
-
-pub kind-of-spec : {M : Type 1} → statement M
-kind-of-spec =
+pub host-kind-of-spec : {M : Type 1} → statement M
+host-kind-of-spec =
     tie.close
     (tie.spec
     returns
@@ -90,10 +66,4 @@ kind-of-spec =
     returns-9
     returns-10
     returns-11
-    returns-12
-    returns-13
-    returns-14
-    returns-15
-    returns-16
-    returns-17
-    returns-18)
+    returns-12)
