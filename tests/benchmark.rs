@@ -817,7 +817,7 @@ fn main() {
         let (ratio, target) = match r.target {
             Some(t) => (
                 format!("{:.2}", r.library / r.against),
-                format!("{t:.1}{}", if r.library / r.against > t { " (above)" } else { "" }),
+                format!("{t}{}", if r.library / r.against > t { " (above)" } else { "" }),
             ),
             None => ("".to_string(), "".to_string()),
         };
