@@ -95,7 +95,7 @@ pub record Traits : Type 0 where
   pub credentials : List Credential
   -- The values that the call, once done, leaves in a lent buffer and a player reports.
   pub values : Reply → List ℕ
-  -- The block that the pointer led to which the call takes away, if it takes one.
+  -- The destination of the pointer that the call takes away, if it takes one.
   pub takesPointerTo : Option ℕ
 
 -- A call that shows nothing and takes no pointer away.
