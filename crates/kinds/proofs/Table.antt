@@ -1,7 +1,7 @@
 -- Laws of the table of kinds: what the arms of a match on it cite.
 -- Assumes nothing.
 use Prim.Native.Nat.{ℕ, _≤_, _<_}
-use mathlib.Core.Path.{_≡_, sym, ap}
+use mathlib.Core.Path.{_≡_, sym, ap, _∙_}
 use mathlib.Core.List.{List, [], _∷_}
 use native.Mathlib.Omega.{arith}
 use borrow.Author.Tests.{ne-eqb}
@@ -12,26 +12,31 @@ use Rattle.kinds.specs.declared.Kind.{Kind}
 use Rattle.kinds.specs.declared.Kind.the-variants.{Known, Unknown}
 use Rattle.kinds.specs.declared.Length.the-variants.{Bytes, Unknown as UnknownLength}
 use Rattle.card.specs.declared.Port.{Port}
+use Rattle.card.specs.declared.Port.the-variants.{Host, Service}
 
 -- To compute by the table, a proof unfolds this one name.
 unfoldable pub tableRules : Unit {0}
 unfolding row names kindNumber lengthOf dataLength operandsLength lengthsOf among kindOf
 tableRules = tt
 
-pub at-kind : {k n : ℕ} → k ≡ n → kindOf n ≡ kindOf k
-at-kind e = ap kindOf (sym e)
+pub at-kind : (wire : Port) {k n : ℕ} → k ≡ n → kindOf wire n ≡ kindOf wire k
+at-kind wire e = ap (kindOf wire) (sym e)
 
 pub at-name : {a b : Name} → a ≡ b → lengthsOf b ≡ lengthsOf a
 at-name e = ap lengthsOf (sym e)
+
+-- By the port that was found.
+pub at-wire : (k : ℕ) {wire port : Port} {r : Kind} → wire ≡ port → r ≡ kindOf port k → r ≡ kindOf wire k
+at-wire k e h = h ∙ ap (λ (p : Port). kindOf p k) (sym e)
 
 -- The number is none of the list, the last first.
 abbrev pub Apart : ℕ → List ℕ → Type 0
 Apart k [] = Unit {0}
 Apart k (n ∷ ns) = Apart k ns × (k ≡ n → ⊥)
 
-pub unknown-host : (k : ℕ) → k < 128 → Apart k (11 ∷ 10 ∷ 9 ∷ 8 ∷ 7 ∷ 6 ∷ 5 ∷ 4 ∷ 3 ∷ 2 ∷ 1 ∷ []) → Unknown ≡ kindOf k
+pub unknown-host : (k : ℕ) → Apart k (11 ∷ 10 ∷ 9 ∷ 8 ∷ 7 ∷ 6 ∷ 5 ∷ 4 ∷ 3 ∷ 2 ∷ 1 ∷ []) → Unknown ≡ kindOf Host k
 unfolding tableRules
-unknown-host k l h =
+unknown-host k h =
     rw (
       ne-eqb k 1 (h .0 .0 .0 .0 .0 .0 .0 .0 .0 .0 .1),
       ne-eqb k 2 (h .0 .0 .0 .0 .0 .0 .0 .0 .0 .1),
@@ -44,6 +49,14 @@ unknown-host k l h =
       ne-eqb k 9 (h .0 .0 .1),
       ne-eqb k 10 (h .0 .1),
       ne-eqb k 11 (h .1),
+    )
+
+-- Below 128 a kind is the same at both ports.
+pub same-below : (k : ℕ) {r : Kind} → k < 128 → r ≡ kindOf Host k → r ≡ kindOf Service k
+unfolding tableRules
+same-below k l e =
+    e
+    ∙ rw (
       ne-eqb k 129 (λ (e : k ≡ 129). omega arith),
       ne-eqb k 130 (λ (e : k ≡ 130). omega arith),
       ne-eqb k 131 (λ (e : k ≡ 131). omega arith),
@@ -52,7 +65,7 @@ unknown-host k l h =
       ne-eqb k 134 (λ (e : k ≡ 134). omega arith),
     )
 
-pub unknown-service : (k : ℕ) → 128 ≤ k → Apart k (134 ∷ 133 ∷ 132 ∷ 131 ∷ 130 ∷ 129 ∷ []) → Unknown ≡ kindOf k
+pub unknown-service : (k : ℕ) → 128 ≤ k → Apart k (134 ∷ 133 ∷ 132 ∷ 131 ∷ 130 ∷ 129 ∷ []) → Unknown ≡ kindOf Service k
 unfolding tableRules
 unknown-service k l h =
     rw (
@@ -77,12 +90,12 @@ unknown-service k l h =
 
 -- ---- the length of a kind's body
 
-pub known-length : (k : ℕ) {l : Lengths} {r : Kind} {port : Port} {name : Name}
-    → r ≡ kindOf k → r ≡ Known port name → l ≡ lengthsOf name
-    → Bytes (l .body) ≡ bodyLength k
+pub known-length : (wire : Port) (k : ℕ) {l : Lengths} {r : Kind} {port : Port} {name : Name}
+    → r ≡ kindOf wire k → r ≡ Known port name → l ≡ lengthsOf name
+    → Bytes (l .body) ≡ bodyLength wire k
 unfolding bodyLength kindLength lengthsOf
-known-length k e q h = rw (← e, q, h)
+known-length wire k e q h = rw (← e, q, h)
 
-pub unknown-length : (k : ℕ) {r : Kind} → r ≡ kindOf k → r ≡ Unknown → UnknownLength ≡ bodyLength k
+pub unknown-length : (wire : Port) (k : ℕ) {r : Kind} → r ≡ kindOf wire k → r ≡ Unknown → UnknownLength ≡ bodyLength wire k
 unfolding bodyLength kindLength
-unknown-length k e q = rw (← e, q)
+unknown-length wire k e q = rw (← e, q)

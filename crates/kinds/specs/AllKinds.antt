@@ -1,4 +1,4 @@
--- The length of the body, or none, for all 256 kinds, as document 01 gives it: one table, one proof that is computed.
+-- The length of the body, or none, for all 256 kinds at each port, as document 01 gives it: one table, one proof that is computed.
 -- Assumes nothing.
 use mathlib.Core.Path.{_≡_, refl}
 use mathlib.Core.Bool.{true}
@@ -6,17 +6,24 @@ use mathlib.Core.List.{List, [], _∷_, _++_, map}
 use lib.ListN.{replicate}
 use Rattle.card.specs.Lists.{numbersBelow}
 use Rattle.kinds.specs.Kinds.{row, names, kindNumber, lengthOf, among, kindOf, kindLength, bodyLength}
+use Rattle.card.specs.declared.Port.{Port}
+use Rattle.card.specs.declared.Port.the-variants.{Host, Service}
 use Rattle.kinds.specs.declared.Length.{Length}
 use Rattle.kinds.specs.declared.Length.the-variants.{Bytes, Unknown}
 
--- What document 01 gives for each kind from 0 on.
-abbrev pub expected : List Length
-expected =
+-- What document 01 gives for each kind from 128 on, which the service port alone takes.
+abbrev pub expectedAbove : Port → List Length
+expectedAbove Host = replicate 128 Unknown
+expectedAbove Service = Unknown ∷ (map Bytes (23 ∷ 535 ∷ 22 ∷ 38 ∷ 21 ∷ 53 ∷ []) ++ replicate 121 Unknown)
+
+-- And for each kind from 0 on.
+abbrev pub expected : Port → List Length
+expected wire =
     Unknown
     ∷ (map Bytes (23 ∷ 535 ∷ 22 ∷ 38 ∷ 21 ∷ 53 ∷ 23 ∷ 2 ∷ 0 ∷ 8 ∷ 0 ∷ [])
-    ++ (replicate 117 Unknown
-    ++ (map Bytes (23 ∷ 535 ∷ 22 ∷ 38 ∷ 21 ∷ 53 ∷ []) ++ replicate 121 Unknown)))
+    ++ (replicate 116 Unknown ++ expectedAbove wire))
 
-pub all-kinds : map bodyLength (numbersBelow (λ kind. true) 256) ≡ expected
+pub all-kinds : (wire : Port) → map (bodyLength wire) (numbersBelow (λ kind. true) 256) ≡ expected wire
 unfolding numbersBelow row names kindNumber lengthOf among kindOf kindLength bodyLength
-all-kinds = refl
+all-kinds Host = refl
+all-kinds Service = refl

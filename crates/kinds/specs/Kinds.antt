@@ -1,6 +1,6 @@
 -- Document 01, "Call records and the player": the kinds of records, and the lengths of their bodies.
 use Prim.Native.Nat.{ℕ, _+_, _-_}
-use mathlib.Core.Bool.{Bool, cond}
+use mathlib.Core.Bool.{Bool, true, false, cond}
 use mathlib.Core.List.{List, [], _∷_, map}
 use lib.Dec.{eqb}
 use Rattle.card.specs.Pointers.{contains}
@@ -72,19 +72,27 @@ lengthsOf name = lengthsAre (operandsLength name) (lengthOf name)
 unfoldable pub hasKind : Port → Name → Bool
 hasKind port name = contains (kindNumber port name) (map (kindNumber port) (names port))
 
+-- A record that arrives at the port may be a call at the other: all are taken at the service port, a host's alone at the host port.
+unfoldable pub takes : Port → Port → Bool
+takes Host Host = true
+takes Host Service = false
+takes Service port = true
+
 -- The call among those of a port whose kind is the number, or else another answer.
 unfoldable pub among : ℕ → Port → List Name → Kind → Kind
 among kind port [] other = other
 among kind port (name ∷ rest) other = cond (eqb kind (kindNumber port name)) (Known port name) (among kind port rest other)
 
--- What a byte of kind says: the port and the call.
-unfoldable pub kindOf : ℕ → Kind
-kindOf kind = among kind Host (names Host) (among kind Service (names Service) Unknown)
+-- What a byte of kind says that arrives at a port: the port of its call, and the call.
+-- At the service port both sorts are taken; at the host port a kind of the service port is a kind that does not exist.
+unfoldable pub kindOf : Port → ℕ → Kind
+kindOf Host kind = among kind Host (names Host) Unknown
+kindOf Service kind = among kind Host (names Host) (among kind Service (names Service) Unknown)
 
 unfoldable pub kindLength : Kind → Length
 kindLength (Known port name) = Bytes (lengthOf name)
 kindLength Unknown = UnknownLength
 
--- The length of a kind's body, where there is such a kind.
-unfoldable pub bodyLength : ℕ → Length
-bodyLength kind = kindLength (kindOf kind)
+-- The length of a kind's body, where there is such a kind at the port.
+unfoldable pub bodyLength : Port → ℕ → Length
+bodyLength wire kind = kindLength (kindOf wire kind)

@@ -1,11 +1,36 @@
--- A body is its operands and then its data.
+-- Laws of the kinds: those of the host port are a host's, and a body is its operands and then its data.
 -- Assumes nothing.
-use Prim.Native.Nat.{_-_, _≤_}
-use mathlib.Core.Path.{_≡_}
+use Prim.Native.Nat.{ℕ, _-_, _≤_}
+use mathlib.Core.Path.{_≡_, refl}
+use mathlib.Core.Bool.{Bool, true, false, cond}
+use mathlib.Core.List.{List, [], _∷_}
+use lib.Dec.{eqb}
 use native.Mathlib.Omega.{arith}
-use Rattle.kinds.specs.Kinds.{row, lengthOf, dataLength, operandsLength}
+use Rattle.card.specs.declared.Port.{Port}
+use Rattle.card.specs.declared.Port.the-variants.{Host}
+use Rattle.kinds.specs.Kinds.{row, names, kindNumber, lengthOf, dataLength, operandsLength, among, kindOf}
+use Rattle.kinds.specs.declared.Kind.{Kind}
+use Rattle.kinds.specs.declared.Kind.the-variants.{Known, Unknown}
 use Rattle.kinds.specs.declared.Name.{Name}
 use Rattle.kinds.specs.declared.Name.the-variants.{Read as READ, Write as WRITE, Alloc as ALLOC, Create as CREATE, Delete as DELETE, Key as KEY, Renew as RENEW, Force as FORCE, Free as FREE, Tick as TICK, Audit as AUDIT}
+
+-- ---- a host's kinds
+
+among-port : (kind : ℕ) (at : Port) (ns : List Name) {port : Port} {name : Name} → among kind at ns Unknown ≡ Known port name → port ≡ at
+unfolding among
+among-port kind at [] e = let z : _≡_ {A = ℕ} 0 1 = cc in absurd (omega arith)
+among-port kind at (n ∷ ns) {port} {name} e = go (eqb kind (kindNumber at n)) (among-port kind at ns) e
+  where
+    go : (t : Bool) → (among kind at ns Unknown ≡ Known port name → port ≡ at) → cond t (Known at n) (among kind at ns Unknown) ≡ Known port name → port ≡ at
+    go true rest h = cc
+    go false rest h = rest h
+
+-- Every kind that exists at the host port is a call at the host port.
+pub host-kinds : (kind : ℕ) {port : Port} {name : Name} → kindOf Host kind ≡ Known port name → port ≡ Host
+unfolding kindOf
+host-kinds kind e = among-port kind Host (names Host) e
+
+-- ---- operands and data
 
 data-most : (name : Name) → dataLength name ≤ lengthOf name
 unfolding lengthOf dataLength row

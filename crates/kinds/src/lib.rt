@@ -1,8 +1,9 @@
-// The kinds of call records: the call and the port of a byte of kind, and the length of its body.
+// The kinds of call records: the call and the port of a byte of kind, by the port at which it arrives, and the length of its body.
 // What is right is defined in specs/, after document 01, "Call records and the player".
 use card::Port;
 ghost use mathlib.Core.Path.{_≡_};
-ghost use Prim.Native.Nat.{_<_, _≤_};
+ghost use Prim.Native.Nat.{_≤_};
+ghost use Rattle.card.specs.declared.Port.the-variants.{Host, Service};
 ghost use Rattle.kinds.specs.Kinds.{lengthsAre, lengthsOf, kindOf, bodyLength};
 
 // The calls that a record may hold.
@@ -38,10 +39,9 @@ pub enum Length {
     Unknown,
 }
 
-// A kind below 128 is a call at the host port.
+// A kind that arrives at the host port: a host's, or none.
 fn host_kind_of(kind: u8) -> Kind
-    requires { ⌜ kind < 128 ⌝ }
-    ensures { λ r. ⌜ r ≡ kindOf kind ⌝ }
+    ensures { λ r. ⌜ r ≡ kindOf Host kind ⌝ }
 {
     match kind {
         1 => Kind::Known(Port::Host, Name::Read),
@@ -59,10 +59,10 @@ fn host_kind_of(kind: u8) -> Kind
     }
 }
 
-// Any other is one at the service port.
+// From 128 on a kind is one of the service port, and exists there alone.
 fn service_kind_of(kind: u8) -> Kind
     requires { ⌜ 128 ≤ kind ⌝ }
-    ensures { λ r. ⌜ r ≡ kindOf kind ⌝ }
+    ensures { λ r. ⌜ r ≡ kindOf Service kind ⌝ }
 {
     match kind {
         129 => Kind::Known(Port::Service, Name::Read),
@@ -75,14 +75,19 @@ fn service_kind_of(kind: u8) -> Kind
     }
 }
 
-// The port and the call of a byte of kind.
-pub fn kind_of(kind: u8) -> Kind
-    ensures { λ r. ⌜ r ≡ kindOf kind ⌝ }
+// The port and the call of a byte of kind that arrives at a port.
+pub fn kind_of(wire: Port, kind: u8) -> Kind
+    ensures { λ r. ⌜ r ≡ kindOf wire kind ⌝ }
 {
-    if kind < 128 {
-        host_kind_of(kind)
-    } else {
-        service_kind_of(kind)
+    match wire {
+        Port::Host => host_kind_of(kind),
+        Port::Service => {
+            if kind < 128 {
+                host_kind_of(kind)
+            } else {
+                service_kind_of(kind)
+            }
+        }
     }
 }
 
@@ -111,11 +116,11 @@ pub fn lengths_of(name: Name) -> Lengths
     }
 }
 
-// The length of a kind's body, where there is such a kind.
-pub fn body_length(kind: u8) -> Length
-    ensures { λ r. ⌜ r ≡ bodyLength kind ⌝ }
+// The length of a kind's body, where there is such a kind at the port.
+pub fn body_length(wire: Port, kind: u8) -> Length
+    ensures { λ r. ⌜ r ≡ bodyLength wire kind ⌝ }
 {
-    let known = kind_of(kind);
+    let known = kind_of(wire, kind);
     match known {
         Kind::Known(_, name) => Length::Bytes(lengths_of(name).body),
         Kind::Unknown => Length::Unknown,

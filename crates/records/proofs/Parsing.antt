@@ -38,8 +38,8 @@ body-room name e h = rw (body-is name e) at h
 
 -- ---- what is returned
 
-pub parsed-bad : (kind : ℕ) (xs : List ℕ) {r : Parsed} → r ≡ parsedBad → Bad ≡ decodeBody kind xs → ParsedIs kind xs r
-parsed-bad kind xs b e =
+pub parsed-bad : (wire : Port) (kind : ℕ) (xs : List ℕ) {r : Parsed} → r ≡ parsedBad → Bad ≡ decodeBody wire kind xs → ParsedIs wire kind xs r
+parsed-bad wire kind xs b e =
     rw b
     (record {
       decodes = e;
@@ -52,19 +52,19 @@ parsed-bad kind xs b e =
     apart : {port : Port} {call : Call} → Bad ≡ Decoded port call → ⊥
     apart d = let z : _≡_ {A = ℕ} 0 1 = cc in omega arith
 
-module _ (kind : ℕ) (xs : List ℕ) {known : Kind} {port : Port} {name : Name} {l : Lengths} {d : Decoding} (of-kind : known ≡ kindOf kind) (known-is : known ≡ Known port name)
+module _ (wire : Port) (kind : ℕ) (xs : List ℕ) {known : Kind} {port : Port} {name : Name} {l : Lengths} {d : Decoding} (of-kind : known ≡ kindOf wire kind) (known-is : known ≡ Known port name)
     (lengths : l ≡ lengthsOf name) (long : l .body ≤ length xs) (decoded : d ≡ decodeCall port name xs) where
-  decodes : d ≡ decodeBody kind xs
-  decodes = whole kind xs of-kind known-is (body-is name lengths) long decoded
+  decodes : d ≡ decodeBody wire kind xs
+  decodes = whole wire kind xs of-kind known-is (body-is name lengths) long decoded
 
   -- The call that is decoded is the one of the kind.
   name-is : {p : Port} {call : Call} → d ≡ Decoded p call → name ≡ nameOf call
-  name-is {p} {call} e = same (sym known-is ∙ of-kind ∙ decoded-kind kind xs p call (sym e ∙ decodes) .kind)
+  name-is {p} {call} e = same (sym known-is ∙ of-kind ∙ decoded-kind wire kind xs p call (sym e ∙ decodes) .kind)
     where
       same : {a b : Port} {m n : Name} → Known a m ≡ Known b n → m ≡ n
       same k = cc
 
-  pub parsed-call : ParsedIs kind xs (record { decoding = d; payload = l .operands; end = l .body })
+  pub parsed-call : ParsedIs wire kind xs (record { decoding = d; payload = l .operands; end = l .body })
   parsed-call = record {
     decodes = decodes;
     ordered = omega (arith, body-is name lengths, operands-are name lengths, operands-most name);

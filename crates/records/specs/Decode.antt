@@ -89,9 +89,10 @@ unfoldable pub decodeKnown : Kind → List ℕ → Decoding
 decodeKnown (Known port name) xs = cond (leb (lengthOf name) (length xs)) (decodeCall port name xs) Bad
 decodeKnown Unknown xs = Bad
 
--- What a kind and the bytes behind it hold. Bad is refusal 13: another kind, a body cut short, a wrong credential or new key.
-unfoldable pub decodeBody : ℕ → List ℕ → Decoding
-decodeBody kind xs = decodeKnown (kindOf kind) xs
+-- What a kind and the bytes behind it hold that arrive at a port. Bad is refusal 13: a kind that does not exist there, a body cut short, a wrong
+-- credential or new key.
+unfoldable pub decodeBody : Port → ℕ → List ℕ → Decoding
+decodeBody wire kind xs = decodeKnown (kindOf wire kind) xs
 
 unfoldable pub nameOf : Call → Name
 nameOf (Read o) = READ
@@ -110,7 +111,7 @@ nameOf Audit = AUDIT
 unfoldable pub dataOf : Name → List ℕ → List ℕ
 dataOf name xs = take (dataLength name) (drop (operandsLength name) xs)
 
--- What an input starts with: nothing, a record refused 13, or a call at its port with its data, and the input that is left.
+-- What an input that arrives at a port starts with: nothing, a record refused 13, or a call at its port with its data, and the input that is left.
 pub data Next : Type 0 where
   ended : Next
   refused : Next
@@ -120,6 +121,6 @@ unfoldable pub nextOf : List ℕ → Decoding → Next
 nextOf xs (Decoded port call) = sent port call (dataOf (nameOf call) xs) (drop (lengthOf (nameOf call)) xs)
 nextOf xs Bad = refused
 
-unfoldable pub decode : List ℕ → Next
-decode [] = ended
-decode (kind ∷ xs) = nextOf xs (decodeBody kind xs)
+unfoldable pub decode : Port → List ℕ → Next
+decode wire [] = ended
+decode wire (kind ∷ xs) = nextOf xs (decodeBody wire kind xs)

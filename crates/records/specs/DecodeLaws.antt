@@ -1,7 +1,7 @@
 -- Laws of decoding: from the values of a body's parts to what it decodes to.
 -- Assumes nothing.
 use Prim.Native.Nat.{ℕ, _≤_, _<_}
-use mathlib.Core.Path.{_≡_, refl, sym, ap, subst}
+use mathlib.Core.Path.{_≡_, refl, sym, ap, _∙_, subst}
 use mathlib.Core.Logic.{⊎-elim}
 use mathlib.Core.Bool.{true, false}
 use mathlib.Core.List.{List, [], _∷_}
@@ -11,6 +11,7 @@ use lib.ListN.{length, drop, getD, length-drop}
 use borrow.Author.Tests.{le-leb, lt-leb, leb-true}
 use Rattle.card.specs.ListsLaws.{not-cases}
 use Rattle.card.specs.declared.Port.{Port}
+use Rattle.card.specs.declared.Port.the-variants.{Host}
 use Rattle.card.specs.declared.Credential.{Credential}
 use Rattle.card.specs.declared.Credential.the-variants.{Key as KeyCredential}
 use Rattle.card.specs.declared.NewKey.{NewKey}
@@ -18,6 +19,7 @@ use Rattle.card.specs.declared.Call.{Call}
 use Rattle.card.specs.declared.Call.the-variants.{Read, Write, Alloc, Create, Delete, Key, Renew, Force, Free, Tick, Audit}
 use Rattle.fields.specs.Bytes.{number}
 use Rattle.kinds.specs.Kinds.{lengthOf, kindOf}
+use Rattle.kinds.specs.KindsLaws.{host-kinds}
 use Rattle.fields.specs.Fields.{credential, newKey}
 use Rattle.records.specs.Decode.{withCredential, readWith, writeWith, allocWith, createWith, deleteWith, keyWith, renewWith, decodeCall, decodeKnown, decodeBody, nameOf, sent, nextOf, decode}
 use Rattle.kinds.specs.declared.Name.{Name}
@@ -97,18 +99,18 @@ room e h = rw e at h
 
 -- ---- by the kind
 
-module _ (kind : ℕ) (xs : List ℕ) {known : Kind} (of-kind : known ≡ kindOf kind) where
+module _ (wire : Port) (kind : ℕ) (xs : List ℕ) {known : Kind} (of-kind : known ≡ kindOf wire kind) where
   pub whole : {port : Port} {name : Name} {l : ℕ} {d : Decoding}
       → known ≡ Known port name → l ≡ lengthOf name → l ≤ length xs → d ≡ decodeCall port name xs
-      → d ≡ decodeBody kind xs
+      → d ≡ decodeBody wire kind xs
   unfolding decodeBody decodeKnown
   whole {port} {name} e l h d = rw (← of-kind, e, ← l, le-leb _ _ h, d)
 
-  pub cut-short : {port : Port} {name : Name} {l : ℕ} → known ≡ Known port name → l ≡ lengthOf name → length xs < l → Bad ≡ decodeBody kind xs
+  pub cut-short : {port : Port} {name : Name} {l : ℕ} → known ≡ Known port name → l ≡ lengthOf name → length xs < l → Bad ≡ decodeBody wire kind xs
   unfolding decodeBody decodeKnown
   cut-short e l h = rw (← of-kind, e, ← l, lt-leb _ _ h)
 
-  pub other-kind : known ≡ Unknown → Bad ≡ decodeBody kind xs
+  pub other-kind : known ≡ Unknown → Bad ≡ decodeBody wire kind xs
   unfolding decodeBody decodeKnown
   other-kind e = rw (← of-kind, e)
 
@@ -177,9 +179,26 @@ of-known (Known port name) xs p call e =
     (not-cases (leb (lengthOf name) (length xs)))
 of-known Unknown xs p call e = absurd (apart p call e)
 
-pub decoded-kind : (kind : ℕ) (xs : List ℕ) (p : Port) (call : Call) → Decoded p call ≡ decodeBody kind xs → OfKind (kindOf kind) xs p call
+pub decoded-kind : (wire : Port) (kind : ℕ) (xs : List ℕ) (p : Port) (call : Call) → Decoded p call ≡ decodeBody wire kind xs → OfKind (kindOf wire kind) xs p call
 unfolding decodeBody
-decoded-kind kind xs p call e = of-known (kindOf kind) xs p call e
+decoded-kind wire kind xs p call e = of-known (kindOf wire kind) xs p call e
+
+-- ---- the calls of the host port
+
+host-next : (kind : ℕ) (xs : List ℕ) (d : Decoding) → d ≡ decodeBody Host kind xs → {port : Port} {call : Call} {payload rest : List ℕ}
+    → nextOf xs d ≡ sent port call payload rest
+    → port ≡ Host
+unfolding nextOf
+host-next kind xs (Decoded p c) h {port} e =
+    let same : p ≡ port = cc in
+    sym same ∙ host-kinds kind (decoded-kind Host kind xs p c h .kind)
+host-next kind xs Bad h e = let z : _≡_ {A = ℕ} 0 1 = cc in absurd (omega arith)
+
+-- A record that arrives at the host port and is not refused is a call at the host port.
+pub host-sent : (xs : List ℕ) {port : Port} {call : Call} {payload rest : List ℕ} → decode Host xs ≡ sent port call payload rest → port ≡ Host
+unfolding decode
+host-sent [] e = let z : _≡_ {A = ℕ} 0 1 = cc in absurd (omega arith)
+host-sent (kind ∷ xs) e = host-next kind xs (decodeBody Host kind xs) refl e
 
 -- ---- an input gets shorter
 
@@ -192,9 +211,9 @@ next-shorter xs (Decoded p call) {rest = rest} e =
     omega (arith, ap length left, length-drop (lengthOf (nameOf call)) xs)
 next-shorter xs Bad e = let z : _≡_ {A = ℕ} 0 1 = cc in absurd (omega arith)
 
-pub decode-shorter : (xs : List ℕ) {port : Port} {call : Call} {payload rest : List ℕ}
-    → decode xs ≡ sent port call payload rest
+pub decode-shorter : (wire : Port) (xs : List ℕ) {port : Port} {call : Call} {payload rest : List ℕ}
+    → decode wire xs ≡ sent port call payload rest
     → length rest < length xs
 unfolding decode
-decode-shorter [] e = let z : _≡_ {A = ℕ} 0 1 = cc in absurd (omega arith)
-decode-shorter (kind ∷ xs) e = let h = next-shorter xs (decodeBody kind xs) e in omega arith
+decode-shorter wire [] e = let z : _≡_ {A = ℕ} 0 1 = cc in absurd (omega arith)
+decode-shorter wire (kind ∷ xs) e = let h = next-shorter xs (decodeBody wire kind xs) e in omega arith

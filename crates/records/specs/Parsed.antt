@@ -1,4 +1,4 @@
--- What the decoder gives of a kind and the bytes behind it.
+-- What the decoder gives of a kind and the bytes behind it, by the port at which they arrive.
 use Prim.Native.Nat.{ℕ, _≤_}
 use mathlib.Core.Path.{_≡_}
 use mathlib.Core.List.{List}
@@ -14,8 +14,8 @@ abbrev pub parsedBad : Parsed
 parsedBad = record { decoding = Bad; payload = 0; end = 0 }
 
 -- A decoded call with the places of its body: its data start behind its operands. Both places lie within the bytes in any case.
-pub record ParsedIs (kind : ℕ) (xs : List ℕ) (r : Parsed) : Type 0 where
-  pub decodes : r .decoding ≡ decodeBody kind xs
+pub record ParsedIs (wire : Port) (kind : ℕ) (xs : List ℕ) (r : Parsed) : Type 0 where
+  pub decodes : r .decoding ≡ decodeBody wire kind xs
   pub ordered : r .payload ≤ r .end
   pub within : r .end ≤ length xs
   pub payloadAt : {port : Port} {call : Call} → r .decoding ≡ Decoded port call → r .payload ≡ operandsLength (nameOf call)

@@ -2,9 +2,10 @@
 -- Assumes nothing.
 use Prim.Native.Nat.{ℕ, _+_, _≤_}
 use mathlib.Core.Path.{_≡_, refl, sym, ap, _∙_}
-use mathlib.Core.Bool.{true, false≢true}
-use mathlib.Core.List.{List, _++_, append-assoc}
+use mathlib.Core.Bool.{Bool, true, false, cond, false≢true}
+use mathlib.Core.List.{List, [], _∷_, _++_, append-assoc}
 use native.Mathlib.Omega.{arith}
+use lib.Dec.{eqb}
 use lib.ListN.{length, drop, getD, replicate, length-append}
 use lib.Seq.{getD-drop, drop-drop, drop-at, take-at}
 use Rattle.card.specs.Pointers.{contains}
@@ -19,14 +20,15 @@ use Rattle.card.specs.declared.Call.{Call}
 use Rattle.card.specs.declared.Call.the-variants.{Read, Write, Alloc, Create, Delete, Key, Renew, Force, Free, Tick, Audit}
 use Rattle.fields.specs.Bytes.{number, bytes, zeroed}
 use Rattle.fields.specs.BytesLaws.{length-bytes, number-bytes}
-use Rattle.kinds.specs.Kinds.{row, names, kindNumber, lengthOf, dataLength, operandsLength, hasKind, among, kindOf}
+use Rattle.kinds.specs.Kinds.{row, names, kindNumber, lengthOf, dataLength, operandsLength, takes, hasKind, among, kindOf}
 use Rattle.fields.specs.Fields.{credential, newKey}
 use Rattle.records.specs.Decode.{withCredential, createWith, keyWith, renewWith, decodeCall, nameOf, dataOf, sent, nextOf, decode}
 use Rattle.records.specs.DecodeLaws as laws
 use Rattle.records.specs.Encode.{credentialBytes, newKeyBytes, body, encode, Fits, FitsCredential, FitsNewKey, FitsCall}
 use Rattle.kinds.specs.declared.Name.{Name}
 use Rattle.kinds.specs.declared.Name.the-variants.{Read as READ, Write as WRITE, Alloc as ALLOC, Create as CREATE, Delete as DELETE, Key as KEY, Renew as RENEW, Force as FORCE, Free as FREE, Tick as TICK, Audit as AUDIT}
-use Rattle.kinds.specs.declared.Kind.the-variants.{Known}
+use Rattle.kinds.specs.declared.Kind.{Kind}
+use Rattle.kinds.specs.declared.Kind.the-variants.{Known, Unknown}
 use Rattle.fields.specs.declared.ParsedCredential.the-variants.{Valid as ValidCredential}
 use Rattle.fields.specs.declared.ParsedKey.the-variants.{Valid as ValidKey}
 use Rattle.records.specs.declared.Decoding.the-variants.{Decoded}
@@ -173,30 +175,51 @@ decoded port Audit ys h = laws.audit port ys
 
 -- ---- a record
 
-known-kind : (port : Port) (name : Name) → hasKind port name ≡ true → kindOf (kindNumber port name) ≡ Known port name
+-- A call that is found among those of a port is found whatever other answer there is.
+among-found : (kind : ℕ) (at : Port) (ns : List Name) (other : Kind) {port : Port} {name : Name} → among kind at ns Unknown ≡ Known port name → among kind at ns other ≡ Known port name
+unfolding among
+among-found kind at [] other e = let z : _≡_ {A = ℕ} 0 1 = cc in absurd (omega arith)
+among-found kind at (n ∷ ns) other {port} {name} e = go (eqb kind (kindNumber at n)) (among-found kind at ns other) e
+  where
+    go : (t : Bool) → (among kind at ns Unknown ≡ Known port name → among kind at ns other ≡ Known port name)
+        → cond t (Known at n) (among kind at ns Unknown) ≡ Known port name → cond t (Known at n) (among kind at ns other) ≡ Known port name
+    go true rest h = h
+    go false rest h = rest h
+
+host-kind : (name : Name) → kindOf Host (kindNumber Host name) ≡ Known Host name
+unfolding kindOf among names kindNumber row
+host-kind READ = refl
+host-kind WRITE = refl
+host-kind ALLOC = refl
+host-kind CREATE = refl
+host-kind DELETE = refl
+host-kind KEY = refl
+host-kind RENEW = refl
+host-kind FORCE = refl
+host-kind FREE = refl
+host-kind TICK = refl
+host-kind AUDIT = refl
+
+service-kind : (name : Name) → hasKind Service name ≡ true → kindOf Service (kindNumber Service name) ≡ Known Service name
 unfolding hasKind contains any kindOf among names kindNumber row
-known-kind Host READ e = refl
-known-kind Host WRITE e = refl
-known-kind Host ALLOC e = refl
-known-kind Host CREATE e = refl
-known-kind Host DELETE e = refl
-known-kind Host KEY e = refl
-known-kind Host RENEW e = refl
-known-kind Host FORCE e = refl
-known-kind Host FREE e = refl
-known-kind Host TICK e = refl
-known-kind Host AUDIT e = refl
-known-kind Service READ e = refl
-known-kind Service WRITE e = refl
-known-kind Service ALLOC e = refl
-known-kind Service CREATE e = refl
-known-kind Service DELETE e = refl
-known-kind Service KEY e = refl
-known-kind Service RENEW e = absurd (false≢true e)
-known-kind Service FORCE e = absurd (false≢true e)
-known-kind Service FREE e = absurd (false≢true e)
-known-kind Service TICK e = absurd (false≢true e)
-known-kind Service AUDIT e = absurd (false≢true e)
+service-kind READ e = refl
+service-kind WRITE e = refl
+service-kind ALLOC e = refl
+service-kind CREATE e = refl
+service-kind DELETE e = refl
+service-kind KEY e = refl
+service-kind RENEW e = absurd (false≢true e)
+service-kind FORCE e = absurd (false≢true e)
+service-kind FREE e = absurd (false≢true e)
+service-kind TICK e = absurd (false≢true e)
+service-kind AUDIT e = absurd (false≢true e)
+
+known-kind : (wire port : Port) → takes wire port ≡ true → (name : Name) → hasKind port name ≡ true → kindOf wire (kindNumber port name) ≡ Known port name
+unfolding takes kindOf
+known-kind Host Host t name e = host-kind name
+known-kind Host Service t name e = absurd (false≢true t)
+known-kind Service Host t name e = among-found (kindNumber Host name) Host (names Host) _ (host-kind name)
+known-kind Service Service t name e = service-kind name e
 
 -- A body is its operands, then its data.
 parts : (name : Name) → operandsLength name + dataLength name ≡ lengthOf name
@@ -228,7 +251,8 @@ body-append (Tick o) ys zs = simp append-assoc
 body-append Audit ys zs = refl
 
 module _
-    (port : Port)
+    (wire port : Port)
+    (taken : takes wire port ≡ true)
     (call : Call)
     (payload rest : List ℕ)
     (has : hasKind port (nameOf call) ≡ true)
@@ -238,10 +262,10 @@ module _
     all-of-it : Then (lengthOf (nameOf call)) (body call (payload ++ rest)) rest
     all-of-it = rw parts at (then-more (behind call (payload ++ rest)) (then-list (dataLength (nameOf call)) payload rest sized))
 
-    pub round-trip : decode (encode port call payload ++ rest) ≡ sent port call payload rest
+    pub round-trip : decode wire (encode port call payload ++ rest) ≡ sent port call payload rest
     unfolding decode encode nextOf dataOf
     round-trip =
         let xs = body call (payload ++ rest) in
         let enough : lengthOf (nameOf call) ≤ length xs = omega (arith, all-of-it .long) in
-        let call-is = laws.whole (kindNumber port (nameOf call)) xs refl (known-kind port (nameOf call) has) refl enough (decoded port call (payload ++ rest) fits) in
+        let call-is = laws.whole wire (kindNumber port (nameOf call)) xs refl (known-kind wire port taken (nameOf call) has) refl enough (decoded port call (payload ++ rest) fits) in
         rw (body-append, ← call-is, all-of-it .skip, behind call (payload ++ rest) .skip, take-at payload rest _ sized)

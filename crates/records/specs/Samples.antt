@@ -60,7 +60,18 @@ sampleTable =
     ∷ (10 ∷ 0 ∷ 0 ∷ 0 ∷ 0 ∷ 0 ∷ 0 ∷ 0 ∷ 10 ∷ [] gives sent Host (Tick (record { seconds = 10 })) [] [])
     ∷ []
 
--- Each input starts with just what is expected.
-pub samples : map (λ s. decode (input s)) sampleTable ≡ map next sampleTable
+-- At the service port each input starts with just what is expected.
+pub samples : map (λ s. decode Service (input s)) sampleTable ≡ map next sampleTable
 unfolding sampleTable number zeroed row dataLength names kindNumber lengthOf operandsLength among kindOf credential newKey withCredential createWith keyWith renewWith decodeCall decodeKnown decodeBody nameOf dataOf nextOf decode
 samples = refl
+
+-- At the host port a host's records do too, and the service port's are refused.
+abbrev taken : Next → Next
+taken ended = ended
+taken refused = refused
+taken (sent Host call payload rest) = sent Host call payload rest
+taken (sent Service call payload rest) = refused
+
+pub samples-of-a-host : map (λ s. decode Host (input s)) sampleTable ≡ map (λ s. taken (next s)) sampleTable
+unfolding sampleTable number zeroed row dataLength names kindNumber lengthOf operandsLength among kindOf credential newKey withCredential createWith keyWith renewWith decodeCall decodeKnown decodeBody nameOf dataOf nextOf decode
+samples-of-a-host = refl

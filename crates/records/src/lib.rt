@@ -323,10 +323,10 @@ fn bad() -> Parsed
 }
 
 // What a kind and the bytes behind it hold, of which only the body's are looked at.
-pub fn decode(kind: u8, body: &[u8]) -> Parsed
-    ensures { λ r. ⌜ ParsedIs kind (now (body .entry)) r ⌝ }
+pub fn decode(wire: Port, kind: u8, body: &[u8]) -> Parsed
+    ensures { λ r. ⌜ ParsedIs wire kind (now (body .entry)) r ⌝ }
 {
-    let known = kinds::kind_of(kind);
+    let known = kinds::kind_of(wire, kind);
     let Kind::Known(port, name) = known else {
         return bad();
     };

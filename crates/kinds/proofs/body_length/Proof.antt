@@ -19,13 +19,13 @@ enum-told c = search needs
 
 returns : tie.Need-returns
 returns c =
-    known-length _
+    known-length _ _
     (c .before .before .before .before .kind-of .ensures)
     (c .before .before .known .given .1)
     (c .lengths-of .ensures)
 
 returns-2 : tie.Need-returns-2
-returns-2 c = unknown-length _ (c .before .before .kind-of .ensures) (c .enum-told .given .1)
+returns-2 c = unknown-length _ _ (c .before .before .kind-of .ensures) (c .enum-told .given .1)
 
 pub body-length-spec : {M : Type 1} → statement M
 body-length-spec =

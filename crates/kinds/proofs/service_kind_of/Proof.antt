@@ -1,32 +1,33 @@
 -- `kinds::service_kind_of` meets its contract: each arm is one kind of the table, and any other number is none.
 -- Assumes nothing.
+use Rattle.card.specs.declared.Port.the-variants.{Service}
 use Rattle.kinds.proofs.Table.{tableRules, at-kind, unknown-service}
 use Rattle.kinds.proofs.service_kind_of.Statement.{statement}
 use Rattle.kinds.proofs.service_kind_of.Tie as tie
 
 returns : tie.Need-returns
 unfolding tableRules
-returns c = at-kind (c .match .keys1)
+returns c = at-kind Service (c .match .keys1)
 
 returns-2 : tie.Need-returns-2
 unfolding tableRules
-returns-2 c = at-kind (c .match .keys2)
+returns-2 c = at-kind Service (c .match .keys2)
 
 returns-3 : tie.Need-returns-3
 unfolding tableRules
-returns-3 c = at-kind (c .match .keys3)
+returns-3 c = at-kind Service (c .match .keys3)
 
 returns-4 : tie.Need-returns-4
 unfolding tableRules
-returns-4 c = at-kind (c .match .keys4)
+returns-4 c = at-kind Service (c .match .keys4)
 
 returns-5 : tie.Need-returns-5
 unfolding tableRules
-returns-5 c = at-kind (c .match .keys5)
+returns-5 c = at-kind Service (c .match .keys5)
 
 returns-6 : tie.Need-returns-6
 unfolding tableRules
-returns-6 c = at-kind (c .match .keys6)
+returns-6 c = at-kind Service (c .match .keys6)
 
 returns-7 : tie.Need-returns-7
 returns-7 c = unknown-service _ (c .before .pre) (c .match .rest)
