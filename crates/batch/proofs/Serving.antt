@@ -10,6 +10,7 @@ use lib.ListN.{length, drop, length-append, length-drop}
 use Rattle.card.specs.Card.{Card, card}
 use Rattle.card.specs.Soundness.{verdict}
 use Rattle.card.specs.declared.Info.{Info}
+use Rattle.card.specs.declared.Port.{Port}
 use Rattle.lines.specs.Written.{Written, written-none, written-join, written-length}
 use Rattle.input.specs.Play.{Turn, Play, outputBefore, stopped, goOn}
 use Rattle.input.specs.Played.{TurnIs, PlayedIs, isWent}
@@ -21,7 +22,7 @@ use Rattle.batch.specs.Serve.{serveTurn, roomFrom, serveWithin, serve}
 use Rattle.batch.proofs.TurnServed.{serve-turn-left, serve-turn-halts, serve-turn-verdict}
 
 -- Some answers are written, and the batch goes on from here, by at most so many turns after the next.
-pub record Serving (c₀ : Card) (xs out₀ : List ℕ) (count : ℕ) (c : Card) (from at : ℕ) (out : List ℕ) : Type 0 where
+pub record Serving (wire : Port) (c₀ : Card) (xs out₀ : List ℕ) (count : ℕ) (c : Card) (from at : ℕ) (out : List ℕ) : Type 0 where
   pub done : List ℕ
   pub most : ℕ
   pub within : from ≤ length xs
@@ -30,7 +31,7 @@ pub record Serving (c₀ : Card) (xs out₀ : List ℕ) (count : ℕ) (c : Card)
   pub judged : verdict c ≡ verdict c₀
   pub fits : length done ≤ length out₀
   pub written : Written out₀ 0 done out at
-  pub total : serve c₀ xs (length out₀) ≡ outputBefore done (serveWithin (suc most) count c (drop from xs) (length out₀ - length done))
+  pub total : serve wire c₀ xs (length out₀) ≡ outputBefore done (serveWithin wire (suc most) count c (drop from xs) (length out₀ - length done))
 
 -- A turn that did not go ends the batch.
 goOn-halts : (stop : Stop) (t : Turn) (records room : ℕ) (rest : ℕ → Card → List ℕ → ℕ → Play) → isWent stop ≡ false
@@ -42,8 +43,8 @@ goOn-halts Short t records room rest e = refl
 goOn-halts Refused t records room rest e = refl
 goOn-halts Full t records room rest e = refl
 
-module _ (c₀ : Card) (xs out₀ : List ℕ) where
-  pub serving-none : Serving c₀ xs out₀ 0 c₀ 0 0 out₀
+module _ (wire : Port) (c₀ : Card) (xs out₀ : List ℕ) where
+  pub serving-none : Serving wire c₀ xs out₀ 0 c₀ 0 0 out₀
   unfolding serve
   serving-none = record {
     done = [];
@@ -54,10 +55,10 @@ module _ (c₀ : Card) (xs out₀ : List ℕ) where
     judged = refl;
     fits = omega arith;
     written = written-none out₀ 0;
-    total = ap (λ (room : ℕ). serveWithin (suc (length xs)) 0 c₀ xs room) (sym (sub-zero (length out₀)));
+    total = ap (λ (room : ℕ). serveWithin wire (suc (length xs)) 0 c₀ xs room) (sym (sub-zero (length out₀)));
   }
 
-  module _ {count : ℕ} {c : Card} {from at : ℕ} {out : List ℕ} (p : Serving c₀ xs out₀ count c from at out) where
+  module _ {count : ℕ} {c : Card} {from at : ℕ} {out : List ℕ} (p : Serving wire c₀ xs out₀ count c from at out) where
     kept : length out ≡ length out₀
     kept = written-length (p .written) (omega (arith, p .fits))
 
@@ -69,21 +70,21 @@ module _ (c₀ : Card) (xs out₀ : List ℕ) where
 
     -- The turn that is tried next.
     abbrev nextTurn : Turn
-    nextTurn = serveTurn (roomFrom out at) c (drop from xs)
+    nextTurn = serveTurn wire (roomFrom out at) c (drop from xs)
 
-    next-turn : serve c₀ xs (length out₀) ≡ outputBefore (p .done) (goOn (nextTurn .stop) nextTurn count (serveWithin (p .most)) (roomFrom out at))
+    next-turn : serve wire c₀ xs (length out₀) ≡ outputBefore (p .done) (goOn (nextTurn .stop) nextTurn count (serveWithin wire (p .most)) (roomFrom out at))
     unfolding serveWithin
     next-turn =
         let same : length out₀ - length (p .done) ≡ roomFrom out at = omega (arith, reached, kept) in
-        p .total ∙ ap (λ (n : ℕ). outputBefore (p .done) (serveWithin (suc (p .most)) count c (drop from xs) n)) same
+        p .total ∙ ap (λ (n : ℕ). outputBefore (p .done) (serveWithin wire (suc (p .most)) count c (drop from xs) n)) same
 
     module _ {stop : Stop} {after : Card} {next next-at : ℕ} {to : List ℕ} (t : TurnIs nextTurn (roomFrom out at) stop after xs next out at to next-at) where
       -- The turn did not go: so the batch ends.
-      pub serving-stopped : isWent stop ≡ false → PlayedIs (serve c₀ xs (length out₀)) stop count after xs next out₀ to next-at
+      pub serving-stopped : isWent stop ≡ false → PlayedIs (serve wire c₀ xs (length out₀)) stop count after xs next out₀ to next-at
       serving-stopped n =
           let halts : isWent (nextTurn .stop) ≡ false = ap isWent (sym (t .stops)) ∙ n in
-          let e = next-turn ∙ ap (outputBefore (p .done)) (goOn-halts (nextTurn .stop) nextTurn count (roomFrom out at) (serveWithin (p .most)) halts) in
-          let nothing : Written out at [] to next-at = subst (λ (bs : List ℕ). Written out at bs to next-at) (serve-turn-halts (roomFrom out at) c (drop from xs) halts) (t .writes) in
+          let e = next-turn ∙ ap (outputBefore (p .done)) (goOn-halts (nextTurn .stop) nextTurn count (roomFrom out at) (serveWithin wire (p .most)) halts) in
+          let nothing : Written out at [] to next-at = subst (λ (bs : List ℕ). Written out at bs to next-at) (serve-turn-halts wire (roomFrom out at) c (drop from xs) halts) (t .writes) in
           rw e
           (record {
             stops = t .stops;
@@ -101,7 +102,7 @@ module _ (c₀ : Card) (xs out₀ : List ℕ) where
         -- Each record takes a byte at least.
         pub serving-further : from < next
         serving-further =
-            let shorter = serve-turn-left (roomFrom out at) c (drop from xs) went in
+            let shorter = serve-turn-left wire (roomFrom out at) c (drop from xs) went in
             omega (arith, shorter, ap length (t .rests), length-drop next xs, length-drop from xs, t .within, p .within)
 
         abbrev turnsLeft : ℕ
@@ -112,20 +113,20 @@ module _ (c₀ : Card) (xs out₀ : List ℕ) where
 
         -- The rest of the batch, as the rule and as the loop have it.
         abbrev restOfBatch : Play
-        restOfBatch = serveWithin (suc turnsLeft) (count + 1) (nextTurn .after) (nextTurn .left) (roomFrom out at - length (nextTurn .output))
+        restOfBatch = serveWithin wire (suc turnsLeft) (count + 1) (nextTurn .after) (nextTurn .left) (roomFrom out at - length (nextTurn .output))
 
-        rest-same : restOfBatch ≡ serveWithin (suc turnsLeft) (count + 1) after (drop next xs) (length out₀ - length (p .done ++ nextTurn .output))
+        rest-same : restOfBatch ≡ serveWithin wire (suc turnsLeft) (count + 1) after (drop next xs) (length out₀ - length (p .done ++ nextTurn .output))
         rest-same =
             let room-left : roomFrom out at - length (nextTurn .output) ≡ length out₀ - length (p .done ++ nextTurn .output) = omega (arith, reached, kept, length-append (p .done) (nextTurn .output)) in
-            ap₂ (λ (d : Card) (ys : List ℕ). serveWithin (suc turnsLeft) (count + 1) d ys (roomFrom out at - length (nextTurn .output))) (sym (t .leaves)) (sym (t .rests))
-            ∙ ap (serveWithin (suc turnsLeft) (count + 1) after (drop next xs)) room-left
+            ap₂ (λ (d : Card) (ys : List ℕ). serveWithin wire (suc turnsLeft) (count + 1) d ys (roomFrom out at - length (nextTurn .output))) (sym (t .leaves)) (sym (t .rests))
+            ∙ ap (serveWithin wire (suc turnsLeft) (count + 1) after (drop next xs)) room-left
 
-        goes-on : goOn (nextTurn .stop) nextTurn count (serveWithin (p .most)) (roomFrom out at) ≡ outputBefore (nextTurn .output) restOfBatch
+        goes-on : goOn (nextTurn .stop) nextTurn count (serveWithin wire (p .most)) (roomFrom out at) ≡ outputBefore (nextTurn .output) restOfBatch
         unfolding goOn
-        goes-on = ap₂ (λ (s : Stop) (m : ℕ). goOn s nextTurn count (serveWithin m) (roomFrom out at)) went most-is
+        goes-on = ap₂ (λ (s : Stop) (m : ℕ). goOn s nextTurn count (serveWithin wire m) (roomFrom out at)) went most-is
 
         -- The turn went: its answer stands behind the others.
-        pub serving-more : Serving c₀ xs out₀ (count + 1) after next next-at to
+        pub serving-more : Serving wire c₀ xs out₀ (count + 1) after next next-at to
         serving-more =
             let long : length (p .done ++ nextTurn .output) ≡ length (p .done) + length (nextTurn .output) = length-append (p .done) (nextTurn .output) in
             record {
@@ -134,7 +135,7 @@ module _ (c₀ : Card) (xs out₀ : List ℕ) where
               within = t .within;
               enough = omega (arith, p .enough, serving-further);
               counted = omega (arith, p .counted, serving-further);
-              judged = ap verdict (t .leaves) ∙ serve-turn-verdict (roomFrom out at) c (drop from xs) ∙ p .judged;
+              judged = ap verdict (t .leaves) ∙ serve-turn-verdict wire (roomFrom out at) c (drop from xs) ∙ p .judged;
               fits = omega (arith, p .fits, t .short, reached, kept);
               written = written-join (p .written) (t .writes) (omega (arith, p .fits, t .short, reached, kept));
               total =
@@ -147,8 +148,8 @@ module _ (c₀ : Card) (xs out₀ : List ℕ) where
 -- ---- the loop's invariant
 
 -- The tables and the answers keep their lengths, and the batch has come so far.
-pub record ServeLoop (info₀ : Info) (flags₀ keys₀ counts₀ pointers₀ windows₀ contents₀ input answers₀ : List ℕ)
+pub record ServeLoop (wire : Port) (info₀ : Info) (flags₀ keys₀ counts₀ pointers₀ windows₀ contents₀ input answers₀ : List ℕ)
     (info : Info) (flags keys counts pointers windows contents answers : List ℕ) (count from at : ℕ) : Type 0 where
   pub tables : SameTables flags₀ keys₀ counts₀ pointers₀ windows₀ contents₀ flags keys counts pointers windows contents
   pub sameAnswers : length answers ≡ length answers₀
-  pub serving : Serving (card info₀ flags₀ keys₀ counts₀ pointers₀ windows₀ contents₀) input answers₀ count (card info flags keys counts pointers windows contents) from at answers
+  pub serving : Serving wire (card info₀ flags₀ keys₀ counts₀ pointers₀ windows₀ contents₀) input answers₀ count (card info flags keys counts pointers windows contents) from at answers

@@ -7,6 +7,8 @@ use lib.ListN.{length}
 use Rattle.card.specs.Contents.{zeros}
 use Rattle.card.specs.Card.{Card}
 use Rattle.card.specs.Trials.{rules, blankCard, playerCard}
+use Rattle.card.specs.declared.Port.{Port}
+use Rattle.card.specs.declared.Port.the-variants.{Host, Service}
 use Rattle.fields.specs.Bytes.{number, bytes, zeroed}
 use Rattle.kinds.specs.Kinds.{row, dataLength, names, kindNumber, lengthOf, operandsLength, among, kindOf, kindLength, bodyLength}
 use Rattle.fields.specs.Fields.{credential, newKey}
@@ -54,34 +56,38 @@ pub record BatchTold : Type 0 where
 abbrev toldBy : Play → BatchTold
 toldBy p = record { stop = p .stop; answers = p .output; records = p .records; left = length (p .left) }
 
--- A card, an input and the room for its answers, and what is told of it.
+-- A card, the port at which an input arrives, the input and the room for its answers, and what is told of it.
 pub record BatchSample : Type 0 where
   pub start : Card
+  pub wire : Port
   pub input : List ℕ
   pub room : ℕ
   pub gives : BatchTold
 
-abbrev batchSample : Card → List ℕ → ℕ → Stop → List ℕ → ℕ → ℕ → BatchSample
-batchSample start input room stop answers records left = record { start = start; input = input; room = room; gives = record { stop = stop; answers = answers; records = records; left = left } }
+abbrev batchSample : Card → Port → List ℕ → ℕ → Stop → List ℕ → ℕ → ℕ → BatchSample
+batchSample start wire input room stop answers records left = record { start = start; wire = wire; input = input; room = room; gives = record { stop = stop; answers = answers; records = records; left = left } }
 
 unfoldable pub batches : List BatchSample
 batches =
-    batchSample playerCard [] 0 Ended [] 0 0
+    batchSample playerCard Service [] 0 Ended [] 0 0
     -- blocks 1 and 2, refusal 5, 13 blocks free, the bytes of block 0, the time 10, block 2 freed, and no result
-    ∷ batchSample playerCard (allocBytes ++ (readBytes 1 ++ (freeBytes ++ (readBytes 0 ++ (tickBytes 10 ++ (deleteBytes 2 ++ auditBytes)))))) 1000 Ended
+    ∷ batchSample playerCard Service (allocBytes ++ (readBytes 1 ++ (freeBytes ++ (readBytes 0 ++ (tickBytes 10 ++ (deleteBytes 2 ++ auditBytes)))))) 1000 Ended
     (0 ∷ 0 ∷ 1 ∷ 0 ∷ 2 ∷ 5 ∷ 0 ∷ (zeros 7 ++ (13 ∷ 0 ∷ (zeros 512 ++ (0 ∷ (zeros 7 ++ (10 ∷ 0 ∷ (zeros 7 ++ (1 ∷ 0 ∷ []))))))))) 7 0
     -- READ wants 513 bytes of room, whatever it answers; with one less the record is left
-    ∷ batchSample playerCard (freeBytes ++ readBytes 1) 522 Ended (0 ∷ (zeros 7 ++ (15 ∷ 3 ∷ []))) 2 0
-    ∷ batchSample playerCard (freeBytes ++ readBytes 1) 521 Full (0 ∷ (zeros 7 ++ (15 ∷ []))) 1 24
+    ∷ batchSample playerCard Service (freeBytes ++ readBytes 1) 522 Ended (0 ∷ (zeros 7 ++ (15 ∷ 3 ∷ []))) 2 0
+    ∷ batchSample playerCard Service (freeBytes ++ readBytes 1) 521 Full (0 ∷ (zeros 7 ++ (15 ∷ []))) 1 24
     -- a body cut short, and another kind
-    ∷ batchSample playerCard (auditBytes ++ (10 ∷ 0 ∷ [])) 100 Short (0 ∷ []) 1 2
-    ∷ batchSample playerCard (auditBytes ++ (12 ∷ 0 ∷ [])) 100 Refused (0 ∷ []) 1 2
+    ∷ batchSample playerCard Service (auditBytes ++ (10 ∷ 0 ∷ [])) 100 Short (0 ∷ []) 1 2
+    ∷ batchSample playerCard Service (auditBytes ++ (12 ∷ 0 ∷ [])) 100 Refused (0 ∷ []) 1 2
+    -- at the host port the service port's kinds do not exist, whole or cut short, and what came before is served
+    ∷ batchSample playerCard Host (freeBytes ++ allocBytes) 1000 Refused (0 ∷ (zeros 7 ++ (15 ∷ []))) 1 23
+    ∷ batchSample playerCard Host (auditBytes ++ (131 ∷ 0 ∷ [])) 100 Refused (0 ∷ []) 1 2
     -- before FORMAT the card is unsound, and every call is refused 2
-    ∷ batchSample blankCard (freeBytes ++ (readBytes 0 ++ tickBytes 10)) 600 Ended (2 ∷ 2 ∷ 2 ∷ []) 3 0
+    ∷ batchSample blankCard Service (freeBytes ++ (readBytes 0 ++ tickBytes 10)) 600 Ended (2 ∷ 2 ∷ 2 ∷ []) 3 0
     ∷ []
 
 abbrev toldOf : BatchSample → BatchTold
-toldOf s = toldBy (serve (s .start) (s .input) (s .room))
+toldOf s = toldBy (serve (s .wire) (s .start) (s .input) (s .room))
 
 pub batches-hold : map toldOf batches ≡ map (λ s. s .gives) batches
 unfolding rules playerCard number bytes zeroed row dataLength names kindNumber lengthOf operandsLength among kindOf kindLength bodyLength credential newKey withCredential createWith keyWith decodeCall decodeKnown decodeBody nameOf dataOf nextOf decode goOn isShort fault pairs answerBytes lentSize answerRoom served serveTurnOf serveTurn serveWithin serve batches

@@ -1,4 +1,4 @@
--- A batch of call records: the card that it leaves and the bytes of its answers, every call with its own audit.
+-- A batch of call records that arrive at a port: the card that it leaves and the bytes of its answers, every call with its own audit.
 use Prim.Native.Nat.{ℕ, zero, suc, _+_, _-_, _*_}
 use mathlib.Core.Bool.{cond}
 use mathlib.Core.List.{List, [], _∷_, _++_}
@@ -88,14 +88,14 @@ answering port c call payload rest =
     record { stop = Went; output = answerBytes call (reply r); after = r .after; left = rest }
 
 -- What an input's first record leads to where there is so much room for answers.
-unfoldable pub serveTurnOf : ℕ → Card → List ℕ → Next → Turn
-serveTurnOf room c xs ended = halted Ended c xs
-serveTurnOf room c xs refused = halted (fault xs) c xs
-serveTurnOf room c xs (sent port call payload rest) =
+unfoldable pub serveTurnOf : Port → ℕ → Card → List ℕ → Next → Turn
+serveTurnOf wire room c xs ended = halted Ended c xs
+serveTurnOf wire room c xs refused = halted (fault wire xs) c xs
+serveTurnOf wire room c xs (sent port call payload rest) =
     cond (ltb room (answerRoom (c .public .info .bytes) call)) (halted Full c xs) (answering port c call payload rest)
 
-unfoldable pub serveTurn : ℕ → Card → List ℕ → Turn
-serveTurn room c xs = serveTurnOf room c xs (decode xs)
+unfoldable pub serveTurn : Port → ℕ → Card → List ℕ → Turn
+serveTurn wire room c xs = serveTurnOf wire room c xs (decode wire xs)
 
 -- The room from a place on.
 abbrev pub roomFrom : List ℕ → ℕ → ℕ
@@ -104,9 +104,9 @@ roomFrom to at = length to - at
 -- ---- an input
 
 -- Record after record, while there is room for the answer. Each record takes a byte of the input at least, so that it has at most as many.
-unfoldable pub serveWithin : ℕ → ℕ → Card → List ℕ → ℕ → Play
-serveWithin zero records c xs room = stopped Full records c xs
-serveWithin (suc most) records c xs room = let t = serveTurn room c xs in goOn (t .stop) t records (serveWithin most) room
+unfoldable pub serveWithin : Port → ℕ → ℕ → Card → List ℕ → ℕ → Play
+serveWithin wire zero records c xs room = stopped Full records c xs
+serveWithin wire (suc most) records c xs room = let t = serveTurn wire room c xs in goOn (t .stop) t records (serveWithin wire most) room
 
-unfoldable pub serve : Card → List ℕ → ℕ → Play
-serve c xs room = serveWithin (suc (length xs)) 0 c xs room
+unfoldable pub serve : Port → Card → List ℕ → ℕ → Play
+serve wire c xs room = serveWithin wire (suc (length xs)) 0 c xs room

@@ -179,6 +179,7 @@ fn answer_call(
 
 // The record of an input that starts at a place, served; or why it is not.
 fn serve_turn(
+    wire: Port,
     found: Verdict,
     info: Info,
     flags: &mut [u8],
@@ -193,9 +194,9 @@ fn serve_turn(
     at: usize,
 ) -> Turned
     requires { ⌜ found ≡ verdict (lent info flags keys counts pointers windows contents) ⌝ ∗ ⌜ from ≤ length (now input) ⌝ ∗ ⌜ at ≤ length (now to) ⌝ }
-    ensures { λ r. ⌜ Turns (serveTurn (roomFrom (now (to .entry)) at)) (roomFrom (now (to .entry)) at) info flags keys counts pointers windows contents input from to at r ⌝ }
+    ensures { λ r. ⌜ Turns (serveTurn wire (roomFrom (now (to .entry)) at)) (roomFrom (now (to .entry)) at) info flags keys counts pointers windows contents input from to at r ⌝ }
 {
-    let sent = input::find(input, from);
+    let sent = input::find(wire, input, from);
     match sent {
         Found::Nothing(stop) => Turned {
             stop,
@@ -245,8 +246,9 @@ fn serve_turn(
 
 // ---- an input
 
-// Serves an input, record after record, as long as there is room for the answer. The card is audited once.
+// Serves an input that arrives at a port, record after record, as long as there is room for the answer. The card is audited once.
 pub fn serve(
+    wire: Port,
     info: Info,
     flags: &mut [u8],
     keys: &mut [u64],
@@ -257,7 +259,7 @@ pub fn serve(
     input: &[u8],
     answers: &mut [u8],
 ) -> Part
-    ensures { λ r. ⌜ Plays serve info flags keys counts pointers windows contents input answers r ⌝ }
+    ensures { λ r. ⌜ Plays (serve wire) info flags keys counts pointers windows contents input answers r ⌝ }
 {
     let found = audit::audit(info, flags, keys, counts, pointers, windows, contents);
     let mut left = info;
@@ -266,6 +268,7 @@ pub fn serve(
     let mut at = 0;
     loop {
         let turned = serve_turn(
+            wire,
             found,
             left,
             flags,

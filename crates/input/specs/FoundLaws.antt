@@ -31,9 +31,9 @@ use Rattle.input.specs.declared.Found.the-variants.{Whole}
 
 -- ---- where the input is at its end
 
-pub found-ended : (input : List ℕ) (from : ℕ) → from ≡ length input → decode (drop from input) ≡ ended
+pub found-ended : (wire : Port) (input : List ℕ) (from : ℕ) → from ≡ length input → decode wire (drop from input) ≡ ended
 unfolding decode
-found-ended input from e = rw (e, drop-length input)
+found-ended wire input from e = rw (e, drop-length input)
 
 -- ---- where a record starts
 
@@ -49,7 +49,7 @@ short-kind (Known port name) xs n e h =
     rw (lt-leb (lengthOf name) (length xs) (omega arith))
 short-kind Unknown xs n e h = refl
 
-module _ (input : List ℕ) (from : ℕ) (h : from < length input) where
+module _ (wire : Port) (input : List ℕ) (from : ℕ) (h : from < length input) where
   -- The bytes behind the kind, as the code has them.
   abbrev behindKind : List ℕ
   behindKind = take (length input - (from + 1)) (drop (from + 1) input)
@@ -66,35 +66,35 @@ module _ (input : List ℕ) (from : ℕ) (h : from < length input) where
   pub starts : drop from input ≡ kind ∷ behindKind
   starts = drop-cons input from 0 h ∙ ap (λ (n : ℕ). kind ∷ drop n input) (sym (add-one from)) ∙ ap (λ (xs : List ℕ). kind ∷ xs) (sym body-whole)
 
-  decodes-next : decode (drop from input) ≡ nextOf behindKind (decodeBody kind behindKind)
+  decodes-next : decode wire (drop from input) ≡ nextOf behindKind (decodeBody wire kind behindKind)
   unfolding decode
   decodes-next = rw starts
 
-  fault-here : fault (drop from input) ≡ cond (isShort (bodyLength kind) (length behindKind)) Short Refused
+  fault-here : fault wire (drop from input) ≡ cond (isShort (bodyLength wire kind) (length behindKind)) Short Refused
   unfolding fault
   fault-here = rw starts
 
-  pub found-unknown : {l : Length} → l ≡ bodyLength kind → l ≡ UnknownLength → NothingIs (drop from input) Refused
+  pub found-unknown : {l : Length} → l ≡ bodyLength wire kind → l ≡ UnknownLength → NothingIs wire (drop from input) Refused
   unfolding nextOf decodeBody bodyLength isShort
   found-unknown e u =
-      (decodes-next ∙ ap (nextOf behindKind) (unknown-kind (kindOf kind) behindKind (sym e ∙ u)), fault-here ∙ ap (λ (l : Length). cond (isShort l (length behindKind)) Short Refused) (sym e ∙ u))
+      (decodes-next ∙ ap (nextOf behindKind) (unknown-kind (kindOf wire kind) behindKind (sym e ∙ u)), fault-here ∙ ap (λ (l : Length). cond (isShort l (length behindKind)) Short Refused) (sym e ∙ u))
 
-  pub found-short : {l : Length} {n : ℕ} → l ≡ bodyLength kind → l ≡ Bytes n → length behindKind < n → NothingIs (drop from input) Short
+  pub found-short : {l : Length} {n : ℕ} → l ≡ bodyLength wire kind → l ≡ Bytes n → length behindKind < n → NothingIs wire (drop from input) Short
   unfolding nextOf decodeBody bodyLength isShort
   found-short {n = n} e u s = (
-    decodes-next ∙ ap (nextOf behindKind) (short-kind (kindOf kind) behindKind n (sym e ∙ u) s),
+    decodes-next ∙ ap (nextOf behindKind) (short-kind (kindOf wire kind) behindKind n (sym e ∙ u) s),
     fault-here ∙ ap (λ (l : Length). cond (isShort l (length behindKind)) Short Refused) (sym e ∙ u) ∙ ap (λ (t : Bool). cond t Short Refused) (lt-ltb (length behindKind) n s),
   )
 
-  pub found-bad : {l : Length} {n : ℕ} {r : Parsed} → l ≡ bodyLength kind → l ≡ Bytes n → n ≤ length behindKind → ParsedIs kind behindKind r → r .decoding ≡ Bad → NothingIs (drop from input) Refused
+  pub found-bad : {l : Length} {n : ℕ} {r : Parsed} → l ≡ bodyLength wire kind → l ≡ Bytes n → n ≤ length behindKind → ParsedIs wire kind behindKind r → r .decoding ≡ Bad → NothingIs wire (drop from input) Refused
   unfolding nextOf isShort
   found-bad {n = n} e u s p b = (
     decodes-next ∙ ap (nextOf behindKind) (sym (p .decodes) ∙ b),
     fault-here ∙ ap (λ (l : Length). cond (isShort l (length behindKind)) Short Refused) (sym e ∙ u) ∙ ap (λ (t : Bool). cond t Short Refused) (le-ltb (length behindKind) n s),
   )
 
-  pub found-whole : {r : Parsed} {port : Port} {call : Call} → ParsedIs kind behindKind r → r .decoding ≡ Decoded port call
-      → WholeIs input from (record { kind = kind; port = port; call = call; payload = from + 1 + r .payload; next = from + 1 + r .end })
+  pub found-whole : {r : Parsed} {port : Port} {call : Call} → ParsedIs wire kind behindKind r → r .decoding ≡ Decoded port call
+      → WholeIs wire input from (record { kind = kind; port = port; call = call; payload = from + 1 + r .payload; next = from + 1 + r .end })
   unfolding nextOf dataOf
   found-whole {r} {port} {call} p e =
       let operands-end : r .payload ≡ operandsLength (nameOf call) = p .payloadAt e in
@@ -113,5 +113,5 @@ module _ (input : List ℕ) (from : ℕ) (h : from < length input) where
       }
 
 -- The bounds of a whole record.
-pub whole-within : (input : List ℕ) (from : ℕ) {found : Found} {r : Record} → FoundIs input from found → found ≡ Whole r → (r .payload ≤ r .next) × (r .next ≤ length input)
-whole-within input from {r = r} f e = let w : WholeIs input from r = subst (FoundIs input from) e f in (w .payloadWithin, w .nextWithin)
+pub whole-within : (wire : Port) (input : List ℕ) (from : ℕ) {found : Found} {r : Record} → FoundIs wire input from found → found ≡ Whole r → (r .payload ≤ r .next) × (r .next ≤ length input)
+whole-within wire input from {r = r} f e = let w : WholeIs wire input from r = subst (FoundIs wire input from) e f in (w .payloadWithin, w .nextWithin)

@@ -9,6 +9,7 @@ use Rattle.card.specs.Card.{Card}
 use Rattle.card.specs.Plan.{Result}
 use Rattle.card.specs.Session.{request, perform, reply}
 use Rattle.card.specs.declared.Port.{Port}
+use Rattle.card.specs.declared.Port.the-variants.{Service}
 use Rattle.card.specs.declared.Call.{Call}
 use Rattle.records.specs.Decode.{Next, ended, refused, sent, decode}
 use Rattle.kinds.specs.Kinds.{bodyLength}
@@ -19,6 +20,10 @@ use Rattle.input.specs.declared.Stop.{Stop}
 use Rattle.input.specs.declared.Stop.the-variants.{Went, Ended, Short, Refused, Full}
 
 -- ---- one record
+
+-- A player's input arrives at the service port, where the kinds of both ports are taken.
+abbrev pub playerPort : Port
+playerPort = Service
 
 -- "It lends READ 512 bytes and ALLOC 64 places."
 unfoldable pub played : Port → Card → Call → List ℕ → Result
@@ -40,19 +45,19 @@ isShort (Bytes n) size = ltb size n
 isShort Unknown size = false
 
 -- Why an input that starts with no whole record is refused 13: it ends within the record, or the record is wrong.
-unfoldable pub fault : List ℕ → Stop
-fault [] = Refused
-fault (kind ∷ xs) = cond (isShort (bodyLength kind) (length xs)) Short Refused
+unfoldable pub fault : Port → List ℕ → Stop
+fault wire [] = Refused
+fault wire (kind ∷ xs) = cond (isShort (bodyLength wire kind) (length xs)) Short Refused
 
 unfoldable pub turnOf : ℕ → Card → List ℕ → Next → Turn
 turnOf ordinal c xs ended = halted Ended c xs
-turnOf ordinal c xs refused = halted (fault xs) c xs
+turnOf ordinal c xs refused = halted (fault playerPort xs) c xs
 turnOf ordinal c xs (sent port call payload rest) =
     let r = played port c call payload in
     record { stop = Went; output = line ordinal (getD xs 0 0) call (reply r); after = r .after; left = rest }
 
 unfoldable pub turn : ℕ → Card → List ℕ → Turn
-turn ordinal c xs = turnOf ordinal c xs (decode xs)
+turn ordinal c xs = turnOf ordinal c xs (decode playerPort xs)
 
 -- ---- an input
 

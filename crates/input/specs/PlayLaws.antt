@@ -9,11 +9,12 @@ use lib.Dec.{ltb}
 use lib.ListN.{length}
 use borrow.Author.Tests.{lt-ltb, le-ltb}
 use Rattle.card.specs.Card.{Card}
+use Rattle.card.specs.declared.Port.{Port}
 use Rattle.records.specs.Decode.{Next, ended, refused, sent, decode}
 use Rattle.kinds.specs.Kinds.{bodyLength}
 use Rattle.records.specs.DecodeLaws.{decode-shorter}
 use Rattle.lines.specs.Lines.{lineRoom}
-use Rattle.input.specs.Play.{isShort, fault, Turn, halted, turnOf, turn, Play, outputBefore, stopped, goOn, playWithin, play}
+use Rattle.input.specs.Play.{playerPort, isShort, fault, Turn, halted, turnOf, turn, Play, outputBefore, stopped, goOn, playWithin, play}
 use Rattle.input.specs.declared.Stop.{Stop}
 use Rattle.input.specs.declared.Stop.the-variants.{Went, Ended, Short, Refused, Full}
 
@@ -26,24 +27,24 @@ apart-short e = let z : _≡_ {A = ℕ} 0 1 = cc in omega arith
 apart-refused : Refused ≡ Went → ⊥
 apart-refused e = let z : _≡_ {A = ℕ} 0 1 = cc in omega arith
 
-pub fault-stops : (xs : List ℕ) → fault xs ≡ Went → ⊥
+pub fault-stops : (wire : Port) (xs : List ℕ) → fault wire xs ≡ Went → ⊥
 unfolding fault
-fault-stops [] e = apart-refused e
-fault-stops (kind ∷ xs) e = go (isShort (bodyLength kind) (length xs)) e
+fault-stops wire [] e = apart-refused e
+fault-stops wire (kind ∷ xs) e = go (isShort (bodyLength wire kind) (length xs)) e
   where
     go : (t : Bool) → cond t Short Refused ≡ Went → ⊥
     go true h = apart-short h
     go false h = apart-refused h
 
-next-left : (ordinal : ℕ) (c : Card) (xs : List ℕ) (n : Next) → decode xs ≡ n → turnOf ordinal c xs n .stop ≡ Went → length (turnOf ordinal c xs n .left) < length xs
+next-left : (ordinal : ℕ) (c : Card) (xs : List ℕ) (n : Next) → decode playerPort xs ≡ n → turnOf ordinal c xs n .stop ≡ Went → length (turnOf ordinal c xs n .left) < length xs
 unfolding turnOf
 next-left ordinal c xs ended e w = let z : _≡_ {A = ℕ} 0 1 = cc in absurd (omega arith)
-next-left ordinal c xs refused e w = absurd (fault-stops xs w)
-next-left ordinal c xs (sent port call payload rest) e w = decode-shorter xs e
+next-left ordinal c xs refused e w = absurd (fault-stops playerPort xs w)
+next-left ordinal c xs (sent port call payload rest) e w = decode-shorter playerPort xs e
 
 pub turn-left : (ordinal : ℕ) (c : Card) (xs : List ℕ) → turn ordinal c xs .stop ≡ Went → length (turn ordinal c xs .left) < length xs
 unfolding turn
-turn-left ordinal c xs w = next-left ordinal c xs (decode xs) refl w
+turn-left ordinal c xs w = next-left ordinal c xs (decode playerPort xs) refl w
 
 -- ---- however many turns are allowed
 

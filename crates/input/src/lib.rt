@@ -39,10 +39,10 @@ pub enum Found {
     Nothing(Stop),
 }
 
-// The record of an input that starts at a place, or why there is none.
-pub fn find(input: &[u8], from: usize) -> Found
+// The record that starts at a place of an input that arrives at a port, or why there is none.
+pub fn find(wire: Port, input: &[u8], from: usize) -> Found
     requires { ⌜ from ≤ length (now input) ⌝ }
-    ensures { λ r. ⌜ FoundIs (now (input .entry)) from r ⌝ }
+    ensures { λ r. ⌜ FoundIs wire (now (input .entry)) from r ⌝ }
 {
     if from == input.len() {
         return Found::Nothing(Stop::Ended);
@@ -50,13 +50,13 @@ pub fn find(input: &[u8], from: usize) -> Found
     let kind = input[from];
     let start = from + 1;
     let body = &input[start..];
-    let Length::Bytes(length) = kinds::body_length(kind) else {
+    let Length::Bytes(length) = kinds::body_length(wire, kind) else {
         return Found::Nothing(Stop::Refused);
     };
     if body.len() < length {
         return Found::Nothing(Stop::Short);
     }
-    let parsed = records::decode(kind, body);
+    let parsed = records::decode(wire, kind, body);
     let decoding = parsed.decoding;
     match decoding {
         Decoding::Bad => Found::Nothing(Stop::Refused),

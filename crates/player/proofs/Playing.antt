@@ -11,7 +11,7 @@ use Rattle.card.specs.declared.Info.{Info}
 use Rattle.records.specs.Decode.{Next, ended, refused, sent, decode}
 use Rattle.lines.specs.Lines.{lineRoom}
 use Rattle.lines.specs.Written.{Written, written-none, written-join, written-length}
-use Rattle.input.specs.Play.{Turn, turnOf, turn, Play, outputBefore, play}
+use Rattle.input.specs.Play.{playerPort, Turn, turnOf, turn, Play, outputBefore, play}
 use Rattle.input.specs.PlayLaws.{play-full, play-went, play-stopped, turn-left}
 use Rattle.input.specs.Played.{TurnIs, PlayedIs, isWent}
 use Rattle.input.specs.PlayedLaws.{is-went, not-went}
@@ -29,7 +29,7 @@ next-halts ordinal c xs (sent port call payload rest) e = absurd (mathlib.Core.B
 
 turn-halts : (ordinal : ℕ) (c : Card) (xs : List ℕ) → isWent (turn ordinal c xs .stop) ≡ false → (turn ordinal c xs .after ≡ c) × (turn ordinal c xs .left ≡ xs) × (turn ordinal c xs .output ≡ [])
 unfolding turn
-turn-halts ordinal c xs e = next-halts ordinal c xs (decode xs) e
+turn-halts ordinal c xs e = next-halts ordinal c xs (decode playerPort xs) e
 
 -- ---- what the loop has reached
 

@@ -15,7 +15,7 @@ use Rattle.lines.specs.Lines.{line, lineRoom}
 use Rattle.lines.specs.Replied.{BuffersFit, replied}
 use Rattle.lines.proofs.AnswersWritten.{line-short}
 use Rattle.lines.specs.Written.{Written}
-use Rattle.input.specs.Play.{played, turnOf, turn}
+use Rattle.input.specs.Play.{playerPort, played, turnOf, turn}
 use Rattle.input.specs.Played.{WroteIs, TurnIs}
 use Rattle.input.specs.PlayedLaws.{turn-nothing, turn-whole}
 use Rattle.input.specs.Found.{WholeIs, FoundIs}
@@ -39,15 +39,15 @@ call-played ordinal kind call {want} {answer} {after} {out} {places} {before} {t
 -- ---- a turn, by what was found
 
 module _ (ordinal : ℕ) (c : Card) (input : List ℕ) (from : ℕ) (fits : from ≤ length input) (before : List ℕ) (at : ℕ) where
-  pub nothing-played : {found : Found} {stop : Stop} → FoundIs input from found → found ≡ Nothing stop → TurnIs (turn ordinal c (drop from input)) lineRoom stop c input from before at before at
+  pub nothing-played : {found : Found} {stop : Stop} → FoundIs playerPort input from found → found ≡ Nothing stop → TurnIs (turn ordinal c (drop from input)) lineRoom stop c input from before at before at
   unfolding turn turnOf
-  nothing-played f e = turn-nothing (turn ordinal c (drop from input)) lineRoom c input from fits before at (λ d. rw d) (λ d. rw d) f e
+  nothing-played f e = turn-nothing playerPort (turn ordinal c (drop from input)) lineRoom c input from fits before at (λ d. rw d) (λ d. rw d) f e
 
-  pub whole-played : {found : Found} {r : Record} {after : Card} {to : List ℕ} {behind : ℕ} → FoundIs input from found → found ≡ Whole r
+  pub whole-played : {found : Found} {r : Record} {after : Card} {to : List ℕ} {behind : ℕ} → FoundIs playerPort input from found → found ≡ Whole r
       → let want = played (r .port) c (r .call) (take (r .next - r .payload) (drop (r .payload) input)) in
       WroteIs (want .after) (line ordinal (r .kind) (r .call) (reply want)) lineRoom after before at to behind
       → TurnIs (turn ordinal c (drop from input)) lineRoom Went after input (r .next) before at to behind
   unfolding turn turnOf
   whole-played {r = r} f e h =
-      let w : WholeIs input from r = subst (FoundIs input from) e f in
-      turn-whole (turn ordinal c (drop from input)) lineRoom c input from fits before at (rw (w .decodes, w .hasKind)) (w .nextWithin) (omega arith) h
+      let w : WholeIs playerPort input from r = subst (FoundIs playerPort input from) e f in
+      turn-whole playerPort (turn ordinal c (drop from input)) lineRoom c input from fits before at (rw (w .decodes, w .hasKind)) (w .nextWithin) (omega arith) h

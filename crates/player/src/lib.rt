@@ -59,7 +59,7 @@ fn play_call(
     }
 }
 
-// The record of an input that starts at a place, played; or why there is none.
+// The record of an input that starts at a place, played; or why there is none. The kinds of both ports are taken.
 fn play_turn(
     info: Info,
     flags: &mut [u8],
@@ -77,7 +77,7 @@ fn play_turn(
     requires { ⌜ from ≤ length (now input) ⌝ ∗ ⌜ at + lineRoom ≤ length (now to) ⌝ }
     ensures { λ r. ⌜ Turns (turn ordinal) lineRoom info flags keys counts pointers windows contents input from to at r ⌝ }
 {
-    let found = input::find(input, from);
+    let found = input::find(Port::Service, input, from);
     match found {
         Found::Nothing(stop) => Turned {
             stop,

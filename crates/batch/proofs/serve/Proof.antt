@@ -10,11 +10,11 @@ use Rattle.batch.proofs.serve.Statement.{statement}
 use Rattle.batch.proofs.serve.Tie as tie
 
 abbrev Inv-loop : tie.InvT-loop
-Inv-loop flags₀ keys₀ counts₀ pointers₀ windows₀ contents₀ input answers₀ found left₀ count₀ from₀ at₀ flags keys counts pointers windows contents answers left count from at =
-    ServeLoop left₀ flags₀ keys₀ counts₀ pointers₀ windows₀ contents₀ input answers₀ left flags keys counts pointers windows contents answers count from at
+Inv-loop wire flags₀ keys₀ counts₀ pointers₀ windows₀ contents₀ input answers₀ found left₀ count₀ from₀ at₀ flags keys counts pointers windows contents answers left count from at =
+    ServeLoop wire left₀ flags₀ keys₀ counts₀ pointers₀ windows₀ contents₀ input answers₀ left flags keys counts pointers windows contents answers count from at
 
 abbrev μ-loop : tie.MeasureT-loop
-μ-loop flags₀ keys₀ counts₀ pointers₀ windows₀ contents₀ input answers₀ found left₀ count₀ from₀ at₀ flags keys counts pointers windows contents answers left count from at =
+μ-loop wire flags₀ keys₀ counts₀ pointers₀ windows₀ contents₀ input answers₀ found left₀ count₀ from₀ at₀ flags keys counts pointers windows contents answers left count from at =
     length input - from
 
 -- ---- places of the code
@@ -28,7 +28,7 @@ audit-requires c κs = tt
 loop-holds : tie.Need-loop-holds Inv-loop μ-loop
 loop-holds c =
     let start : tie.Start Inv-loop μ-loop = search in
-    record { tables = same-tables _ _ _ _ _ _; sameAnswers = refl; serving = serving-none _ (start .args .input .now) (start .args .answers .now) }
+    record { tables = same-tables _ _ _ _ _ _; sameAnswers = refl; serving = serving-none (start .args .wire) _ (start .args .input .now) (start .args .answers .now) }
 
 serve-turn-requires : tie.Need-serve-turn-requires Inv-loop μ-loop
 serve-turn-requires c κs =
@@ -51,7 +51,7 @@ loop-less c =
     let at-loop : tie.At-loop Inv-loop μ-loop = search in
     let at-slice-known7 : tie.After-slice-known7 Inv-loop μ-loop = search in
     let start = start-from-slice-known7 at-slice-known7 in
-    omega (arith, serving-further _ (start .args .input .now) (start .args .answers .now) (at-loop .loop .inv .serving) (at-serve-turn .serve-turn .ensures) (sym (c .before .went .ensures) ∙ c .if1 .taken), at-serve-turn .serve-turn .ensures .within)
+    omega (arith, serving-further (start .args .wire) _ (start .args .input .now) (start .args .answers .now) (at-loop .loop .inv .serving) (at-serve-turn .serve-turn .ensures) (sym (c .before .went .ensures) ∙ c .if1 .taken), at-serve-turn .serve-turn .ensures .within)
 
 loop-again : tie.Need-loop-again Inv-loop μ-loop
 loop-again c =
@@ -69,7 +69,7 @@ loop-again c =
         sameContents = at-serve-turn .serve-turn .kept .1 .1 .1 .1 .1 .1 .1 .0 ∙ at-loop .loop .inv .tables .sameContents;
       };
       sameAnswers = at-serve-turn .serve-turn .kept .1 .1 .1 .1 .1 .1 .1 .1 .1 .1 .0 ∙ at-loop .loop .inv .sameAnswers;
-      serving = serving-more _ (start .args .input .now) (start .args .answers .now) (at-loop .loop .inv .serving) (at-serve-turn .serve-turn .ensures) (sym (c .before .went .ensures) ∙ c .if1 .taken);
+      serving = serving-more (start .args .wire) _ (start .args .input .now) (start .args .answers .now) (at-loop .loop .inv .serving) (at-serve-turn .serve-turn .ensures) (sym (c .before .went .ensures) ∙ c .if1 .taken);
     }
 
 same-length : tie.Need-same-length Inv-loop μ-loop
@@ -120,7 +120,7 @@ returns c =
     let at-loop : tie.At-loop Inv-loop μ-loop = search in
     let at-slice-known7 : tie.After-slice-known7 Inv-loop μ-loop = search in
     let start = start-from-slice-known7 at-slice-known7 in
-    serving-stopped _ (start .args .input .now) (start .args .answers .now) (at-loop .loop .inv .serving) (at-serve-turn .serve-turn .ensures) (sym (c .before .went .ensures) ∙ c .if1 .left)
+    serving-stopped (start .args .wire) _ (start .args .input .now) (start .args .answers .now) (at-loop .loop .inv .serving) (at-serve-turn .serve-turn .ensures) (sym (c .before .went .ensures) ∙ c .if1 .left)
 
 pub serve-spec : {M : Type 1} → statement M
 serve-spec =

@@ -34,21 +34,21 @@ sub-answer-call c =
     let at-sent2 : tie.After-sent2 = search in
     let at-find : tie.After-find = search in
     let start : tie.Start = search in
-    whole-within (start .args .input .now) (start .args .from) (at-find .find .ensures) (at-sent2 .sent2 .given .1) .0
+    whole-within (start .args .wire) (start .args .input .now) (start .args .from) (at-find .find .ensures) (at-sent2 .sent2 .given .1) .0
 
 part-answer-call-start : tie.Need-part-answer-call-start
 part-answer-call-start c =
     let at-sent2 : tie.After-sent2 = search in
     let at-find : tie.After-find = search in
     let start : tie.Start = search in
-    whole-within (start .args .input .now) (start .args .from) (at-find .find .ensures) (at-sent2 .sent2 .given .1) .0
+    whole-within (start .args .wire) (start .args .input .now) (start .args .from) (at-find .find .ensures) (at-sent2 .sent2 .given .1) .0
 
 part-answer-call-end : tie.Need-part-answer-call-end
 part-answer-call-end c =
     let at-sent2 : tie.After-sent2 = search in
     let at-find : tie.After-find = search in
     let start : tie.Start = search in
-    whole-within (start .args .input .now) (start .args .from) (at-find .find .ensures) (at-sent2 .sent2 .given .1) .1
+    whole-within (start .args .wire) (start .args .input .now) (start .args .from) (at-find .find .ensures) (at-sent2 .sent2 .given .1) .1
 
 answer-call-requires : tie.Need-answer-call-requires
 answer-call-requires c κs =
@@ -89,7 +89,7 @@ returns-3 c =
     let at-sent2 : tie.After-sent2 = search in
     let at-find : tie.After-find = search in
     let start = start-from-room-of at-room-of in
-    whole-served _ (start .args .input .now) (start .args .from) (start .pre .1 .0) (start .args .to .now) (start .args .at) (at-find .find .ensures) (at-sent2 .sent2 .given .1) (at-room-of .room-of .ensures) (at-if1 .if1 .left) (at-answer-call .answer-call .ensures)
+    whole-served (start .args .wire) _ (start .args .input .now) (start .args .from) (start .pre .1 .0) (start .args .to .now) (start .args .at) (at-find .find .ensures) (at-sent2 .sent2 .given .1) (at-room-of .room-of .ensures) (at-if1 .if1 .left) (at-answer-call .answer-call .ensures)
 
 pub serve-turn-spec : {M : Type 1} → statement M
 serve-turn-spec =

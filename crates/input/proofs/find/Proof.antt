@@ -35,13 +35,13 @@ enum-told c = search needs
 returns-2 : tie.Need-returns-2
 returns-2 c =
     let start : tie.Start = search in
-    found-unknown (start .args .input .now) (start .args .from) (omega arith) (c .before .before .body-length .ensures) (c .enum-told .given .1)
+    found-unknown (start .args .wire) (start .args .input .now) (start .args .from) (omega arith) (c .before .before .body-length .ensures) (c .enum-told .given .1)
 
 returns-3 : tie.Need-returns-3
 returns-3 c =
     let at-body-length : tie.After-body-length = search in
     let start : tie.Start = search in
-    found-short (start .args .input .now) (start .args .from) (omega arith) (at-body-length .body-length .ensures) (c .before .before .length .given .1) (c .if2 .taken)
+    found-short (start .args .wire) (start .args .input .now) (start .args .from) (omega arith) (at-body-length .body-length .ensures) (c .before .before .length .given .1) (c .if2 .taken)
 
 decode-requires : tie.Need-decode-requires
 decode-requires c κs = search needs
@@ -52,24 +52,24 @@ enum-told-2 c = search needs
 enum-known-decoding : tie.Need-enum-known-decoding
 enum-known-decoding c = search needs
 
-add-t23 : tie.Need-add-t23
-add-t23 c = search needs
-
 add-t24 : tie.Need-add-t24
 add-t24 c = search needs
+
+add-t25 : tie.Need-add-t25
+add-t25 c = search needs
 
 returns-4 : tie.Need-returns-4
 returns-4 c =
     let at-length : tie.After-length = search in
     let at-body-length : tie.After-body-length = search in
     let start : tie.Start = search in
-    found-bad (start .args .input .now) (start .args .from) (omega arith) (at-body-length .body-length .ensures) (at-length .length .given .1) (c .before .before .before .if2 .left) (c .before .before .decode .ensures) (c .enum-told2 .given .1)
+    found-bad (start .args .wire) (start .args .input .now) (start .args .from) (omega arith) (at-body-length .body-length .ensures) (at-length .length .given .1) (c .before .before .before .if2 .left) (c .before .before .decode .ensures) (c .enum-told2 .given .1)
 
 returns-5 : tie.Need-returns-5
 returns-5 c =
     let at-decode : tie.After-decode = search in
     let start : tie.Start = search in
-    found-whole (start .args .input .now) (start .args .from) (omega arith) (at-decode .decode .ensures) (c .before .before .before .decoding .given .1)
+    found-whole (start .args .wire) (start .args .input .now) (start .args .from) (omega arith) (at-decode .decode .ensures) (c .before .before .before .decoding .given .1)
 
 pub find-spec : {M : Type 1} → statement M
 find-spec =
@@ -89,7 +89,7 @@ find-spec =
     decode-requires
     enum-told-2
     enum-known-decoding
-    add-t23
     add-t24
+    add-t25
     returns-4
     returns-5)

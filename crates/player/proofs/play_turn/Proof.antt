@@ -1,4 +1,5 @@
 -- `player::play_turn` meets its contract. Assumes nothing.
+use Rattle.input.specs.Play.{playerPort}
 use Rattle.input.specs.FoundLaws.{whole-within}
 use Rattle.player.proofs.TurnPlayed.{nothing-played, whole-played}
 use borrow.Author.Needs.{needs}
@@ -24,21 +25,21 @@ sub-play-call c =
     let at-found2 : tie.After-found2 = search in
     let at-find : tie.After-find = search in
     let start : tie.Start = search in
-    whole-within (start .args .input .now) (start .args .from) (at-find .find .ensures) (at-found2 .found2 .given .1) .0
+    whole-within playerPort (start .args .input .now) (start .args .from) (at-find .find .ensures) (at-found2 .found2 .given .1) .0
 
 part-play-call-start : tie.Need-part-play-call-start
 part-play-call-start c =
     let at-found2 : tie.After-found2 = search in
     let at-find : tie.After-find = search in
     let start : tie.Start = search in
-    whole-within (start .args .input .now) (start .args .from) (at-find .find .ensures) (at-found2 .found2 .given .1) .0
+    whole-within playerPort (start .args .input .now) (start .args .from) (at-find .find .ensures) (at-found2 .found2 .given .1) .0
 
 part-play-call-end : tie.Need-part-play-call-end
 part-play-call-end c =
     let at-found2 : tie.After-found2 = search in
     let at-find : tie.After-find = search in
     let start : tie.Start = search in
-    whole-within (start .args .input .now) (start .args .from) (at-find .find .ensures) (at-found2 .found2 .given .1) .1
+    whole-within playerPort (start .args .input .now) (start .args .from) (at-find .find .ensures) (at-found2 .found2 .given .1) .1
 
 play-call-requires : tie.Need-play-call-requires
 play-call-requires c κs = search needs
