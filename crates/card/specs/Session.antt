@@ -81,6 +81,16 @@ unfoldable pub afterAll : Card → List Sent → Card
 afterAll c [] = c
 afterAll c (s ∷ ss) = afterAll (performed c s .after) ss
 
+-- A property of each call of a list, on the card that those before it left.
+abbrev pub Each : (Card → Sent → Type 0) → Card → List Sent → Type 0
+Each P c [] = Unit {0}
+Each P c (s ∷ ss) = P c s × Each P (performed c s .after) ss
+
+-- What holds of every call holds of each call of a list.
+pub each : {P : Card → Sent → Type 0} → ((c : Card) (s : Sent) → P c s) → (c : Card) (ss : List Sent) → Each P c ss
+each f c [] = tt
+each f c (s ∷ ss) = (f c s, each f (performed c s .after) ss)
+
 abbrev pub sentByHost : Request → Sent
 sentByHost q = record { port = Host; request = q }
 
