@@ -6,3 +6,4 @@ pub mod KeepsSound
 pub mod Format
 pub mod Unchanged
 pub mod Untouched
+pub mod Safe
