@@ -4,7 +4,8 @@ use Prim.Native.Nat.{ℕ, suc}
 use mathlib.Core.Path.{_≡_, refl, ap, _∙_}
 use mathlib.Core.List.{List, [], _∷_, _++_}
 use mathlib.Core.Option.{Option, none, some}
-use lib.ListN.{length}
+use lib.ListN.{length, drop}
+use lib.Seq.{drop-at}
 use Rattle.card.specs.Card.{Public, Card}
 use Rattle.card.specs.Soundness.{verdict}
 use Rattle.card.specs.SoundnessLaws.{verdict-misshapen, verdict-unsound, verdict-sound}
@@ -56,6 +57,11 @@ pub length-replies : (c : Card) (xs : List Sent) → length (replies c xs) ≡ l
 unfolding replies
 length-replies c [] = refl
 length-replies c (x ∷ xs) = ap suc (length-replies (performed c x .after) xs)
+
+-- Behind the replies of the first part stand those of the second, on the card that the first leaves.
+pub drop-replies : (c : Card) (xs ys : List Sent) → drop (length xs) (replies c (xs ++ ys)) ≡ replies (afterAll c xs) ys
+drop-replies c xs ys =
+    ap (drop (length xs)) (replies-append c xs ys) ∙ drop-at (replies c xs) (replies (afterAll c xs) ys) (length xs) (length-replies c xs)
 
 -- ---- no call changes the number of bytes in a block, on any card, sound or not
 

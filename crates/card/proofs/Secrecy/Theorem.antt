@@ -40,6 +40,10 @@ HiddenOrFree K c b = Hidden K c b ⊎ (allocated (c .public) b ≡ false)
 abbrev pub HiddenOrStillFree : (ℕ → ℕ → Bool) → Card → Card → ℕ → Type 0
 HiddenOrStillFree K c after b = Hidden K c b ⊎ ((allocated (c .public) b ≡ false) × (allocated (after .public) b ≡ false))
 
+-- The keys have all that a list of calls presents.
+abbrev pub HasKeys : (ℕ → ℕ → Bool) → List Request → Type 0
+HasKeys K qs = (high low : ℕ) → presented qs high low ≡ true → K high low ≡ true
+
 pub record Secret (K : ℕ → ℕ → Bool) (calls : List Sent) (c d : Card) : Type 0 where
   -- "the count of answers that differ is nought"
   pub answers : replies c calls ≡ replies d calls
@@ -61,7 +65,7 @@ reach-closed K c = record {
 }
 
 -- What is presented by a call of the list is presented in the list.
-presented-later : (K : ℕ → ℕ → Bool) (qs : List Request) → ((high low : ℕ) → presented qs high low ≡ true → K high low ≡ true) → AllPresent K qs
+presented-later : (K : ℕ → ℕ → Bool) (qs : List Request) → HasKeys K qs → AllPresent K qs
 unfolding presented
 presented-later K [] k = tt
 presented-later K (q ∷ qs) k =
@@ -134,7 +138,7 @@ keepsSound : CallsKeepSound
 keepsSound c q s = done-sound Host c q s
 
 -- Any list of a host's calls, refused ones included, and any keys that have all that the list presents.
-module _ (K : ℕ → ℕ → Bool) (session : List Request) (all : (high low : ℕ) → presented session high low ≡ true → K high low ≡ true)
+module _ (K : ℕ → ℕ → Bool) (session : List Request) (all : HasKeys K session)
     (c d : Card) (sc : SoundCard c) (sd : SoundCard d) (same : EqualBut (HiddenOrFree K c) c d) where
   abbrev calls : List Sent
   calls = hostSession session
