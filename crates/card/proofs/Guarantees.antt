@@ -7,3 +7,4 @@ pub mod Format
 pub mod Unchanged
 pub mod Untouched
 pub mod Safe
+pub mod RefusedIff

@@ -54,6 +54,12 @@ answerNumber (Refused r) = refusalNumber r
 answerNumber Done = 0
 answerNumber (Value v) = 0
 
+-- The answer is no refusal.
+abbrev pub isDone : Answer → Bool
+isDone (Refused r) = false
+isDone Done = true
+isDone (Value v) = true
+
 -- The values that an answer carries by itself.
 abbrev pub answerValues : Answer → List ℕ
 answerValues (Refused r) = []

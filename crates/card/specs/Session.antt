@@ -7,7 +7,7 @@ use lib.Dec.{eqb}
 use lib.ListN.{length, take}
 use Rattle.card.specs.Card.{Card}
 use Rattle.card.specs.Access.{admits, opens}
-use Rattle.card.specs.Plan.{Plan, Buffers, Result, judge, judgeSound}
+use Rattle.card.specs.Plan.{Check, audited, Plan, Buffers, Result, judge, judgeSound}
 use Rattle.card.specs.Calls.{answerNumber, answerValues, modeOf, readPlan, writePlan, allocPlan, createPlan, deletePlan, keyPlan, renewPlan, forcePlan, freePlan, tickPlan, auditPlan}
 use Rattle.card.specs.declared.Port.{Port}
 use Rattle.card.specs.declared.Port.the-variants.{Host}
@@ -40,6 +40,10 @@ plan port c (Force o) lent = forcePlan (c .public) o
 plan port c Free lent = freePlan (c .public)
 plan port c (Tick o) lent = tickPlan (c .public) o
 plan port c Audit lent = auditPlan
+
+-- All that a request can be refused for, in order: the shape and the soundness of the card, then what its paragraph names.
+unfoldable pub refusals : Port → Card → Request → List Check
+refusals port c q = audited c (plan port c (q .call) (q .lent) .checks)
 
 unfoldable pub perform : Port → Card → Request → Result
 perform port c q = judge c (q .lent) (plan port c (q .call) (q .lent))
