@@ -41,6 +41,21 @@ plan port c Free lent = freePlan (c .public)
 plan port c (Tick o) lent = tickPlan (c .public) o
 plan port c Audit lent = auditPlan
 
+-- The port by whose rules a call is judged. "RENEW .. host only", "FORCE .. host only": no record and no function of C asks for them at the
+-- service port; there they do what they do at the host's.
+unfoldable pub portOf : Port → Call → Port
+portOf port (Read o) = port
+portOf port (Write o) = port
+portOf port (Alloc o) = port
+portOf port (Create o) = port
+portOf port (Delete o) = port
+portOf port (Key o) = port
+portOf port (Renew o) = Host
+portOf port (Force o) = Host
+portOf port Free = port
+portOf port (Tick o) = port
+portOf port Audit = port
+
 -- All that a request can be refused for, in order: the shape and the soundness of the card, then what its paragraph names.
 unfoldable pub refusals : Port → Card → Request → List Check
 refusals port c q = audited c (plan port c (q .call) (q .lent) .checks)

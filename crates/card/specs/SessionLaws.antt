@@ -12,7 +12,7 @@ use Rattle.card.specs.SoundnessLaws.{verdict-misshapen, verdict-unsound,
 use Rattle.card.specs.Plan.{first, audited, Change, setWindow, setBlock, setKeys, takeBlock, freeBlock, addPointer, dropPointer, setTime, changePublic, change, changes, Plan, Buffers, settle, judge}
 use Rattle.card.specs.PlanLaws.{judge-misshapen, judge-unsound, judge-sound}
 use Rattle.card.specs.Promises.{Is, is-same}
-use Rattle.card.specs.Session.{Request, Sent, Reply, plan, perform, performSound, reply, performed, replies, afterAll}
+use Rattle.card.specs.Session.{Request, Sent, Reply, plan, portOf, perform, performSound, reply, performed, replies, afterAll}
 use Rattle.card.specs.declared.Port.{Port}
 use Rattle.card.specs.declared.Verdict.{Verdict}
 use Rattle.card.specs.declared.Verdict.the-variants.{Misshapen, Unsound, Sound}
@@ -20,6 +20,8 @@ use Rattle.card.specs.declared.Refusal.{Refusal}
 use Rattle.card.specs.declared.Refusal.the-variants.{Misshapen as MisshapenRefusal, Unsound as UnsoundRefusal}
 use Rattle.card.specs.declared.Answer.{Answer}
 use Rattle.card.specs.declared.Answer.the-variants.{Refused}
+use Rattle.card.specs.declared.Call.{Call}
+use Rattle.card.specs.declared.Call.the-variants.{Read, Write, Alloc, Create, Delete, Key, Renew, Force, Free, Tick, Audit}
 
 module _ (port : Port) (c : Card) (q : Request) where
   pub is-misshapen : verdict c ≡ Misshapen → Is (perform port c q) (Refused MisshapenRefusal) c (q .lent .out) (q .lent .places)
@@ -40,6 +42,24 @@ module _ (port : Port) (c : Card) (q : Request) where
       → Is (perform port c q) answer after out places
   unfolding perform performSound
   is-audited e i = is-same (judge-sound c (q .lent) (plan port c (q .call) (q .lent)) (verdict-sound c e)) i
+
+-- A call does at its port what it does at the port by whose rules it is judged.
+pub perform-portOf : (port : Port) (c : Card) (q : Request) → perform port c q ≡ perform (portOf port (q .call)) c q
+unfolding perform plan portOf
+perform-portOf port c q = ap (judge c (q .lent)) (go (q .call))
+  where
+    go : (call : Call) → plan port c call (q .lent) ≡ plan (portOf port call) c call (q .lent)
+    go (Read o) = refl
+    go (Write o) = refl
+    go (Alloc o) = refl
+    go (Create o) = refl
+    go (Delete o) = refl
+    go (Key o) = refl
+    go (Renew o) = refl
+    go (Force o) = refl
+    go Free = refl
+    go (Tick o) = refl
+    go Audit = refl
 
 -- ---- a list of calls, part by part
 
