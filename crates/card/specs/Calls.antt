@@ -15,7 +15,6 @@ use Rattle.card.specs.declared.Port.{Port}
 use Rattle.card.specs.declared.Port.the-variants.{Host, Service}
 use Rattle.card.specs.declared.Mode.{Mode}
 use Rattle.card.specs.declared.Mode.the-variants.{Reading, Writing}
-use Rattle.card.specs.declared.Credential.{Credential}
 use Rattle.card.specs.declared.ReadOperands.{ReadOperands}
 use Rattle.card.specs.declared.WriteOperands.{WriteOperands}
 use Rattle.card.specs.declared.AllocOperands.{AllocOperands}

@@ -14,7 +14,6 @@ use Rattle.card.specs.PlanLaws.{judge-misshapen, judge-unsound, judge-so
 use Rattle.card.specs.Promises.{Is, is-same}
 use Rattle.card.specs.Session.{Request, Sent, Reply, plan, portOf, perform, performSound, reply, performed, replies, afterAll}
 use Rattle.card.specs.declared.Port.{Port}
-use Rattle.card.specs.declared.Verdict.{Verdict}
 use Rattle.card.specs.declared.Verdict.the-variants.{Misshapen, Unsound, Sound}
 use Rattle.card.specs.declared.Refusal.{Refusal}
 use Rattle.card.specs.declared.Refusal.the-variants.{Misshapen as MisshapenRefusal, Unsound as UnsoundRefusal}
