@@ -1,4 +1,5 @@
--- What the rules guarantee of one call: a refusal changes nothing, a sound card stays sound, nothing unallocated is touched.
+-- What the rules guarantee of one call: it is refused for the first condition that holds, a refusal changes nothing, a sound card stays sound,
+-- nothing unallocated is touched, and a window is set by a host's done call that names it.
 pub mod Judged
 pub mod Steps
 pub mod PointerSteps
@@ -6,3 +7,6 @@ pub mod KeepsSound
 pub mod Format
 pub mod Unchanged
 pub mod Untouched
+pub mod Safe
+pub mod RefusedIff
+pub mod WindowSet

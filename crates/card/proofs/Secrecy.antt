@@ -1,8 +1,9 @@
--- What the rules guarantee of a host session: demand 3, `secrecy` of Theorem.antt.
+-- What the rules guarantee of a host session: demand 3, `secrecy` of Theorem.antt, and of what performs such sessions, `acts-secret` of Acts.antt.
 pub mod Closed
 pub mod StepsAlike
 pub mod Opened
 pub mod Plans
 pub mod Sessions
 pub mod Theorem
+pub mod Acts
 pub mod Example

@@ -15,7 +15,6 @@ use Rattle.card.specs.declared.Port.{Port}
 use Rattle.card.specs.declared.Port.the-variants.{Host, Service}
 use Rattle.card.specs.declared.Mode.{Mode}
 use Rattle.card.specs.declared.Mode.the-variants.{Reading, Writing}
-use Rattle.card.specs.declared.Credential.{Credential}
 use Rattle.card.specs.declared.ReadOperands.{ReadOperands}
 use Rattle.card.specs.declared.WriteOperands.{WriteOperands}
 use Rattle.card.specs.declared.AllocOperands.{AllocOperands}
@@ -53,6 +52,12 @@ abbrev pub answerNumber : Answer → ℕ
 answerNumber (Refused r) = refusalNumber r
 answerNumber Done = 0
 answerNumber (Value v) = 0
+
+-- The answer is no refusal.
+abbrev pub isDone : Answer → Bool
+isDone (Refused r) = false
+isDone Done = true
+isDone (Value v) = true
 
 -- The values that an answer carries by itself.
 abbrev pub answerValues : Answer → List ℕ

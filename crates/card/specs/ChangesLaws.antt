@@ -1,7 +1,7 @@
 -- Laws of what a change leaves in a table: one element set, windows and keys replaced, pointers inserted and removed.
 -- Assumes nothing.
 use Prim.Native.Nat.{ℕ, zero, suc, _+_, _-_, _*_, _≤_, _<_}
-use mathlib.Core.Path.{_≡_, refl, sym, _∙_, subst}
+use mathlib.Core.Path.{_≡_, refl, sym, ap, _∙_, subst}
 use mathlib.Core.Logic.{_⊎_, inl, inr, ⊎-elim}
 use mathlib.Core.Bool.{true, false, true≢false}
 use mathlib.Core.List.{List, [], _∷_, _++_}
@@ -29,6 +29,14 @@ getD-set-either P (x ∷ xs) zero v (suc j) new old = old
 getD-set-either P (x ∷ xs) (suc i) v zero new old = old
 getD-set-either P (x ∷ xs) (suc i) v (suc j) new old = getD-set-either P xs i v j new old
 
+-- An element that is no longer the old one is the new one, at its place.
+pub getD-set-changed : (xs : List ℕ) (i v j : ℕ) → (getD (set xs i v) j 0 ≡ getD xs j 0 → ⊥) → (i ≡ j) × (getD (set xs i v) j 0 ≡ v)
+getD-set-changed [] i v j changed = absurd (changed refl)
+getD-set-changed (x ∷ xs) zero v zero changed = (refl, refl)
+getD-set-changed (x ∷ xs) zero v (suc j) changed = absurd (changed refl)
+getD-set-changed (x ∷ xs) (suc i) v zero changed = absurd (changed refl)
+getD-set-changed (x ∷ xs) (suc i) v (suc j) changed = let r = getD-set-changed xs i v j changed in (ap suc (r .0), r .1)
+
 -- By cases on the place j: what holds of the new element at its place and, where j is another, of the old element at j.
 pub getD-set-cases : (P : ℕ → ℕ → Type 0) (xs : List ℕ) (i v j : ℕ) → i < length xs → P i v → ((j ≡ i → ⊥) → P j (getD xs j 0)) → P j (getD (set xs i v) j 0)
 getD-set-cases P xs i v j l new old =
@@ -39,12 +47,18 @@ getD-set-cases P xs i v j l new old =
 
 -- ---- windows
 
--- Each place of the windows' table belongs to one block.
+-- Each place of the windows' table belongs to one block, for one mode.
 pub windowAt-block : (m n : Mode) (a b : ℕ) → windowAt m a ≡ windowAt n b → a ≡ b
 windowAt-block Reading Reading a b e = omega arith
 windowAt-block Reading Writing a b e = absurd (omega arith)
 windowAt-block Writing Reading a b e = absurd (omega arith)
 windowAt-block Writing Writing a b e = omega arith
+
+pub windowAt-mode : (m n : Mode) (a b : ℕ) → windowAt m a ≡ windowAt n b → m ≡ n
+windowAt-mode Reading Reading a b e = refl
+windowAt-mode Reading Writing a b e = absurd (omega arith)
+windowAt-mode Writing Reading a b e = absurd (omega arith)
+windowAt-mode Writing Writing a b e = refl
 
 -- ---- keys
 

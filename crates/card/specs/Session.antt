@@ -7,7 +7,7 @@ use lib.Dec.{eqb}
 use lib.ListN.{length, take}
 use Rattle.card.specs.Card.{Card}
 use Rattle.card.specs.Access.{admits, opens}
-use Rattle.card.specs.Plan.{Plan, Buffers, Result, judge, judgeSound}
+use Rattle.card.specs.Plan.{Check, audited, Plan, Buffers, Result, judge, judgeSound}
 use Rattle.card.specs.Calls.{answerNumber, answerValues, modeOf, readPlan, writePlan, allocPlan, createPlan, deletePlan, keyPlan, renewPlan, forcePlan, freePlan, tickPlan, auditPlan}
 use Rattle.card.specs.declared.Port.{Port}
 use Rattle.card.specs.declared.Port.the-variants.{Host}
@@ -40,6 +40,25 @@ plan port c (Force o) lent = forcePlan (c .public) o
 plan port c Free lent = freePlan (c .public)
 plan port c (Tick o) lent = tickPlan (c .public) o
 plan port c Audit lent = auditPlan
+
+-- The port by whose rules a call is judged. "RENEW .. host only", "FORCE .. host only": no record and no function of C asks for them at the
+-- service port; there they do what they do at the host's.
+unfoldable pub portOf : Port → Call → Port
+portOf port (Read o) = port
+portOf port (Write o) = port
+portOf port (Alloc o) = port
+portOf port (Create o) = port
+portOf port (Delete o) = port
+portOf port (Key o) = port
+portOf port (Renew o) = Host
+portOf port (Force o) = Host
+portOf port Free = port
+portOf port (Tick o) = port
+portOf port Audit = port
+
+-- All that a request can be refused for, in order: the shape and the soundness of the card, then what its paragraph names.
+unfoldable pub refusals : Port → Card → Request → List Check
+refusals port c q = audited c (plan port c (q .call) (q .lent) .checks)
 
 unfoldable pub perform : Port → Card → Request → Result
 perform port c q = judge c (q .lent) (plan port c (q .call) (q .lent))
@@ -80,6 +99,16 @@ replies c (s ∷ ss) = reply (performed c s) ∷ replies (performed c s .after) 
 unfoldable pub afterAll : Card → List Sent → Card
 afterAll c [] = c
 afterAll c (s ∷ ss) = afterAll (performed c s .after) ss
+
+-- A property of each call of a list, on the card that those before it left.
+abbrev pub Each : (Card → Sent → Type 0) → Card → List Sent → Type 0
+Each P c [] = Unit {0}
+Each P c (s ∷ ss) = P c s × Each P (performed c s .after) ss
+
+-- What holds of every call holds of each call of a list.
+pub each : {P : Card → Sent → Type 0} → ((c : Card) (s : Sent) → P c s) → (c : Card) (ss : List Sent) → Each P c ss
+each f c [] = tt
+each f c (s ∷ ss) = (f c s, each f (performed c s .after) ss)
 
 abbrev pub sentByHost : Request → Sent
 sentByHost q = record { port = Host; request = q }

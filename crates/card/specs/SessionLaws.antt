@@ -1,20 +1,26 @@
--- A call performed, by what the audit finds.
+-- Laws of a call performed, by what the audit finds, and of a list of calls.
 -- Assumes nothing.
-use Prim.Native.Nat.{ℕ}
-use mathlib.Core.Path.{_≡_, refl, ap, ap₂, _∙_}
-use mathlib.Core.List.{List, [], _∷_}
-use Rattle.card.specs.Card.{Card}
+use Prim.Native.Nat.{ℕ, suc}
+use mathlib.Core.Path.{_≡_, refl, ap, _∙_}
+use mathlib.Core.List.{List, [], _∷_, _++_}
+use mathlib.Core.Option.{Option, none, some}
+use lib.ListN.{length, drop}
+use lib.Seq.{drop-at}
+use Rattle.card.specs.Card.{Public, Card}
 use Rattle.card.specs.Soundness.{verdict}
 use Rattle.card.specs.SoundnessLaws.{verdict-misshapen, verdict-unsound, verdict-sound}
+use Rattle.card.specs.Plan.{first, audited, Change, setWindow, setBlock, setKeys, takeBlock, freeBlock, addPointer, dropPointer, setTime, changePublic, change, changes, Plan, Buffers, settle, judge}
 use Rattle.card.specs.PlanLaws.{judge-misshapen, judge-unsound, judge-sound}
 use Rattle.card.specs.Promises.{Is, is-same}
-use Rattle.card.specs.Session.{Request, Sent, Reply, plan, perform, performSound, performed, replies, afterAll}
+use Rattle.card.specs.Session.{Request, Sent, Reply, plan, portOf, perform, performSound, reply, performed, replies, afterAll}
 use Rattle.card.specs.declared.Port.{Port}
-use Rattle.card.specs.declared.Verdict.{Verdict}
 use Rattle.card.specs.declared.Verdict.the-variants.{Misshapen, Unsound, Sound}
+use Rattle.card.specs.declared.Refusal.{Refusal}
 use Rattle.card.specs.declared.Refusal.the-variants.{Misshapen as MisshapenRefusal, Unsound as UnsoundRefusal}
 use Rattle.card.specs.declared.Answer.{Answer}
 use Rattle.card.specs.declared.Answer.the-variants.{Refused}
+use Rattle.card.specs.declared.Call.{Call}
+use Rattle.card.specs.declared.Call.the-variants.{Read, Write, Alloc, Create, Delete, Key, Renew, Force, Free, Tick, Audit}
 
 module _ (port : Port) (c : Card) (q : Request) where
   pub is-misshapen : verdict c ≡ Misshapen → Is (perform port c q) (Refused MisshapenRefusal) c (q .lent .out) (q .lent .places)
@@ -36,22 +42,76 @@ module _ (port : Port) (c : Card) (q : Request) where
   unfolding perform performSound
   is-audited e i = is-same (judge-sound c (q .lent) (plan port c (q .call) (q .lent)) (verdict-sound c e)) i
 
--- ---- code that performs a list of calls
+-- A call does at its port what it does at the port by whose rules it is judged.
+pub perform-portOf : (port : Port) (c : Card) (q : Request) → perform port c q ≡ perform (portOf port (q .call)) c q
+unfolding perform plan portOf
+perform-portOf port c q = ap (judge c (q .lent)) (go (q .call))
+  where
+    go : (call : Call) → plan port c call (q .lent) ≡ plan (portOf port call) c call (q .lent)
+    go (Read o) = refl
+    go (Write o) = refl
+    go (Alloc o) = refl
+    go (Create o) = refl
+    go (Delete o) = refl
+    go (Key o) = refl
+    go (Renew o) = refl
+    go (Force o) = refl
+    go Free = refl
+    go (Tick o) = refl
+    go Audit = refl
 
--- Each call of a list done as its rule says, on the card that the one before left: what a program does that calls `perform` again and again.
-pub data Ran : Card → List Sent → List Reply → Card → Type 0 where
-  ended : {c : Card} → Ran c [] [] c
-  called : {c after end : Card} {s : Sent} {ss : List Sent} {rs : List Reply} {answer : Answer} {out places : List ℕ}
-      → Is (performed c s) answer after out places → Ran after ss rs end → Ran c (s ∷ ss) (record { answer = answer; out = out; places = places } ∷ rs) end
+-- ---- a list of calls, part by part
 
--- Its answers and the card that it leaves are those of the rules.
-pub ran-replies : {c end : Card} {ss : List Sent} {rs : List Reply} → Ran c ss rs end → rs ≡ replies c ss
-unfolding replies
-ran-replies ended = refl
-ran-replies (called {ss = ss} {rs = rs} i r) =
-    ap₂ _∷_ (λ k. record { answer = i .answers k; out = i .fillsOut k; places = i .fillsPlaces k }) (ran-replies r ∙ ap (λ (d : Card). replies d ss) (i .leaves))
+pub replies-append : (c : Card) (xs ys : List Sent) → replies c (xs ++ ys) ≡ replies c xs ++ replies (afterAll c xs) ys
+unfolding replies afterAll
+replies-append c [] ys = refl
+replies-append c (x ∷ xs) ys = ap (λ (rs : List Reply). reply (performed c x) ∷ rs) (replies-append (performed c x .after) xs ys)
 
-pub ran-after : {c end : Card} {ss : List Sent} {rs : List Reply} → Ran c ss rs end → end ≡ afterAll c ss
+pub afterAll-append : (c : Card) (xs ys : List Sent) → afterAll c (xs ++ ys) ≡ afterAll (afterAll c xs) ys
 unfolding afterAll
-ran-after ended = refl
-ran-after (called {ss = ss} i r) = ran-after r ∙ ap (λ (d : Card). afterAll d ss) (i .leaves)
+afterAll-append c [] ys = refl
+afterAll-append c (x ∷ xs) ys = afterAll-append (performed c x .after) xs ys
+
+pub length-replies : (c : Card) (xs : List Sent) → length (replies c xs) ≡ length xs
+unfolding replies
+length-replies c [] = refl
+length-replies c (x ∷ xs) = ap suc (length-replies (performed c x .after) xs)
+
+-- Behind the replies of the first part stand those of the second, on the card that the first leaves.
+pub drop-replies : (c : Card) (xs ys : List Sent) → drop (length xs) (replies c (xs ++ ys)) ≡ replies (afterAll c xs) ys
+drop-replies c xs ys =
+    ap (drop (length xs)) (replies-append c xs ys) ∙ drop-at (replies c xs) (replies (afterAll c xs) ys) (length xs) (length-replies c xs)
+
+-- ---- no call changes the number of bytes in a block, on any card, sound or not
+
+changePublic-bytes : (step : Change) (p : Public) → changePublic step p .info .bytes ≡ p .info .bytes
+unfolding changePublic
+changePublic-bytes (setWindow mode b end) p = refl
+changePublic-bytes (setBlock b ys) p = refl
+changePublic-bytes (setKeys b read write) p = refl
+changePublic-bytes (takeBlock b) p = refl
+changePublic-bytes (freeBlock b) p = refl
+changePublic-bytes (addPointer a b) p = refl
+changePublic-bytes (dropPointer a b) p = refl
+changePublic-bytes (setTime time) p = refl
+
+changes-bytes : (c : Card) (steps : List Change) → changes c steps .public .info .bytes ≡ c .public .info .bytes
+unfolding changes change
+changes-bytes c [] = refl
+changes-bytes c (step ∷ steps) = changes-bytes (change c step) steps ∙ changePublic-bytes step (c .public)
+
+settle-bytes : (c : Card) (lent : Buffers) (p : Plan) (o : Option Refusal) → settle c lent p o .after .public .info .bytes ≡ c .public .info .bytes
+unfolding settle
+settle-bytes c lent p none = changes-bytes c (p .steps)
+settle-bytes c lent p (some r) = refl
+
+pub perform-bytes : (port : Port) (c : Card) (q : Request) → perform port c q .after .public .info .bytes ≡ c .public .info .bytes
+unfolding perform judge
+perform-bytes port c q =
+    let p = plan port c (q .call) (q .lent) in
+    settle-bytes c (q .lent) p (first (audited c (p .checks)))
+
+pub afterAll-bytes : (c : Card) (xs : List Sent) → afterAll c xs .public .info .bytes ≡ c .public .info .bytes
+unfolding afterAll
+afterAll-bytes c [] = refl
+afterAll-bytes c (x ∷ xs) = afterAll-bytes (performed c x .after) xs ∙ perform-bytes (x .port) c (x .request)

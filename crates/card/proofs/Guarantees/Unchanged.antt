@@ -7,12 +7,11 @@ use Rattle.card.specs.ListsLaws.{absurd-test}
 use Rattle.card.specs.Card.{Card}
 use Rattle.card.specs.Soundness.{ranges, lengths}
 use Rattle.card.specs.Plan.{Buffers, Result, settle}
-use Rattle.card.specs.Calls.{formatResult, format, readPlan, writePlan, allocPlan, createPlan, deletePlan, keyPlan, renewPlan, forcePlan, freePlan, tickPlan, auditPlan}
+use Rattle.card.specs.Calls.{isDone, formatResult, format, readPlan, writePlan, allocPlan, createPlan, deletePlan, keyPlan, renewPlan, forcePlan, freePlan, tickPlan, auditPlan}
 use Rattle.card.specs.Session.{Request, plan, perform}
 use Rattle.card.specs.declared.Port.{Port}
 use Rattle.card.specs.declared.Refusal.{Refusal}
-use Rattle.card.specs.declared.Answer.{Answer}
-use Rattle.card.specs.declared.Answer.the-variants.{Refused, Done, Value}
+use Rattle.card.specs.declared.Answer.the-variants.{Refused, Done}
 use Rattle.card.specs.declared.Call.{Call}
 use Rattle.card.specs.declared.Call.the-variants.{Read, Write, Alloc, Create, Delete, Key, Renew, Force, Free, Tick, Audit}
 use Rattle.card.proofs.Guarantees.Judged.{judge-cases}
@@ -23,13 +22,8 @@ pub record Unchanged (c : Card) (lent : Buffers) (result : Result) : Type 0 wher
   pub out : result .out ≡ lent .out
   pub places : result .places ≡ lent .places
 
-abbrev isDone : Answer → Bool
-isDone (Refused r) = false
-isDone Done = true
-isDone (Value v) = true
-
 -- What a plan answers is never a refusal.
-plan-done : (port : Port) (c : Card) (call : Call) (lent : Buffers) → isDone (plan port c call lent .answer) ≡ true
+pub plan-done : (port : Port) (c : Card) (call : Call) (lent : Buffers) → isDone (plan port c call lent .answer) ≡ true
 unfolding plan readPlan writePlan allocPlan createPlan deletePlan keyPlan renewPlan forcePlan freePlan tickPlan auditPlan
 plan-done port c (Read o) lent = refl
 plan-done port c (Write o) lent = refl

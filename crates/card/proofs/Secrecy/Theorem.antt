@@ -2,7 +2,7 @@
 -- Assumes nothing.
 use Prim.Native.Nat.{ℕ, _<_}
 use mathlib.Core.Path.{_≡_, refl, sym, ap, _∙_}
-use mathlib.Core.Logic.{_⊎_, inl, inr, ⊎-elim, Dec·not-not}
+use mathlib.Core.Logic.{_↔_, _⊎_, inl, inr, ⊎-elim, Dec·not-not}
 use mathlib.Core.Bool.{Bool, true, false}
 use mathlib.Core.List.{List, [], _∷_, List-discrete}
 use native.Mathlib.Decide.{ℕ-discrete}
@@ -40,6 +40,10 @@ HiddenOrFree K c b = Hidden K c b ⊎ (allocated (c .public) b ≡ false)
 abbrev pub HiddenOrStillFree : (ℕ → ℕ → Bool) → Card → Card → ℕ → Type 0
 HiddenOrStillFree K c after b = Hidden K c b ⊎ ((allocated (c .public) b ≡ false) × (allocated (after .public) b ≡ false))
 
+-- The keys have all that a list of calls presents.
+abbrev pub HasKeys : (ℕ → ℕ → Bool) → List Request → Type 0
+HasKeys K qs = (high low : ℕ) → presented qs high low ≡ true → K high low ≡ true
+
 pub record Secret (K : ℕ → ℕ → Bool) (calls : List Sent) (c d : Card) : Type 0 where
   -- "the count of answers that differ is nought"
   pub answers : replies c calls ≡ replies d calls
@@ -61,7 +65,7 @@ reach-closed K c = record {
 }
 
 -- What is presented by a call of the list is presented in the list.
-presented-later : (K : ℕ → ℕ → Bool) (qs : List Request) → ((high low : ℕ) → presented qs high low ≡ true → K high low ≡ true) → AllPresent K qs
+presented-later : (K : ℕ → ℕ → Bool) (qs : List Request) → HasKeys K qs → AllPresent K qs
 unfolding presented
 presented-later K [] k = tt
 presented-later K (q ∷ qs) k =
@@ -99,6 +103,16 @@ module _ (K : ℕ → ℕ → Bool) (c d : Card) (e : c .public ≡ d .public) (
   reach-same (openWindow {b = b} mode a o) = openWindow {b = b} mode (rw e a) (rw e o)
   reach-same (pointed {a = x} {b = b} g a p s) = pointed {a = x} {b = b} (reach-same g) (rw e a) (rw e p) (sym (sealed-same b) ∙ s)
 
+hidden-same : (K : ℕ → ℕ → Bool) (c d : Card) → c .public ≡ d .public → c .keys ≡ d .keys → {b : ℕ} → Hidden K c b → Hidden K d b
+hidden-same K c d e k h = record { isAllocated = rw (← e) (h .isAllocated); outOfReach = λ g. h .outOfReach (reach-same K c d e k g) }
+
+-- On two cards that differ in contents alone the same blocks are within reach, and the same are hidden.
+pub same-hidden : (K : ℕ → ℕ → Bool) {Differ : ℕ → Type 0} (c d : Card) → EqualBut Differ c d → (b : ℕ) → (Reach K c b ↔ Reach K d b) × (Hidden K c b ↔ Hidden K d b)
+same-hidden K c d same b =
+    let e = same .samePublic in
+    let k = same .sameKeys in
+    ((reach-same K d c (sym e) (sym k), reach-same K c d e k), (hidden-same K c d e k, hidden-same K d c (sym e) (sym k)))
+
 -- A block that is neither hidden nor unallocated cannot fail to be within reach, so contents that agree there agree.
 agree : (K : ℕ → ℕ → Bool) (c : Card) (b : ℕ) (xs ys : List ℕ) → allocated (c .public) b ≡ true → (Hidden K c b → ⊥) → (Reach K c b → xs ≡ ys) → xs ≡ ys
 agree K c b xs ys a visible f =
@@ -123,16 +137,14 @@ start K c d same = record {
 keepsSound : CallsKeepSound
 keepsSound c q s = done-sound Host c q s
 
-module _ (session : List Request) (c d : Card) (sc : SoundCard c) (sd : SoundCard d) (same : EqualBut (HiddenOrFree (presented session) c) c d) where
-  abbrev K : ℕ → ℕ → Bool
-  K = presented session
-
+-- Any list of a host's calls, refused ones included, and any keys that have all that the list presents.
+module _ (K : ℕ → ℕ → Bool) (session : List Request) (all : HasKeys K session)
+    (c d : Card) (sc : SoundCard c) (sd : SoundCard d) (same : EqualBut (HiddenOrFree K c) c d) where
   abbrev calls : List Sent
   calls = hostSession session
 
-  -- Every key that the session presents.
   shown : AllPresent K session
-  shown = presented-later K session (λ high low h. h)
+  shown = presented-later K session all
 
   run : BothRun K (λ p ks ls. ks ≡ ls) (Reach K c) c d session
   run = both-run K (λ p ks ls. ks ≡ ls) (equal-keys K) keepsSound session (Reach K c) c d sc sd (reach-closed K c) (start K c d same) shown
@@ -143,10 +155,8 @@ module _ (session : List Request) (c d : Card) (sc : SoundCard c) (sd : SoundCar
   same-after b n false true p q = ⊎-elim (λ g. run .next .alike .sameBlocks b g) (λ a. absurd-test a p) (run .next .new b q)
   same-after b n false false p q = absurd (n (inr (p, q)))
 
-  -- Demand 3: any list of a host's calls, refused ones included, and any two sound cards that are equal but for the contents of hidden and
-  -- unallocated blocks. Hidden is judged on the starting card, with the keys presented anywhere in the list.
-  pub secrecy : Secret (presented session) (hostSession session) c d
-  secrecy = record {
+  pub secrecy-by : Secret K (hostSession session) c d
+  secrecy-by = record {
     answers = run .sameReplies;
     cards = record {
       samePublic = run .next .alike .samePublic;
@@ -155,6 +165,12 @@ module _ (session : List Request) (c d : Card) (sc : SoundCard c) (sd : SoundCar
     };
     kept = λ b h f. hidden-kept K keepsSound b session (Reach K c) c sc (reach-closed K c) shown (h .isAllocated) (h .outOfReach) f;
     keptOnOther = λ b h f.
-        hidden-kept K keepsSound b session (Reach K d) d sd (reach-closed K d) shown (rw (← same .samePublic) (h .isAllocated))
-        (λ g. h .outOfReach (reach-same K c d (same .samePublic) (same .sameKeys) g)) f;
+        let hidden = same-hidden K c d same b .1 .0 h in
+        hidden-kept K keepsSound b session (Reach K d) d sd (reach-closed K d) shown (hidden .isAllocated) (hidden .outOfReach) f;
   }
+
+-- Demand 3: any list of a host's calls, refused ones included, and any two sound cards that are equal but for the contents of hidden and
+-- unallocated blocks. Hidden is judged on the starting card, with the keys presented anywhere in the list.
+pub secrecy : (session : List Request) (c d : Card) → SoundCard c → SoundCard d → EqualBut (HiddenOrFree (presented session) c) c d
+    → Secret (presented session) (hostSession session) c d
+secrecy session = secrecy-by (presented session) session (λ high low h. h)
