@@ -13,10 +13,10 @@ use Rattle.card.specs.Calls.{answerNumber, format}
 use Rattle.card.specs.Session.{request, perform}
 use Rattle.card.specs.declared.Answer.{Answer}
 use Rattle.card.specs.declared.Answer.the-variants.{Refused, Done, Value}
-use Rattle.records.specs.Decode.{nameOf, dataOf, decodeBody}
+use Rattle.records.specs.Decode.{nameOf, dataOf}
 use Rattle.records.specs.declared.Decoding.{Decoding}
 use Rattle.records.specs.declared.Decoding.the-variants.{Decoded, Bad}
-use Rattle.adapter.specs.Numbers.{recordLength, recordOf, numbersOf}
+use Rattle.adapter.specs.Numbers.{recordLength, recordOf, numbersOf, wireOf, decodeAt}
 
 pub record Effect : Type 0 where
   pub number : ℕ
@@ -65,8 +65,9 @@ unfoldable pub dataIn : Decoding → List ℕ → List ℕ
 dataIn (Decoded port call) body = dataOf (nameOf call) body
 dataIn Bad body = []
 
-unfoldable pub recordEffect : ℕ → List ℕ → List ℕ → List ℕ → ℕ → List ℕ → Card → Effect
-recordEffect kind body out places value info c = let d = decodeBody kind body in effect d (dataIn d body) out places value info c
+-- A record that arrives at the port of a number.
+unfoldable pub recordEffect : ℕ → ℕ → List ℕ → List ℕ → List ℕ → ℕ → List ℕ → Card → Effect
+recordEffect port kind body out places value info c = let d = decodeAt (wireOf port) kind body in effect d (dataIn d body) out places value info c
 
 -- ---- what the contracts cite
 

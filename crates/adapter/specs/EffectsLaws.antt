@@ -19,12 +19,12 @@ use Rattle.card.specs.declared.Refusal.{Refusal}
 use Rattle.card.specs.declared.Refusal.the-variants.{Misshapen, Unsound, NotAllocated, BadOperand, NotOpened, IsRoot, PointerExists, NoPointer, HasPointers, TooFewBlocks, TooFewPlaces, TimeEnds, BadRecord}
 use Rattle.kinds.specs.Kinds.{lengthOf, dataLength, operandsLength}
 use Rattle.kinds.specs.KindsLaws.{data-right}
-use Rattle.records.specs.Decode.{nameOf, dataOf, decodeBody}
+use Rattle.records.specs.Decode.{nameOf, dataOf}
 use Rattle.records.specs.Parsed.{ParsedIs}
 use Rattle.records.specs.declared.Decoding.{Decoding}
 use Rattle.records.specs.declared.Decoding.the-variants.{Decoded, Bad}
 use Rattle.records.specs.declared.Parsed.{Parsed}
-use Rattle.adapter.specs.Numbers.{recordLength, recordOf, numbersOf}
+use Rattle.adapter.specs.Numbers.{recordLength, recordOf, numbersOf, wireOf, decodeAt}
 use Rattle.adapter.specs.Effects.{Effect, valueAfter, effectOf, effect, formatEffect, dataIn, recordEffect, Does, Gives}
 
 -- The number of a refusal fits 32 bits.
@@ -130,17 +130,17 @@ same-input (Decoded port call) out places value info c h = rw (h port call refl)
 same-input Bad out places value info c h = refl
 
 -- What the decoder gives as a record's data is what the record has beside its operands.
-data-part : (kind : ℕ) (body : List ℕ) {r : Parsed} → ParsedIs kind body r → (port : Port) (call : Call) → r .decoding ≡ Decoded port call
+data-part : {want : Decoding} (body : List ℕ) {r : Parsed} → ParsedIs want body r → (port : Port) (call : Call) → r .decoding ≡ Decoded port call
     → take (r .end - r .payload) (drop (r .payload) body) ≡ dataIn (r .decoding) body
 unfolding dataIn dataOf
-data-part kind body p port call e =
+data-part body p port call e =
     rw e
     (ap₂ (λ (m n : ℕ). take m (drop n body))
     (ap₂ (λ (m n : ℕ). m - n) (p .endAt e) (p .payloadAt e) ∙ sym (data-right (nameOf call)))
     (p .payloadAt e))
 
-pub of-record : (kind : ℕ) (body out places : List ℕ) (value : ℕ) (info : List ℕ) (c : Card) {r : Parsed} {number given : ℕ} {info' : List ℕ} {after : Card} {out' places' : List ℕ}
-    → ParsedIs kind body r → Gives (effect (r .decoding) (take (r .end - r .payload) (drop (r .payload) body)) out places value info c) number given info' after out' places'
-    → Gives (recordEffect kind body out places value info c) number given info' after out' places'
+pub of-record : (port kind : ℕ) (body out places : List ℕ) (value : ℕ) (info : List ℕ) (c : Card) {r : Parsed} {number given : ℕ} {info' : List ℕ} {after : Card} {out' places' : List ℕ}
+    → ParsedIs (decodeAt (wireOf port) kind body) body r → Gives (effect (r .decoding) (take (r .end - r .payload) (drop (r .payload) body)) out places value info c) number given info' after out' places'
+    → Gives (recordEffect port kind body out places value info c) number given info' after out' places'
 unfolding recordEffect
-of-record kind body out places value info c {r} p g = rw (← p .decodes, ← same-input (r .decoding) out places value info c (data-part kind body p)) g
+of-record port kind body out places value info c {r} p g = rw (← p .decodes, ← same-input (r .decoding) out places value info c (data-part body p)) g

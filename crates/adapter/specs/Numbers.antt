@@ -13,8 +13,12 @@ use Rattle.fields.specs.declared.ParsedCredential.{ParsedCredential}
 use Rattle.fields.specs.declared.ParsedCredential.the-variants.{Invalid as InvalidCredential}
 use Rattle.fields.specs.declared.ParsedKey.{ParsedKey}
 use Rattle.fields.specs.declared.ParsedKey.the-variants.{Invalid as InvalidKey}
+use Rattle.card.specs.declared.Call.{Call}
+use Rattle.records.specs.Decode.{decodeBody}
 use Rattle.records.specs.declared.Decoding.{Decoding}
 use Rattle.records.specs.declared.Decoding.the-variants.{Decoded, Bad}
+use Rattle.adapter.specs.declared.Wire.{Wire}
+use Rattle.adapter.specs.declared.Wire.the-variants.{At, Nowhere}
 
 -- ---- the record: N, R, B, M and T
 
@@ -44,7 +48,20 @@ newKeyAt bytes = newKeyOf (now (bytes .entry))
 
 -- ---- ports
 
--- Port 0 is the host's, 1 the service port. Any other is refused as a wrong record is.
+-- Port 0 is the host's, 1 the service port; any other is none.
+unfoldable pub wireOf : ℕ → Wire
+wireOf port = cond (eqb port 0) (At Host) (cond (eqb port 1) (At Service) Nowhere)
+
+unfoldable pub callAt : Wire → Call → Decoding
+callAt (At port) call = Decoded port call
+callAt Nowhere call = Bad
+
+-- The call of operands at the port of a number; at none it is refused as a wrong record is.
 unfoldable pub atPort : ℕ → Decoding → Decoding
-atPort port (Decoded at call) = cond (eqb port 0) (Decoded Host call) (cond (eqb port 1) (Decoded Service call) Bad)
+atPort port (Decoded at call) = callAt (wireOf port) call
 atPort port Bad = Bad
+
+-- What a kind and the bytes behind it hold that arrive at a port: nothing at none.
+unfoldable pub decodeAt : Wire → ℕ → List ℕ → Decoding
+decodeAt (At wire) kind xs = decodeBody wire kind xs
+decodeAt Nowhere kind xs = Bad

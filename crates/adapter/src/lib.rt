@@ -7,11 +7,13 @@ use card::Port;
 use fields::ParsedCredential;
 use fields::ParsedKey;
 use records::Decoding;
+use records::Parsed;
 ghost use mathlib.Core.Path.{_≡_};
 ghost use mathlib.Core.List.{[]};
 ghost use lib.ListN.{length};
 ghost use Rattle.card.specs.Calls.{answerNumber};
-ghost use Rattle.adapter.specs.Numbers.{recordLength, recordOf, numbersOf, credentialOf, newKeyOf, atPort};
+ghost use Rattle.records.specs.Parsed.{ParsedIs};
+ghost use Rattle.adapter.specs.Numbers.{recordLength, recordOf, numbersOf, credentialOf, newKeyOf, wireOf, atPort, decodeAt};
 ghost use Rattle.adapter.specs.Effects.{valueAfter, effect, EffectsGiving, EffectsLent};
 
 // How many numbers the record has: N, R, B, M and T.
@@ -66,20 +68,44 @@ pub fn new_key_of(bytes: &[u8]) -> ParsedKey
     fields::new_key(bytes, 0)
 }
 
-// The call at the port of a number: 0 is the host's, 1 the service port.
+// A port that C passes as a number, if there is one.
+pub enum Wire {
+    At(Port),
+    Nowhere,
+}
+
+// The port of a number: 0 is the host's, 1 the service port.
+pub fn wire_of(port: u8) -> Wire
+    ensures { λ r. ⌜ r ≡ wireOf port ⌝ }
+{
+    match port {
+        0 => Wire::At(Port::Host),
+        1 => Wire::At(Port::Service),
+        _ => Wire::Nowhere,
+    }
+}
+
+// The call at the port of a number.
 pub fn at_port(port: u8, made: Decoding) -> Decoding
     ensures { λ r. ⌜ r ≡ atPort port made ⌝ }
 {
     let Decoding::Decoded(_, call) = made else {
         return Decoding::Bad;
     };
-    if port == 0 {
-        return Decoding::Decoded(Port::Host, call);
-    }
-    if port == 1 {
-        return Decoding::Decoded(Port::Service, call);
-    }
-    Decoding::Bad
+    let Wire::At(at) = wire_of(port) else {
+        return Decoding::Bad;
+    };
+    Decoding::Decoded(at, call)
+}
+
+// What a kind and the bytes behind it hold that arrive at the port of a number.
+pub fn decode_at(port: u8, kind: u8, body: &[u8]) -> Parsed
+    ensures { λ r. ⌜ ParsedIs (decodeAt (wireOf port) kind (now (body .entry))) (now (body .entry)) r ⌝ }
+{
+    let Wire::At(wire) = wire_of(port) else {
+        return records::bad();
+    };
+    records::decode(wire, kind, body)
 }
 
 // ---- calls

@@ -2,3 +2,5 @@ pub mod AnswerBytesLaws
 pub mod Answered
 pub mod TurnServed
 pub mod Serving
+pub mod BytesSafe
+pub mod BytesSecret

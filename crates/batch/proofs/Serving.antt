@@ -14,7 +14,8 @@ use Rattle.card.specs.declared.Port.{Port}
 use Rattle.lines.specs.Written.{Written, written-none, written-join, written-length}
 use Rattle.input.specs.Play.{Turn, Play, outputBefore, stopped, goOn}
 use Rattle.input.specs.Played.{TurnIs, PlayedIs, isWent}
-use Rattle.input.specs.PlayedLaws.{is-went}
+use Rattle.input.specs.PlayLaws.{goOn-halts}
+use Rattle.input.specs.PlayedLaws.{is-went, not-went}
 use Rattle.input.proofs.SameTables.{SameTables}
 use Rattle.input.specs.declared.Stop.{Stop}
 use Rattle.input.specs.declared.Stop.the-variants.{Went, Ended, Short, Refused, Full}
@@ -32,16 +33,6 @@ pub record Serving (wire : Port) (c₀ : Card) (xs out₀ : List ℕ) (count : �
   pub fits : length done ≤ length out₀
   pub written : Written out₀ 0 done out at
   pub total : serve wire c₀ xs (length out₀) ≡ outputBefore done (serveWithin wire (suc most) count c (drop from xs) (length out₀ - length done))
-
--- A turn that did not go ends the batch.
-goOn-halts : (stop : Stop) (t : Turn) (records room : ℕ) (rest : ℕ → Card → List ℕ → ℕ → Play) → isWent stop ≡ false
-    → goOn stop t records rest room ≡ stopped stop records (t .after) (t .left)
-unfolding goOn
-goOn-halts Went t records room rest e = absurd (true≢false e)
-goOn-halts Ended t records room rest e = refl
-goOn-halts Short t records room rest e = refl
-goOn-halts Refused t records room rest e = refl
-goOn-halts Full t records room rest e = refl
 
 module _ (wire : Port) (c₀ : Card) (xs out₀ : List ℕ) where
   pub serving-none : Serving wire c₀ xs out₀ 0 c₀ 0 0 out₀
@@ -83,7 +74,7 @@ module _ (wire : Port) (c₀ : Card) (xs out₀ : List ℕ) where
       pub serving-stopped : isWent stop ≡ false → PlayedIs (serve wire c₀ xs (length out₀)) stop count after xs next out₀ to next-at
       serving-stopped n =
           let halts : isWent (nextTurn .stop) ≡ false = ap isWent (sym (t .stops)) ∙ n in
-          let e = next-turn ∙ ap (outputBefore (p .done)) (goOn-halts (nextTurn .stop) nextTurn count (roomFrom out at) (serveWithin wire (p .most)) halts) in
+          let e = next-turn ∙ ap (outputBefore (p .done)) (goOn-halts (nextTurn .stop) nextTurn count (roomFrom out at) (serveWithin wire (p .most)) (not-went (nextTurn .stop) halts)) in
           let nothing : Written out at [] to next-at = subst (λ (bs : List ℕ). Written out at bs to next-at) (serve-turn-halts wire (roomFrom out at) c (drop from xs) halts) (t .writes) in
           rw e
           (record {

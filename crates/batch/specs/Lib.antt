@@ -1,2 +1,3 @@
 pub mod Serve
 pub mod Batches
+pub mod Held

@@ -18,7 +18,7 @@ use Rattle.kinds.specs.declared.Kind.the-variants.{Known, Unknown}
 use Rattle.records.specs.declared.Decoding.{Decoding}
 use Rattle.records.specs.declared.Decoding.the-variants.{Decoded, Bad}
 use Rattle.lines.specs.Lines.{lineRoom}
-use Rattle.input.specs.Play.{isShort, fault, Turn, turnOf, turn, Play, goOn, playWithin, play}
+use Rattle.input.specs.Play.{playerPort, isShort, fault, Turn, turnOf, turn, Play, goOn, playWithin, play}
 use Rattle.input.specs.PlayLaws.{tried}
 use Rattle.input.specs.declared.Stop.{Stop}
 use Rattle.input.specs.declared.Stop.the-variants.{Went, Ended, Short, Refused, Full}
@@ -46,25 +46,25 @@ unfolding isShort kindLength
 kind-short (Known port name) n e = omega (arith, ltb-true n (lengthOf name) e, length-most name)
 kind-short Unknown n e = absurd (false≢true e)
 
-fault-short : (xs : List ℕ) → needsInput (fault xs) ≡ true → length xs < recordRoom
+fault-short : (xs : List ℕ) → needsInput (fault playerPort xs) ≡ true → length xs < recordRoom
 unfolding fault bodyLength
 fault-short [] e = omega arith
-fault-short (kind ∷ xs) e = go (isShort (bodyLength kind) (length xs)) refl e
+fault-short (kind ∷ xs) e = go (isShort (bodyLength playerPort kind) (length xs)) refl e
   where
-    go : (t : Bool) → isShort (bodyLength kind) (length xs) ≡ t → needsInput (cond t Short Refused) ≡ true → length (kind ∷ xs) < recordRoom
-    go true s h = omega (arith, kind-short (kindOf kind) (length xs) s)
+    go : (t : Bool) → isShort (bodyLength playerPort kind) (length xs) ≡ t → needsInput (cond t Short Refused) ≡ true → length (kind ∷ xs) < recordRoom
+    go true s h = omega (arith, kind-short (kindOf playerPort kind) (length xs) s)
     go false s h = absurd (false≢true h)
 
-ended-none : (xs : List ℕ) → decode xs ≡ ended → length xs < recordRoom
+ended-none : (xs : List ℕ) → decode playerPort xs ≡ ended → length xs < recordRoom
 unfolding decode nextOf
 ended-none [] e = omega arith
-ended-none (kind ∷ xs) e = absurd (go (decodeBody kind xs) e)
+ended-none (kind ∷ xs) e = absurd (go (decodeBody playerPort kind xs) e)
   where
     go : (d : Decoding) → nextOf xs d ≡ ended → ⊥
     go (Decoded port call) h = let z : _≡_ {A = ℕ} 0 1 = cc in omega arith
     go Bad h = let z : _≡_ {A = ℕ} 0 1 = cc in omega arith
 
-turn-awaits : (ordinal : ℕ) (c : Card) (xs : List ℕ) (n : Next) → decode xs ≡ n → needsInput (turnOf ordinal c xs n .stop) ≡ true → length (turnOf ordinal c xs n .left) < recordRoom
+turn-awaits : (ordinal : ℕ) (c : Card) (xs : List ℕ) (n : Next) → decode playerPort xs ≡ n → needsInput (turnOf ordinal c xs n .stop) ≡ true → length (turnOf ordinal c xs n .left) < recordRoom
 unfolding turnOf
 turn-awaits ordinal c xs ended d e = ended-none xs d
 turn-awaits ordinal c xs refused d e = fault-short xs e
@@ -86,7 +86,7 @@ goOn-awaits Full t records rest room h later e = absurd (false≢true e)
 tried-awaits : (full : Bool) (records : ℕ) (c : Card) (xs : List ℕ) → needsInput (tried full records c xs .stop) ≡ true → length (tried full records c xs .left) < recordRoom
 unfolding turn
 tried-awaits true records c xs e = absurd (false≢true e)
-tried-awaits false records c xs e = turn-awaits (records + 1) c xs (decode xs) refl e
+tried-awaits false records c xs e = turn-awaits (records + 1) c xs (decode playerPort xs) refl e
 
 within-awaits : (most records : ℕ) (c : Card) (xs : List ℕ) (room : ℕ) → needsInput (playWithin most records c xs room .stop) ≡ true → length (playWithin most records c xs room .left) < recordRoom
 unfolding playWithin

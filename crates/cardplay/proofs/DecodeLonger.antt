@@ -102,9 +102,9 @@ data-in-body AUDIT = omega arith
 
 -- ---- a record
 
-module _ (kind : ℕ) (xs ys : List ℕ) {port : Port} {call : Call} (e : Decoded port call ≡ decodeBody kind xs) where
-  known : OfKind (kindOf kind) xs port call
-  known = decoded-kind kind xs port call e
+module _ (wire : Port) (kind : ℕ) (xs ys : List ℕ) {port : Port} {call : Call} (e : Decoded port call ≡ decodeBody wire kind xs) where
+  known : OfKind (kindOf wire kind) xs port call
+  known = decoded-kind wire kind xs port call e
 
   agrees : Agree (lengthOf (nameOf call)) (xs ++ ys) xs
   agrees i h = getD-front xs ys i (omega (arith, known .whole))
@@ -114,7 +114,7 @@ module _ (kind : ℕ) (xs ys : List ℕ) {port : Port} {call : Call} (e : Decode
       getD-front (u ∷ us) vs zero b = refl
       getD-front (u ∷ us) vs (suc j) b = getD-front us vs j (omega arith)
 
-  body-longer : decodeBody kind (xs ++ ys) ≡ Decoded port call
+  body-longer : decodeBody wire kind (xs ++ ys) ≡ Decoded port call
   unfolding decodeBody decodeKnown
   body-longer =
       rw (known .kind, le-leb (lengthOf (nameOf call)) (length (xs ++ ys)) (omega (arith, length-append xs ys, known .whole)))
@@ -127,7 +127,7 @@ module _ (kind : ℕ) (xs ys : List ℕ) {port : Port} {call : Call} (e : Decode
       ap (take (dataLength (nameOf call))) (drop-append-le (operandsLength (nameOf call)) xs ys (omega arith))
       ∙ take-append-le (dataLength (nameOf call)) (drop (operandsLength (nameOf call)) xs) ys (omega (arith, length-drop (operandsLength (nameOf call)) xs))
 
-  next-is : nextOf (xs ++ ys) (decodeBody kind (xs ++ ys)) ≡ sent port call (dataOf (nameOf call) xs) (drop (lengthOf (nameOf call)) xs ++ ys)
+  next-is : nextOf (xs ++ ys) (decodeBody wire kind (xs ++ ys)) ≡ sent port call (dataOf (nameOf call) xs) (drop (lengthOf (nameOf call)) xs ++ ys)
   unfolding nextOf
   next-is = rw body-longer (ap₂ (sent port call) data-longer (drop-append-le (lengthOf (nameOf call)) xs ys (known .whole)))
 
@@ -137,13 +137,13 @@ followed ys ended = ended
 followed ys refused = refused
 followed ys (sent port call payload rest) = sent port call payload (rest ++ ys)
 
-next-longer : (kind : ℕ) (xs ys : List ℕ) (d : Decoding) {port : Port} {call : Call} {payload rest : List ℕ} → d ≡ decodeBody kind xs → nextOf xs d ≡ sent port call payload rest
-    → nextOf (xs ++ ys) (decodeBody kind (xs ++ ys)) ≡ sent port call payload (rest ++ ys)
+next-longer : (wire : Port) (kind : ℕ) (xs ys : List ℕ) (d : Decoding) {port : Port} {call : Call} {payload rest : List ℕ} → d ≡ decodeBody wire kind xs → nextOf xs d ≡ sent port call payload rest
+    → nextOf (xs ++ ys) (decodeBody wire kind (xs ++ ys)) ≡ sent port call payload (rest ++ ys)
 unfolding nextOf
-next-longer kind xs ys (Decoded port call) d e = next-is kind xs ys d ∙ ap (followed ys) e
-next-longer kind xs ys Bad d e = let z : _≡_ {A = ℕ} 0 1 = cc in absurd (omega arith)
+next-longer wire kind xs ys (Decoded port call) d e = next-is wire kind xs ys d ∙ ap (followed ys) e
+next-longer wire kind xs ys Bad d e = let z : _≡_ {A = ℕ} 0 1 = cc in absurd (omega arith)
 
-pub decode-longer : (xs ys : List ℕ) {port : Port} {call : Call} {payload rest : List ℕ} → decode xs ≡ sent port call payload rest → decode (xs ++ ys) ≡ sent port call payload (rest ++ ys)
+pub decode-longer : (wire : Port) (xs ys : List ℕ) {port : Port} {call : Call} {payload rest : List ℕ} → decode wire xs ≡ sent port call payload rest → decode wire (xs ++ ys) ≡ sent port call payload (rest ++ ys)
 unfolding decode
-decode-longer [] ys e = let z : _≡_ {A = ℕ} 0 1 = cc in absurd (omega arith)
-decode-longer (kind ∷ xs) ys e = next-longer kind xs ys (decodeBody kind xs) refl e
+decode-longer wire [] ys e = let z : _≡_ {A = ℕ} 0 1 = cc in absurd (omega arith)
+decode-longer wire (kind ∷ xs) ys e = next-longer wire kind xs ys (decodeBody wire kind xs) refl e

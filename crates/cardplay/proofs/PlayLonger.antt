@@ -11,7 +11,7 @@ use lib.ListN.{length, length-append}
 use Rattle.card.specs.Card.{Card}
 use Rattle.records.specs.Decode.{Next, ended, refused, sent, decode}
 use Rattle.lines.specs.Lines.{lineRoom}
-use Rattle.input.specs.Play.{Turn, turnOf, turn, Play, outputBefore, stopped, goOn, playWithin, play}
+use Rattle.input.specs.Play.{playerPort, Turn, turnOf, turn, Play, outputBefore, stopped, goOn, playWithin, play}
 use Rattle.input.specs.PlayLaws.{tried, play-went, play-stopped, fault-stops}
 use Rattle.input.specs.declared.Stop.{Stop}
 use Rattle.input.specs.declared.Stop.the-variants.{Went, Ended, Short, Refused, Full}
@@ -22,13 +22,13 @@ use Rattle.cardplay.proofs.DecodeLonger.{decode-longer}
 
 -- ---- one turn
 
-turn-longer : (ordinal : ℕ) (c : Card) (xs ys : List ℕ) (n : Next) → decode xs ≡ n → turnOf ordinal c xs n .stop ≡ Went
+turn-longer : (ordinal : ℕ) (c : Card) (xs ys : List ℕ) (n : Next) → decode playerPort xs ≡ n → turnOf ordinal c xs n .stop ≡ Went
     → turn ordinal c (xs ++ ys) ≡ record { stop = Went; output = turnOf ordinal c xs n .output; after = turnOf ordinal c xs n .after; left = turnOf ordinal c xs n .left ++ ys }
 unfolding turn turnOf decode
 turn-longer ordinal c xs ys ended d e = let z : _≡_ {A = ℕ} 0 1 = cc in absurd (omega arith)
-turn-longer ordinal c xs ys refused d e = absurd (fault-stops xs e)
+turn-longer ordinal c xs ys refused d e = absurd (fault-stops playerPort xs e)
 turn-longer ordinal c [] ys (sent port call payload rest) d e = let z : _≡_ {A = ℕ} 0 1 = cc in absurd (omega arith)
-turn-longer ordinal c (kind ∷ xs) ys (sent port call payload rest) d e = ap (turnOf ordinal c (kind ∷ (xs ++ ys))) (decode-longer (kind ∷ xs) ys d)
+turn-longer ordinal c (kind ∷ xs) ys (sent port call payload rest) d e = ap (turnOf ordinal c (kind ∷ (xs ++ ys))) (decode-longer playerPort (kind ∷ xs) ys d)
 
 -- What a turn that did not go leaves as it was.
 abbrev Idle : Turn → Card → List ℕ → Type 0
@@ -43,7 +43,7 @@ turn-idle ordinal c xs (sent port call payload rest) h = absurd (h refl)
 tried-idle : (full : Bool) (records : ℕ) (c : Card) (xs : List ℕ) → Idle (tried full records c xs) c xs
 unfolding turn
 tried-idle true records c xs h = (refl, refl)
-tried-idle false records c xs h = turn-idle (records + 1) c xs (decode xs) h
+tried-idle false records c xs h = turn-idle (records + 1) c xs (decode playerPort xs) h
 
 -- A turn that goes does so whatever follows.
 tried-went : (full : Bool) (records : ℕ) (c : Card) (xs ys : List ℕ) (big : ℕ) → lineRoom ≤ big → let t : Turn = tried full records c xs in t .stop ≡ Went
@@ -51,7 +51,7 @@ tried-went : (full : Bool) (records : ℕ) (c : Card) (xs ys : List ℕ) (big : 
 unfolding turn
 tried-went true records c xs ys big h e = let z : _≡_ {A = ℕ} 0 1 = cc in absurd (omega arith)
 tried-went false records c xs ys big h e =
-    let longer = turn-longer (records + 1) c xs ys (decode xs) refl e in
+    let longer = turn-longer (records + 1) c xs ys (decode playerPort xs) refl e in
     play-went records c (xs ++ ys) big h (ap (λ (t : Turn). t .stop) longer)
     ∙ ap (λ (t : Turn). outputBefore (t .output) (play (records + 1) (t .after) (t .left) (big - length (t .output)))) longer
 

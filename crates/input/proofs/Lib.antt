@@ -1,1 +1,2 @@
 pub mod SameTables
+pub mod PlaySafe

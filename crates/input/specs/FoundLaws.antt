@@ -86,14 +86,14 @@ module _ (wire : Port) (input : List ℕ) (from : ℕ) (h : from < length input)
     fault-here ∙ ap (λ (l : Length). cond (isShort l (length behindKind)) Short Refused) (sym e ∙ u) ∙ ap (λ (t : Bool). cond t Short Refused) (lt-ltb (length behindKind) n s),
   )
 
-  pub found-bad : {l : Length} {n : ℕ} {r : Parsed} → l ≡ bodyLength wire kind → l ≡ Bytes n → n ≤ length behindKind → ParsedIs wire kind behindKind r → r .decoding ≡ Bad → NothingIs wire (drop from input) Refused
+  pub found-bad : {l : Length} {n : ℕ} {r : Parsed} → l ≡ bodyLength wire kind → l ≡ Bytes n → n ≤ length behindKind → ParsedIs (decodeBody wire kind behindKind) behindKind r → r .decoding ≡ Bad → NothingIs wire (drop from input) Refused
   unfolding nextOf isShort
   found-bad {n = n} e u s p b = (
     decodes-next ∙ ap (nextOf behindKind) (sym (p .decodes) ∙ b),
     fault-here ∙ ap (λ (l : Length). cond (isShort l (length behindKind)) Short Refused) (sym e ∙ u) ∙ ap (λ (t : Bool). cond t Short Refused) (le-ltb (length behindKind) n s),
   )
 
-  pub found-whole : {r : Parsed} {port : Port} {call : Call} → ParsedIs wire kind behindKind r → r .decoding ≡ Decoded port call
+  pub found-whole : {r : Parsed} {port : Port} {call : Call} → ParsedIs (decodeBody wire kind behindKind) behindKind r → r .decoding ≡ Decoded port call
       → WholeIs wire input from (record { kind = kind; port = port; call = call; payload = from + 1 + r .payload; next = from + 1 + r .end })
   unfolding nextOf dataOf
   found-whole {r} {port} {call} p e =

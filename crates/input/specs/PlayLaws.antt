@@ -46,6 +46,17 @@ pub turn-left : (ordinal : ℕ) (c : Card) (xs : List ℕ) → turn ordinal c xs
 unfolding turn
 turn-left ordinal c xs w = next-left ordinal c xs (decode playerPort xs) refl w
 
+-- ---- a turn that did not go ends the play
+
+pub goOn-halts : (stop : Stop) (t : Turn) (records room : ℕ) (rest : ℕ → Card → List ℕ → ℕ → Play) → (stop ≡ Went → ⊥)
+    → goOn stop t records rest room ≡ stopped stop records (t .after) (t .left)
+unfolding goOn
+goOn-halts Went t records room rest n = absurd (n refl)
+goOn-halts Ended t records room rest n = refl
+goOn-halts Short t records room rest n = refl
+goOn-halts Refused t records room rest n = refl
+goOn-halts Full t records room rest n = refl
+
 -- ---- however many turns are allowed
 
 -- The turn that is tried where there is room for a line.
@@ -117,11 +128,5 @@ module _ (records : ℕ) (c : Card) (xs : List ℕ) (room : ℕ) (h : lineRoom �
   play-stopped stop n e a l =
       play-tried false records c xs room (le-ltb room lineRoom h)
       ∙ ap (λ (s : Stop). goOn s firstTurn records (playWithin (length xs)) room) e
-      ∙ halts stop n
-    where
-      halts : (s : Stop) → (s ≡ Went → ⊥) → goOn s firstTurn records (playWithin (length xs)) room ≡ stopped s records c xs
-      halts Went n = absurd (n refl)
-      halts Ended n = ap₂ (λ (d : Card) (ys : List ℕ). stopped Ended records d ys) a l
-      halts Short n = ap₂ (λ (d : Card) (ys : List ℕ). stopped Short records d ys) a l
-      halts Refused n = ap₂ (λ (d : Card) (ys : List ℕ). stopped Refused records d ys) a l
-      halts Full n = ap₂ (λ (d : Card) (ys : List ℕ). stopped Full records d ys) a l
+      ∙ goOn-halts stop firstTurn records room (playWithin (length xs)) n
+      ∙ ap₂ (λ (d : Card) (ys : List ℕ). stopped stop records d ys) a l

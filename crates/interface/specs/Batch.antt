@@ -8,10 +8,13 @@ use denote.Ref.{now}
 use Rattle.card.specs.Card.{Card, card}
 use Rattle.card.specs.Lent.{Lent, LentNumber}
 use Rattle.card.specs.declared.Info.{Info}
+use Rattle.card.specs.declared.Port.{Port}
 use Rattle.input.specs.Played.{PlayedIs}
 use Rattle.input.specs.declared.Stop.{Stop}
 use Rattle.input.specs.declared.Stop.the-variants.{Went, Ended, Short, Refused, Full}
-use Rattle.adapter.specs.Numbers.{recordLength, recordOf, numbersOf}
+use Rattle.adapter.specs.Numbers.{recordLength, recordOf, numbersOf, wireOf}
+use Rattle.adapter.specs.declared.Wire.{Wire}
+use Rattle.adapter.specs.declared.Wire.the-variants.{At, Nowhere}
 use Rattle.batch.specs.Serve.{serve}
 
 -- Why a batch stopped: 0 at the end of its input, 13 at a record refused 13, 256 at one cut short, 257 where its answer has no room.
@@ -31,17 +34,22 @@ pub record BatchState : Type 0 where
   pub read : ℕ
   pub written : ℕ
 
--- The batch was served: its number says why it stopped.
-pub record BatchServed (before : BatchState) (input : List ℕ) (number : ℕ) (after : BatchState) : Type 0 where
+-- The batch that arrived at the port was served: its number says why it stopped.
+pub record BatchServed (wire : Port) (before : BatchState) (input : List ℕ) (number : ℕ) (after : BatchState) : Type 0 where
   pub stop : Stop
   pub answers : number ≡ stopNumber stop
   pub stores : after .info ≡ numbersOf (after .card .public .info)
-  pub plays : PlayedIs (serve (before .card) input (length (before .answers))) stop (after .records) (after .card) input (after .read) (before .answers) (after .answers) (after .written)
+  pub plays : PlayedIs (serve wire (before .card) input (length (before .answers))) stop (after .records) (after .card) input (after .read) (before .answers) (after .answers) (after .written)
 
 -- Refused 1 with nothing changed where the record has not its five numbers; else the batch, every call with its own audit.
-pub record BatchIs (before : BatchState) (input : List ℕ) (number : ℕ) (after : BatchState) : Type 0 where
+pub record ServedIfFive (wire : Port) (before : BatchState) (input : List ℕ) (number : ℕ) (after : BatchState) : Type 0 where
   pub refuses : (length (before .info) ≡ recordLength → ⊥) → (number ≡ 1) × (after ≡ before)
-  pub serves : length (before .info) ≡ recordLength → BatchServed before input number after
+  pub serves : length (before .info) ≡ recordLength → BatchServed wire before input number after
+
+-- Before that, at no port: refused 13 with nothing changed.
+unfoldable pub BatchIs : Wire → BatchState → List ℕ → ℕ → BatchState → Type 0
+BatchIs Nowhere before input number after = (number ≡ 13) × (after ≡ before)
+BatchIs (At wire) before input number after = ServedIfFive wire before input number after
 
 abbrev pub batchState : List ℕ → List ℕ → List ℕ → List ℕ → List ℕ → List ℕ → List ℕ → List ℕ → ℕ → ℕ → ℕ → BatchState
 batchState info flags keys counts pointers windows contents answers records read written = record {
@@ -54,32 +62,43 @@ batchState info flags keys counts pointers windows contents answers records read
 }
 
 -- What the function returns and leaves is the batch of the input on what it was lent.
-abbrev pub ServesBatch : Lent → Lent → Lent → Lent → Lent → Lent → Lent → Lent → Lent → LentNumber → LentNumber → LentNumber → ℕ → Type 0
-ServesBatch info flags keys counts pointers windows contents input answers records read written r =
-    BatchIs
+abbrev pub ServesBatch : ℕ → Lent → Lent → Lent → Lent → Lent → Lent → Lent → Lent → Lent → LentNumber → LentNumber → LentNumber → ℕ → Type 0
+ServesBatch port info flags keys counts pointers windows contents input answers records read written r =
+    BatchIs (wireOf port)
     (batchState (now (info .entry)) (now (flags .entry)) (now (keys .entry)) (now (counts .entry)) (now (pointers .entry)) (now (windows .entry)) (now (contents .entry)) (now (answers .entry)) (now (records .entry)) (now (read .entry)) (now (written .entry)))
     (now (input .entry))
     r
     (batchState (now (info .exit)) (now (flags .exit)) (now (keys .exit)) (now (counts .exit)) (now (pointers .exit)) (now (windows .exit)) (now (contents .exit)) (now (answers .exit)) (now (records .exit)) (now (read .exit)) (now (written .exit)))
 
-pub batch-refused : (before : BatchState) (input : List ℕ) → (length (before .info) ≡ recordLength → ⊥) → BatchIs before input 1 before
-batch-refused before input n = record { refuses = λ h. (refl, refl); serves = λ e. absurd (n e) }
+-- ---- what the function found
 
-pub batch-served : (info flags keys counts pointers windows contents answers : List ℕ) (records read written : ℕ) (input : List ℕ)
-    {loaded : Info} (after : Info) (flags' keys' counts' pointers' windows' contents' : List ℕ) {info' answers' : List ℕ} {stop : Stop} {number records' read' written' : ℕ}
-    → length info ≡ recordLength → loaded ≡ recordOf info
-    → PlayedIs (serve (card loaded flags keys counts pointers windows contents) input (length answers)) stop records' (card after flags' keys' counts' pointers' windows' contents') input read' answers answers' written'
+-- There is no such port.
+pub batch-nowhere : (port : ℕ) (before : BatchState) (input : List ℕ) {w : Wire} → w ≡ wireOf port → w ≡ Nowhere → BatchIs (wireOf port) before input 13 before
+unfolding BatchIs
+batch-nowhere port before input e n = rw (← e, n) (refl, refl)
+
+-- The record has not its numbers.
+pub batch-refused : (port : ℕ) (before : BatchState) (input : List ℕ) {w : Wire} {wire : Port} → w ≡ wireOf port → w ≡ At wire → (length (before .info) ≡ recordLength → ⊥) → BatchIs (wireOf port) before input 1 before
+unfolding BatchIs
+batch-refused port before input e a n = rw (← e, a) (record { refuses = λ h. (refl, refl); serves = λ f. absurd (n f) })
+
+pub batch-served : (port : ℕ) (info flags keys counts pointers windows contents answers : List ℕ) (records read written : ℕ) (input : List ℕ)
+    {loaded : Info} (after : Info) (flags' keys' counts' pointers' windows' contents' : List ℕ) {info' answers' : List ℕ} {stop : Stop} {number records' read' written' : ℕ} {w : Wire} {wire : Port}
+    → w ≡ wireOf port → w ≡ At wire → length info ≡ recordLength → loaded ≡ recordOf info
+    → PlayedIs (serve wire (card loaded flags keys counts pointers windows contents) input (length answers)) stop records' (card after flags' keys' counts' pointers' windows' contents') input read' answers answers' written'
     → info' ≡ numbersOf after → number ≡ stopNumber stop
-    → BatchIs (batchState info flags keys counts pointers windows contents answers records read written) input number (batchState info' flags' keys' counts' pointers' windows' contents' answers' records' read' written')
-batch-served info flags keys counts pointers windows contents answers records read written input after flags' keys' counts' pointers' windows' contents' {info'} {answers'} {stop} {number} {records'} {read'} {written'} n l p s a =
-    record {
+    → BatchIs (wireOf port) (batchState info flags keys counts pointers windows contents answers records read written) input number (batchState info' flags' keys' counts' pointers' windows' contents' answers' records' read' written')
+unfolding BatchIs
+batch-served port info flags keys counts pointers windows contents answers records read written input after flags' keys' counts' pointers' windows' contents' {info'} {answers'} {stop} {number} {records'} {read'} {written'} {wire = wire} e at n l p s a =
+    rw (← e, at)
+    (record {
       refuses = λ h. absurd (h n);
-      serves = λ e. record {
+      serves = λ f. record {
         stop = stop;
         answers = a;
         stores = rw s;
         plays =
             rw s
-            (subst (λ (i : Info). PlayedIs (serve (card i flags keys counts pointers windows contents) input (length answers)) stop records' (card after flags' keys' counts' pointers' windows' contents') input read' answers answers' written') l p);
+            (subst (λ (i : Info). PlayedIs (serve wire (card i flags keys counts pointers windows contents) input (length answers)) stop records' (card after flags' keys' counts' pointers' windows' contents') input read' answers answers' written') l p);
       };
-    }
+    })

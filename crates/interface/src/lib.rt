@@ -1,6 +1,7 @@
 // The functions that C links: the card's record as a lent slice of five numbers, tables and buffers as slices,
 // enums as numbers, credentials and new keys as bytes. Each makes a call of its operands and performs it, as a call record is.
 // include/negvask.h describes them.
+use adapter::Wire;
 use card::Call;
 use card::ForceOperands;
 use card::Port;
@@ -442,15 +443,16 @@ pub extern "C" fn negvask_serve(
     pointers: &mut [u32],
     windows: &mut [u64],
     contents: &mut [u8],
+    port: u8,
     kind: u8,
     body: &[u8],
     out: &mut [u8],
     places: &mut [u16],
     value: &mut u64,
 ) -> u32
-    ensures { λ r. ⌜ EffectsLent (recordEffect kind (now (body .entry))) info flags keys counts pointers windows contents out places value r ⌝ }
+    ensures { λ r. ⌜ EffectsLent (recordEffect port kind (now (body .entry))) info flags keys counts pointers windows contents out places value r ⌝ }
 {
-    let parsed = records::decode(kind, body);
+    let parsed = adapter::decode_at(port, kind, body);
     let decoding = parsed.decoding;
     let from = parsed.payload;
     let end = parsed.end;
@@ -485,7 +487,7 @@ fn stop_number(stop: Stop) -> u32
     }
 }
 
-// The records of an input served into `answers`, with one audit: how many, and how far both went.
+// The records of an input that arrives at a port, served into `answers` with one audit: how many, and how far both went.
 #[no_mangle]
 pub extern "C" fn negvask_batch(
     info: &mut [u64],
@@ -495,18 +497,23 @@ pub extern "C" fn negvask_batch(
     pointers: &mut [u32],
     windows: &mut [u64],
     contents: &mut [u8],
+    port: u8,
     input: &[u8],
     answers: &mut [u8],
     records: &mut u64,
     read: &mut u64,
     written: &mut u64,
 ) -> u32
-    ensures { λ r. ⌜ ServesBatch info flags keys counts pointers windows contents input answers records read written r ⌝ }
+    ensures { λ r. ⌜ ServesBatch port info flags keys counts pointers windows contents input answers records read written r ⌝ }
 {
+    let Wire::At(wire) = adapter::wire_of(port) else {
+        return 13;
+    };
     if info.len() != adapter::RECORD_LENGTH {
         return 1;
     }
     let part = batch::serve(
+        wire,
         adapter::load(info),
         flags,
         keys,

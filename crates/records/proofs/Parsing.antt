@@ -38,8 +38,8 @@ body-room name e h = rw (body-is name e) at h
 
 -- ---- what is returned
 
-pub parsed-bad : (wire : Port) (kind : ℕ) (xs : List ℕ) {r : Parsed} → r ≡ parsedBad → Bad ≡ decodeBody wire kind xs → ParsedIs wire kind xs r
-parsed-bad wire kind xs b e =
+pub parsed-bad : {want : Decoding} (xs : List ℕ) {r : Parsed} → r ≡ parsedBad → Bad ≡ want → ParsedIs want xs r
+parsed-bad xs b e =
     rw b
     (record {
       decodes = e;
@@ -64,7 +64,7 @@ module _ (wire : Port) (kind : ℕ) (xs : List ℕ) {known : Kind} {port : Port}
       same : {a b : Port} {m n : Name} → Known a m ≡ Known b n → m ≡ n
       same k = cc
 
-  pub parsed-call : ParsedIs wire kind xs (record { decoding = d; payload = l .operands; end = l .body })
+  pub parsed-call : ParsedIs (decodeBody wire kind xs) xs (record { decoding = d; payload = l .operands; end = l .body })
   parsed-call = record {
     decodes = decodes;
     ordered = omega (arith, body-is name lengths, operands-are name lengths, operands-most name);

@@ -1,4 +1,4 @@
--- What the decoder gives of a kind and the bytes behind it, by the port at which they arrive.
+-- What the decoder gives of a kind and the bytes behind it.
 use Prim.Native.Nat.{ℕ, _≤_}
 use mathlib.Core.Path.{_≡_}
 use mathlib.Core.List.{List}
@@ -6,16 +6,17 @@ use lib.ListN.{length}
 use Rattle.card.specs.declared.Port.{Port}
 use Rattle.card.specs.declared.Call.{Call}
 use Rattle.kinds.specs.Kinds.{lengthOf, operandsLength}
-use Rattle.records.specs.Decode.{nameOf, decodeBody}
+use Rattle.records.specs.Decode.{nameOf}
+use Rattle.records.specs.declared.Decoding.{Decoding}
 use Rattle.records.specs.declared.Decoding.the-variants.{Decoded, Bad}
 use Rattle.records.specs.declared.Parsed.{Parsed}
 
 abbrev pub parsedBad : Parsed
 parsedBad = record { decoding = Bad; payload = 0; end = 0 }
 
--- A decoded call with the places of its body: its data start behind its operands. Both places lie within the bytes in any case.
-pub record ParsedIs (wire : Port) (kind : ℕ) (xs : List ℕ) (r : Parsed) : Type 0 where
-  pub decodes : r .decoding ≡ decodeBody wire kind xs
+-- What was to be decoded, with the places of its body: its data start behind its operands. Both places lie within the bytes in any case.
+pub record ParsedIs (want : Decoding) (xs : List ℕ) (r : Parsed) : Type 0 where
+  pub decodes : r .decoding ≡ want
   pub ordered : r .payload ≤ r .end
   pub within : r .end ≤ length xs
   pub payloadAt : {port : Port} {call : Call} → r .decoding ≡ Decoded port call → r .payload ≡ operandsLength (nameOf call)

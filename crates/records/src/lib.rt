@@ -20,7 +20,7 @@ ghost use mathlib.Core.Path.{_≡_};
 ghost use Prim.Native.Nat.{_≤_};
 ghost use lib.ListN.{length};
 ghost use Rattle.kinds.specs.Kinds.{lengthOf};
-ghost use Rattle.records.specs.Decode.{readWith, writeWith, allocWith, createWith, deleteWith, keyWith, renewWith, decodeCall};
+ghost use Rattle.records.specs.Decode.{readWith, writeWith, allocWith, createWith, deleteWith, keyWith, renewWith, decodeCall, decodeBody};
 ghost use Rattle.records.specs.Parsed.{parsedBad, ParsedIs};
 
 // A call at its port, or refusal 13.
@@ -312,7 +312,7 @@ fn decode_call(port: Port, name: Name, body: &[u8]) -> Decoding
 }
 
 // Refusal 13: there is no body.
-fn bad() -> Parsed
+pub fn bad() -> Parsed
     ensures { λ r. ⌜ r ≡ parsedBad ⌝ }
 {
     Parsed {
@@ -324,7 +324,7 @@ fn bad() -> Parsed
 
 // What a kind and the bytes behind it hold, of which only the body's are looked at.
 pub fn decode(wire: Port, kind: u8, body: &[u8]) -> Parsed
-    ensures { λ r. ⌜ ParsedIs wire kind (now (body .entry)) r ⌝ }
+    ensures { λ r. ⌜ ParsedIs (decodeBody wire kind (now (body .entry))) (now (body .entry)) r ⌝ }
 {
     let known = kinds::kind_of(wire, kind);
     let Kind::Known(port, name) = known else {

@@ -43,7 +43,7 @@ add-count : tie.Need-add-count Inv-loop μ-loop
 add-count c =
     let at-loop : tie.At-loop Inv-loop μ-loop = search in
     let start : tie.Start Inv-loop μ-loop = search in
-    omega (arith, at-loop .loop .inv .serving .counted, at-loop .loop .inv .serving .within, start .good .1 .1 .1 .1 .1 .1 .1 .0 .1)
+    omega (arith, at-loop .loop .inv .serving .counted, at-loop .loop .inv .serving .within, start .good .1 .1 .1 .1 .1 .1 .1 .1 .0 .1)
 
 loop-less : tie.Need-loop-less Inv-loop μ-loop
 loop-less c =
@@ -61,14 +61,14 @@ loop-again c =
     let start = start-from-slice-known7 at-slice-known7 in
     record {
       tables = record {
-        sameFlags = at-serve-turn .serve-turn .kept .1 .1 .0 ∙ at-loop .loop .inv .tables .sameFlags;
-        sameKeys = at-serve-turn .serve-turn .kept .1 .1 .1 .0 ∙ at-loop .loop .inv .tables .sameKeys;
-        sameCounts = at-serve-turn .serve-turn .kept .1 .1 .1 .1 .0 ∙ at-loop .loop .inv .tables .sameCounts;
-        samePointers = at-serve-turn .serve-turn .kept .1 .1 .1 .1 .1 .0 ∙ at-loop .loop .inv .tables .samePointers;
-        sameWindows = at-serve-turn .serve-turn .kept .1 .1 .1 .1 .1 .1 .0 ∙ at-loop .loop .inv .tables .sameWindows;
-        sameContents = at-serve-turn .serve-turn .kept .1 .1 .1 .1 .1 .1 .1 .0 ∙ at-loop .loop .inv .tables .sameContents;
+        sameFlags = at-serve-turn .serve-turn .kept .1 .1 .1 .0 ∙ at-loop .loop .inv .tables .sameFlags;
+        sameKeys = at-serve-turn .serve-turn .kept .1 .1 .1 .1 .0 ∙ at-loop .loop .inv .tables .sameKeys;
+        sameCounts = at-serve-turn .serve-turn .kept .1 .1 .1 .1 .1 .0 ∙ at-loop .loop .inv .tables .sameCounts;
+        samePointers = at-serve-turn .serve-turn .kept .1 .1 .1 .1 .1 .1 .0 ∙ at-loop .loop .inv .tables .samePointers;
+        sameWindows = at-serve-turn .serve-turn .kept .1 .1 .1 .1 .1 .1 .1 .0 ∙ at-loop .loop .inv .tables .sameWindows;
+        sameContents = at-serve-turn .serve-turn .kept .1 .1 .1 .1 .1 .1 .1 .1 .0 ∙ at-loop .loop .inv .tables .sameContents;
       };
-      sameAnswers = at-serve-turn .serve-turn .kept .1 .1 .1 .1 .1 .1 .1 .1 .1 .1 .0 ∙ at-loop .loop .inv .sameAnswers;
+      sameAnswers = at-serve-turn .serve-turn .kept .1 .1 .1 .1 .1 .1 .1 .1 .1 .1 .1 .0 ∙ at-loop .loop .inv .sameAnswers;
       serving = serving-more (start .args .wire) _ (start .args .input .now) (start .args .answers .now) (at-loop .loop .inv .serving) (at-serve-turn .serve-turn .ensures) (sym (c .before .went .ensures) ∙ c .if1 .taken);
     }
 
@@ -76,43 +76,43 @@ same-length : tie.Need-same-length Inv-loop μ-loop
 same-length c =
     let at-serve-turn : tie.After-serve-turn Inv-loop μ-loop = search in
     let at-loop : tie.At-loop Inv-loop μ-loop = search in
-    at-serve-turn .serve-turn .kept .1 .1 .0 ∙ at-loop .loop .inv .tables .sameFlags
+    at-serve-turn .serve-turn .kept .1 .1 .1 .0 ∙ at-loop .loop .inv .tables .sameFlags
 
 same-length-2 : tie.Need-same-length-2 Inv-loop μ-loop
 same-length-2 c =
     let at-serve-turn : tie.After-serve-turn Inv-loop μ-loop = search in
     let at-loop : tie.At-loop Inv-loop μ-loop = search in
-    at-serve-turn .serve-turn .kept .1 .1 .1 .0 ∙ at-loop .loop .inv .tables .sameKeys
+    at-serve-turn .serve-turn .kept .1 .1 .1 .1 .0 ∙ at-loop .loop .inv .tables .sameKeys
 
 same-length-3 : tie.Need-same-length-3 Inv-loop μ-loop
 same-length-3 c =
     let at-serve-turn : tie.After-serve-turn Inv-loop μ-loop = search in
     let at-loop : tie.At-loop Inv-loop μ-loop = search in
-    at-serve-turn .serve-turn .kept .1 .1 .1 .1 .0 ∙ at-loop .loop .inv .tables .sameCounts
+    at-serve-turn .serve-turn .kept .1 .1 .1 .1 .1 .0 ∙ at-loop .loop .inv .tables .sameCounts
 
 same-length-4 : tie.Need-same-length-4 Inv-loop μ-loop
 same-length-4 c =
     let at-serve-turn : tie.After-serve-turn Inv-loop μ-loop = search in
     let at-loop : tie.At-loop Inv-loop μ-loop = search in
-    at-serve-turn .serve-turn .kept .1 .1 .1 .1 .1 .0 ∙ at-loop .loop .inv .tables .samePointers
+    at-serve-turn .serve-turn .kept .1 .1 .1 .1 .1 .1 .0 ∙ at-loop .loop .inv .tables .samePointers
 
 same-length-5 : tie.Need-same-length-5 Inv-loop μ-loop
 same-length-5 c =
     let at-serve-turn : tie.After-serve-turn Inv-loop μ-loop = search in
     let at-loop : tie.At-loop Inv-loop μ-loop = search in
-    at-serve-turn .serve-turn .kept .1 .1 .1 .1 .1 .1 .0 ∙ at-loop .loop .inv .tables .sameWindows
+    at-serve-turn .serve-turn .kept .1 .1 .1 .1 .1 .1 .1 .0 ∙ at-loop .loop .inv .tables .sameWindows
 
 same-length-6 : tie.Need-same-length-6 Inv-loop μ-loop
 same-length-6 c =
     let at-serve-turn : tie.After-serve-turn Inv-loop μ-loop = search in
     let at-loop : tie.At-loop Inv-loop μ-loop = search in
-    at-serve-turn .serve-turn .kept .1 .1 .1 .1 .1 .1 .1 .0 ∙ at-loop .loop .inv .tables .sameContents
+    at-serve-turn .serve-turn .kept .1 .1 .1 .1 .1 .1 .1 .1 .0 ∙ at-loop .loop .inv .tables .sameContents
 
 same-length-7 : tie.Need-same-length-7 Inv-loop μ-loop
 same-length-7 c =
     let at-serve-turn : tie.After-serve-turn Inv-loop μ-loop = search in
     let at-loop : tie.At-loop Inv-loop μ-loop = search in
-    at-serve-turn .serve-turn .kept .1 .1 .1 .1 .1 .1 .1 .1 .1 .1 .0 ∙ at-loop .loop .inv .sameAnswers
+    at-serve-turn .serve-turn .kept .1 .1 .1 .1 .1 .1 .1 .1 .1 .1 .1 .0 ∙ at-loop .loop .inv .sameAnswers
 
 returns : tie.Need-returns Inv-loop μ-loop
 returns c =
