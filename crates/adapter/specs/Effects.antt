@@ -16,7 +16,7 @@ use Rattle.card.specs.declared.Answer.the-variants.{Refused, Done, Value}
 use Rattle.records.specs.Decode.{nameOf, dataOf}
 use Rattle.records.specs.declared.Decoding.{Decoding}
 use Rattle.records.specs.declared.Decoding.the-variants.{Decoded, Bad}
-use Rattle.adapter.specs.Numbers.{recordLength, recordOf, numbersOf, wireOf, decodeAt}
+use Rattle.adapter.specs.Numbers.{recordLength, recordOf, numbersOf}
 
 pub record Effect : Type 0 where
   pub number : ℕ
@@ -64,10 +64,6 @@ formatEffect blocks roots bytes info c =
 unfoldable pub dataIn : Decoding → List ℕ → List ℕ
 dataIn (Decoded port call) body = dataOf (nameOf call) body
 dataIn Bad body = []
-
--- A record that arrives at the port of a number.
-unfoldable pub recordEffect : ℕ → ℕ → List ℕ → List ℕ → List ℕ → ℕ → List ℕ → Card → Effect
-recordEffect port kind body out places value info c = let d = decodeAt (wireOf port) kind body in effect d (dataIn d body) out places value info c
 
 -- ---- what the contracts cite
 

@@ -24,8 +24,8 @@ use Rattle.records.specs.Parsed.{ParsedIs}
 use Rattle.records.specs.declared.Decoding.{Decoding}
 use Rattle.records.specs.declared.Decoding.the-variants.{Decoded, Bad}
 use Rattle.records.specs.declared.Parsed.{Parsed}
-use Rattle.adapter.specs.Numbers.{recordLength, recordOf, numbersOf, wireOf, decodeAt}
-use Rattle.adapter.specs.Effects.{Effect, valueAfter, effectOf, effect, formatEffect, dataIn, recordEffect, Does, Gives}
+use Rattle.adapter.specs.Numbers.{recordLength, recordOf, numbersOf}
+use Rattle.adapter.specs.Effects.{Effect, valueAfter, effectOf, effect, formatEffect, dataIn, Does, Gives}
 
 -- The number of a refusal fits 32 bits.
 pub refusal-small : (r : Refusal) → refusalNumber r ≤ 13
@@ -139,8 +139,7 @@ data-part body p port call e =
     (ap₂ (λ (m n : ℕ). m - n) (p .endAt e) (p .payloadAt e) ∙ sym (data-right (nameOf call)))
     (p .payloadAt e))
 
-pub of-record : (port kind : ℕ) (body out places : List ℕ) (value : ℕ) (info : List ℕ) (c : Card) {r : Parsed} {number given : ℕ} {info' : List ℕ} {after : Card} {out' places' : List ℕ}
-    → ParsedIs (decodeAt (wireOf port) kind body) body r → Gives (effect (r .decoding) (take (r .end - r .payload) (drop (r .payload) body)) out places value info c) number given info' after out' places'
-    → Gives (recordEffect port kind body out places value info c) number given info' after out' places'
-unfolding recordEffect
-of-record port kind body out places value info c {r} p g = rw (← p .decodes, ← same-input (r .decoding) out places value info c (data-part body p)) g
+pub of-record : {want : Decoding} (body out places : List ℕ) (value : ℕ) (info : List ℕ) (c : Card) {r : Parsed} {number given : ℕ} {info' : List ℕ} {after : Card} {out' places' : List ℕ}
+    → ParsedIs want body r → Gives (effect (r .decoding) (take (r .end - r .payload) (drop (r .payload) body)) out places value info c) number given info' after out' places'
+    → Gives (effect want (dataIn want body) out places value info c) number given info' after out' places'
+of-record body out places value info c {r} p g = rw (← p .decodes, ← same-input (r .decoding) out places value info c (data-part body p)) g

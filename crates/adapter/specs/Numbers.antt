@@ -4,8 +4,6 @@ use mathlib.Core.Bool.{cond}
 use mathlib.Core.List.{List, [], _∷_}
 use lib.Dec.{eqb}
 use lib.ListN.{length, getD}
-use denote.Ref.{now}
-use Rattle.card.specs.Lent.{Lent}
 use Rattle.card.specs.declared.Info.{Info}
 use Rattle.card.specs.declared.Port.the-variants.{Host, Service}
 use Rattle.fields.specs.Fields.{credential, newKey}
@@ -38,13 +36,6 @@ credentialOf xs = cond (eqb (length xs) 17) (credential xs) InvalidCredential
 
 unfoldable pub newKeyOf : List ℕ → ParsedKey
 newKeyOf xs = cond (eqb (length xs) 17) (newKey xs) InvalidKey
-
--- Of the bytes that a function is lent.
-abbrev pub credentialAt : Lent → ParsedCredential
-credentialAt bytes = credentialOf (now (bytes .entry))
-
-abbrev pub newKeyAt : Lent → ParsedKey
-newKeyAt bytes = newKeyOf (now (bytes .entry))
 
 -- ---- ports
 

@@ -1,4 +1,4 @@
--- Laws of the record as numbers.
+-- Laws of the record and of ports as numbers.
 -- Assumes nothing.
 use Prim.Native.Nat.{ℕ, _<_}
 use mathlib.Core.Path.{_≡_, refl, ap, _∙_}
@@ -8,7 +8,16 @@ use lib.ListN.{length, getD, set, length-set}
 use Rattle.card.specs.Plan.{withUsed, withTime}
 use Rattle.card.specs.Calls.{freshInfo}
 use Rattle.card.specs.declared.Info.{Info}
-use Rattle.adapter.specs.Numbers.{recordLength, recordOf, numbersOf}
+use Rattle.card.specs.declared.Port.{Port}
+use Rattle.card.specs.declared.Call.{Call}
+use Rattle.records.specs.Decode.{decodeBody}
+use Rattle.records.specs.Parsed.{ParsedIs}
+use Rattle.records.specs.declared.Decoding.{Decoding}
+use Rattle.records.specs.declared.Decoding.the-variants.{Decoded, Bad}
+use Rattle.records.specs.declared.Parsed.{Parsed}
+use Rattle.adapter.specs.Numbers.{recordLength, recordOf, numbersOf, wireOf, callAt, atPort, decodeAt}
+use Rattle.adapter.specs.declared.Wire.{Wire}
+use Rattle.adapter.specs.declared.Wire.the-variants.{At, Nowhere}
 
 pub loaded : (xs : List ℕ) {fresh used timed : Info} → fresh ≡ freshInfo (getD xs 0 0) (getD xs 1 0) (getD xs 2 0) → used ≡ withUsed fresh (getD xs 3 0) → timed ≡ withTime used (getD xs 4 0)
     → timed ≡ recordOf xs
@@ -26,3 +35,27 @@ stored (a ∷ b ∷ []) i h = absurd (omega arith)
 stored (a ∷ b ∷ c ∷ []) i h = absurd (omega arith)
 stored (a ∷ b ∷ c ∷ d ∷ []) i h = absurd (omega arith)
 stored (a ∷ b ∷ c ∷ d ∷ e ∷ f ∷ xs) i h = absurd (omega arith)
+
+-- ---- ports
+
+module _ (port : ℕ) {w : Wire} (found : w ≡ wireOf port) where
+  pub call-nowhere : {d : Decoding} {at : Port} {call : Call} → d ≡ Decoded at call → w ≡ Nowhere → Bad ≡ atPort port d
+  unfolding atPort callAt
+  call-nowhere e n = rw (e, ← found, n)
+
+  pub call-at : {d : Decoding} {at wire : Port} {call : Call} → d ≡ Decoded at call → w ≡ At wire → Decoded wire call ≡ atPort port d
+  unfolding atPort callAt
+  call-at e a = rw (e, ← found, a)
+
+  pub decodes-nowhere : (kind : ℕ) (xs : List ℕ) → w ≡ Nowhere → Bad ≡ decodeAt (wireOf port) kind xs
+  unfolding decodeAt
+  decodes-nowhere kind xs n = rw (← found, n)
+
+  pub decodes-at : (kind : ℕ) (xs : List ℕ) {wire : Port} {r : Parsed} → w ≡ At wire → ParsedIs (decodeBody wire kind xs) xs r → ParsedIs (decodeAt (wireOf port) kind xs) xs r
+  unfolding decodeAt
+  decodes-at kind xs a p = rw (← found, a) p
+
+-- There is no call.
+pub call-bad : (port : ℕ) {d : Decoding} → d ≡ Bad → Bad ≡ atPort port d
+unfolding atPort
+call-bad port e = rw e

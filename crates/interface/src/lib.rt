@@ -10,11 +10,8 @@ use input::Stop;
 use records::Decoding;
 ghost use mathlib.Core.Path.{_≡_};
 ghost use mathlib.Core.List.{[]};
-ghost use Rattle.card.specs.declared.Port.the-variants.{Host};
-ghost use Rattle.records.specs.Decode.{readWith, writeWith, allocWith, createWith, deleteWith, keyWith, renewWith};
-ghost use Rattle.records.specs.declared.Decoding.the-variants.{Decoded};
-ghost use Rattle.adapter.specs.Numbers.{credentialAt, newKeyAt, atPort};
-ghost use Rattle.adapter.specs.Effects.{effect, formatEffect, recordEffect, Effects, EffectsGiving, EffectsLent};
+ghost use Rattle.adapter.specs.Effects.{formatEffect, Effects, EffectsGiving, EffectsLent};
+ghost use Rattle.interface.specs.Functions.{read, write, alloc, create, delete, key, renew, force, tick, free, audit, serve, effectBy};
 ghost use Rattle.interface.specs.Batch.{stopNumber, ServesBatch};
 
 // ---- the calls, by their operands
@@ -35,7 +32,7 @@ pub extern "C" fn negvask_read(
     interval: u32,
     out: &mut [u8],
 ) -> u32
-    ensures { λ r. ⌜ Effects (effect (atPort port (readWith Host block (credentialAt credential) interval)) [] (now (out .entry)) [] 0) info flags keys counts pointers windows contents r (now (out .exit)) [] ⌝ }
+    ensures { λ r. ⌜ Effects (effectBy (read port block (now (credential .entry)) interval (now (out .entry)))) info flags keys counts pointers windows contents r (now (out .exit)) [] ⌝ }
 {
     let parsed = adapter::credential_of(credential);
     let made = records::read_with(Port::Host, block, parsed, interval);
@@ -73,7 +70,7 @@ pub extern "C" fn negvask_write(
     interval: u32,
     bytes: &[u8],
 ) -> u32
-    ensures { λ r. ⌜ Effects (effect (atPort port (writeWith Host block (credentialAt credential) interval)) (now (bytes .entry)) [] [] 0) info flags keys counts pointers windows contents r [] [] ⌝ }
+    ensures { λ r. ⌜ Effects (effectBy (write port block (now (credential .entry)) interval (now (bytes .entry)))) info flags keys counts pointers windows contents r [] [] ⌝ }
 {
     let parsed = adapter::credential_of(credential);
     let made = records::write_with(Port::Host, block, parsed, interval);
@@ -110,7 +107,7 @@ pub extern "C" fn negvask_alloc(
     count: u8,
     places: &mut [u16],
 ) -> u32
-    ensures { λ r. ⌜ Effects (effect (atPort port (allocWith Host block (credentialAt credential) hint count)) [] [] (now (places .entry)) 0) info flags keys counts pointers windows contents r [] (now (places .exit)) ⌝ }
+    ensures { λ r. ⌜ Effects (effectBy (alloc port block (now (credential .entry)) hint count (now (places .entry)))) info flags keys counts pointers windows contents r [] (now (places .exit)) ⌝ }
 {
     let parsed = adapter::credential_of(credential);
     let made = records::alloc_with(Port::Host, block, parsed, hint, count);
@@ -148,7 +145,7 @@ pub extern "C" fn negvask_create(
     destination: u16,
     second: &[u8],
 ) -> u32
-    ensures { λ r. ⌜ Effects (effect (atPort port (createWith Host source (credentialAt credential) destination (credentialAt second))) [] [] [] 0) info flags keys counts pointers windows contents r [] [] ⌝ }
+    ensures { λ r. ⌜ Effects (effectBy (create port source (now (credential .entry)) destination (now (second .entry)))) info flags keys counts pointers windows contents r [] [] ⌝ }
 {
     let first = adapter::credential_of(credential);
     let other = adapter::credential_of(second);
@@ -185,7 +182,7 @@ pub extern "C" fn negvask_delete(
     destination: u16,
     value: &mut u64,
 ) -> u32
-    ensures { λ r. ⌜ EffectsGiving (effect (atPort port (deleteWith Host source (credentialAt credential) destination)) [] [] []) info flags keys counts pointers windows contents value r ⌝ }
+    ensures { λ r. ⌜ EffectsGiving (λ v. effectBy (delete port source (now (credential .entry)) destination v)) info flags keys counts pointers windows contents value r ⌝ }
 {
     let parsed = adapter::credential_of(credential);
     let made = records::delete_with(Port::Host, source, parsed, destination);
@@ -220,7 +217,7 @@ pub extern "C" fn negvask_key(
     read: &[u8],
     write: &[u8],
 ) -> u32
-    ensures { λ r. ⌜ Effects (effect (atPort port (keyWith Host block (credentialAt credential) (newKeyAt read) (newKeyAt write))) [] [] [] 0) info flags keys counts pointers windows contents r [] [] ⌝ }
+    ensures { λ r. ⌜ Effects (effectBy (key port block (now (credential .entry)) (now (read .entry)) (now (write .entry)))) info flags keys counts pointers windows contents r [] [] ⌝ }
 {
     let parsed = adapter::credential_of(credential);
     let reading = adapter::new_key_of(read);
@@ -257,7 +254,7 @@ pub extern "C" fn negvask_renew(
     key: &[u8],
     interval: u32,
 ) -> u32
-    ensures { λ r. ⌜ Effects (effect (renewWith Host mode block (credentialAt key) interval) [] [] [] 0) info flags keys counts pointers windows contents r [] [] ⌝ }
+    ensures { λ r. ⌜ Effects (effectBy (renew mode block (now (key .entry)) interval)) info flags keys counts pointers windows contents r [] [] ⌝ }
 {
     let parsed = adapter::credential_of(key);
     let decoding = records::renew_with(Port::Host, mode, block, parsed, interval);
@@ -288,7 +285,7 @@ pub extern "C" fn negvask_force(
     contents: &mut [u8],
     block: u16,
 ) -> u32
-    ensures { λ r. ⌜ Effects (effect (Decoded Host (Call.Force (record { block = block }))) [] [] [] 0) info flags keys counts pointers windows contents r [] [] ⌝ }
+    ensures { λ r. ⌜ Effects (effectBy (force block)) info flags keys counts pointers windows contents r [] [] ⌝ }
 {
     let decoding = Decoding::Decoded(Port::Host, Call::Force(ForceOperands { block }));
     let mut value = 0;
@@ -319,7 +316,7 @@ pub extern "C" fn negvask_tick(
     seconds: u64,
     value: &mut u64,
 ) -> u32
-    ensures { λ r. ⌜ EffectsGiving (effect (Decoded Host (Call.Tick (record { seconds = seconds }))) [] [] []) info flags keys counts pointers windows contents value r ⌝ }
+    ensures { λ r. ⌜ EffectsGiving (λ v. effectBy (tick seconds v)) info flags keys counts pointers windows contents value r ⌝ }
 {
     let decoding = Decoding::Decoded(Port::Host, Call::Tick(TickOperands { seconds }));
     adapter::perform_without_buffers(
@@ -348,7 +345,7 @@ pub extern "C" fn negvask_free(
     contents: &mut [u8],
     value: &mut u64,
 ) -> u32
-    ensures { λ r. ⌜ EffectsGiving (effect (Decoded Host Call.Free) [] [] []) info flags keys counts pointers windows contents value r ⌝ }
+    ensures { λ r. ⌜ EffectsGiving (λ v. effectBy (free v)) info flags keys counts pointers windows contents value r ⌝ }
 {
     let decoding = Decoding::Decoded(Port::Host, Call::Free);
     adapter::perform_without_buffers(
@@ -376,7 +373,7 @@ pub extern "C" fn negvask_audit(
     windows: &mut [u64],
     contents: &mut [u8],
 ) -> u32
-    ensures { λ r. ⌜ Effects (effect (Decoded Host Call.Audit) [] [] [] 0) info flags keys counts pointers windows contents r [] [] ⌝ }
+    ensures { λ r. ⌜ Effects (effectBy audit) info flags keys counts pointers windows contents r [] [] ⌝ }
 {
     let decoding = Decoding::Decoded(Port::Host, Call::Audit);
     let mut value = 0;
@@ -450,7 +447,7 @@ pub extern "C" fn negvask_serve(
     places: &mut [u16],
     value: &mut u64,
 ) -> u32
-    ensures { λ r. ⌜ EffectsLent (recordEffect port kind (now (body .entry))) info flags keys counts pointers windows contents out places value r ⌝ }
+    ensures { λ r. ⌜ EffectsLent (λ o p v. effectBy (serve port kind (now (body .entry)) o p v)) info flags keys counts pointers windows contents out places value r ⌝ }
 {
     let parsed = adapter::decode_at(port, kind, body);
     let decoding = parsed.decoding;

@@ -9,7 +9,7 @@ use Rattle.interface.proofs.negvask_serve.Tie as tie
 abbrev at-perform : tie.After-slice-known18 → tie.After-perform
 at-perform c = c .before .before .before .before .before .before .before .before .before .before .before .before .before .before .before .before .before .before
 
-abbrev at-decode : tie.After-slice-known18 → tie.After-decode
+abbrev at-decode : tie.After-slice-known18 → tie.After-decode-at
 at-decode c = at-perform c .before .before .before .before .before .before .before .before .before .before .before .before
 
 abbrev start : tie.After-slice-known18 → tie.Start
@@ -17,8 +17,8 @@ start c = at-decode c .before .before .before .before .before .before .before .b
 
 -- ---- answers
 
-decode-requires : tie.Need-decode-requires
-decode-requires c κs = search needs
+decode-at-requires : tie.Need-decode-at-requires
+decode-at-requires c κs = search needs
 
 sub-perform : tie.Need-sub-perform
 sub-perform c = search needs
@@ -60,13 +60,13 @@ same-length-9 : tie.Need-same-length-9
 same-length-9 c = at-perform c .perform .kept .1 .1 .1 .1 .1 .1 .1 .1 .1 .1 .0
 
 returns : tie.Need-returns
-returns c = of-record (start c .args .kind) (start c .args .body .now) (start c .args .out .now) (start c .args .places .now) (start c .args .value .now) (start c .args .info .now) _ (at-decode c .decode .ensures) (at-perform c .perform .ensures)
+returns c = of-record (start c .args .body .now) (start c .args .out .now) (start c .args .places .now) (start c .args .value .now) (start c .args .info .now) _ (at-decode c .decode-at .ensures) (at-perform c .perform .ensures)
 
 pub negvask-serve-spec : {M : Type 1} → statement M
 negvask-serve-spec =
     tie.close
     (tie.spec
-    decode-requires
+    decode-at-requires
     sub-perform
     part-perform-start
     part-perform-end

@@ -1,0 +1,57 @@
+-- The functions that C links, with their operands and what is lent with them beside the record and the tables; and what each does.
+use Prim.Native.Nat.{ℕ}
+use mathlib.Core.List.{List, []}
+use Rattle.card.specs.Card.{Card}
+use Rattle.card.specs.declared.Port.the-variants.{Host}
+use Rattle.card.specs.declared.Call.the-variants.{Force, Free, Tick, Audit}
+use Rattle.records.specs.Decode.{readWith, writeWith, allocWith, createWith, deleteWith, keyWith, renewWith}
+use Rattle.records.specs.declared.Decoding.{Decoding}
+use Rattle.records.specs.declared.Decoding.the-variants.{Decoded}
+use Rattle.adapter.specs.Numbers.{credentialOf, newKeyOf, wireOf, atPort, decodeAt}
+use Rattle.adapter.specs.Effects.{Effect, effect, dataIn}
+
+-- A port, where one is passed, is the number that C passes. A buffer, and the place of a result, is what it holds.
+pub data Function : Type 0 where
+  read : (port block : ℕ) (credential : List ℕ) (interval : ℕ) (out : List ℕ) → Function
+  write : (port block : ℕ) (credential : List ℕ) (interval : ℕ) (bytes : List ℕ) → Function
+  alloc : (port block : ℕ) (credential : List ℕ) (hint count : ℕ) (places : List ℕ) → Function
+  create : (port source : ℕ) (credential : List ℕ) (destination : ℕ) (second : List ℕ) → Function
+  delete : (port source : ℕ) (credential : List ℕ) (destination value : ℕ) → Function
+  key : (port block : ℕ) (credential newRead newWrite : List ℕ) → Function
+  renew : (mode block : ℕ) (credential : List ℕ) (interval : ℕ) → Function
+  force : (block : ℕ) → Function
+  tick : (seconds value : ℕ) → Function
+  free : (value : ℕ) → Function
+  audit : Function
+  serve : (port kind : ℕ) (body out places : List ℕ) (value : ℕ) → Function
+
+-- What a function makes of its operands: a call at a port, or refusal 13; and what is lent with it.
+pub record Lending : Type 0 where
+  pub decoding : Decoding
+  pub input : List ℕ
+  pub out : List ℕ
+  pub places : List ℕ
+  pub value : ℕ
+
+abbrev pub lending : Decoding → List ℕ → List ℕ → List ℕ → ℕ → Lending
+lending decoding input out places value = record { decoding = decoding; input = input; out = out; places = places; value = value }
+
+-- A function without a port is a host's, or serves either port alike.
+abbrev pub lendingOf : Function → Lending
+lendingOf (read port block credential interval out) = lending (atPort port (readWith Host block (credentialOf credential) interval)) [] out [] 0
+lendingOf (write port block credential interval bytes) = lending (atPort port (writeWith Host block (credentialOf credential) interval)) bytes [] [] 0
+lendingOf (alloc port block credential hint count places) = lending (atPort port (allocWith Host block (credentialOf credential) hint count)) [] [] places 0
+lendingOf (create port source credential destination second) = lending (atPort port (createWith Host source (credentialOf credential) destination (credentialOf second))) [] [] [] 0
+lendingOf (delete port source credential destination value) = lending (atPort port (deleteWith Host source (credentialOf credential) destination)) [] [] [] value
+lendingOf (key port block credential newRead newWrite) = lending (atPort port (keyWith Host block (credentialOf credential) (newKeyOf newRead) (newKeyOf newWrite))) [] [] [] 0
+lendingOf (renew mode block credential interval) = lending (renewWith Host mode block (credentialOf credential) interval) [] [] [] 0
+lendingOf (force block) = lending (Decoded Host (Force (record { block = block }))) [] [] [] 0
+lendingOf (tick seconds value) = lending (Decoded Host (Tick (record { seconds = seconds }))) [] [] [] value
+lendingOf (free value) = lending (Decoded Host Free) [] [] [] value
+lendingOf audit = lending (Decoded Host Audit) [] [] [] 0
+lendingOf (serve port kind body out places value) =
+    lending (decodeAt (wireOf port) kind body) (dataIn (decodeAt (wireOf port) kind body) body) out places value
+
+-- What the function does, on a record and a card.
+abbrev pub effectBy : Function → List ℕ → Card → Effect
+effectBy f info c = effect (lendingOf f .decoding) (lendingOf f .input) (lendingOf f .out) (lendingOf f .places) (lendingOf f .value) info c
