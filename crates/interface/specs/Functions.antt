@@ -36,7 +36,6 @@ pub record Lending : Type 0 where
 abbrev pub lending : Decoding → List ℕ → List ℕ → List ℕ → ℕ → Lending
 lending decoding input out places value = record { decoding = decoding; input = input; out = out; places = places; value = value }
 
--- A function without a port is a host's, or serves either port alike.
 abbrev pub lendingOf : Function → Lending
 lendingOf (read port block credential interval out) = lending (atPort port (readWith Host block (credentialOf credential) interval)) [] out [] 0
 lendingOf (write port block credential interval bytes) = lending (atPort port (writeWith Host block (credentialOf credential) interval)) bytes [] [] 0
@@ -55,3 +54,18 @@ lendingOf (serve port kind body out places value) =
 -- What the function does, on a record and a card.
 abbrev pub effectBy : Function → List ℕ → Card → Effect
 effectBy f info c = effect (lendingOf f .decoding) (lendingOf f .input) (lendingOf f .out) (lendingOf f .places) (lendingOf f .value) info c
+
+-- The number of the port that it is called at. Without one it is a host's call, or serves either port alike.
+abbrev pub functionPort : Function → ℕ
+functionPort (read port block credential interval out) = port
+functionPort (write port block credential interval bytes) = port
+functionPort (alloc port block credential hint count places) = port
+functionPort (create port source credential destination second) = port
+functionPort (delete port source credential destination value) = port
+functionPort (key port block credential newRead newWrite) = port
+functionPort (renew mode block credential interval) = 0
+functionPort (force block) = 0
+functionPort (tick seconds value) = 0
+functionPort (free value) = 0
+functionPort audit = 0
+functionPort (serve port kind body out places value) = port

@@ -1,0 +1,135 @@
+-- A sequence of the functions that C links, each with the record and the tables that the one before left and nobody else writing to them.
+use Prim.Native.Nat.{ℕ, _-_}
+use mathlib.Core.Path.{_≡_}
+use mathlib.Core.Bool.{Bool, cond}
+use mathlib.Core.List.{List, [], _∷_, _++_, map}
+use lib.Dec.{eqb}
+use lib.ListN.{length, take}
+use Rattle.card.specs.Contents.{overwrite}
+use Rattle.card.specs.Card.{Card, card}
+use Rattle.card.specs.Session.{Request, Sent, request, afterAll}
+use Rattle.card.specs.Reach.{presented}
+use Rattle.card.specs.declared.Port.{Port}
+use Rattle.records.specs.declared.Decoding.{Decoding}
+use Rattle.records.specs.declared.Decoding.the-variants.{Decoded, Bad}
+use Rattle.input.specs.Play.{Play}
+use Rattle.input.specs.Arrivals.{arrivals, sentWith}
+use Rattle.batch.specs.Serve.{lentSize, serve}
+use Rattle.batch.specs.Held.{requestsIn}
+use Rattle.adapter.specs.Numbers.{recordLength, recordOf, wireOf}
+use Rattle.adapter.specs.Effects.{Effect, Gives}
+use Rattle.adapter.specs.declared.Wire.{Wire}
+use Rattle.adapter.specs.declared.Wire.the-variants.{At, Nowhere}
+use Rattle.interface.specs.Functions.{Function, Lending, lendingOf, effectBy, functionPort}
+use Rattle.interface.specs.Batch.{stopNumber, BatchState, BatchIs, batchState}
+
+-- What a caller lends to every function: the record and the six tables.
+pub record Memory : Type 0 where
+  pub info : List ℕ
+  pub flags : List ℕ
+  pub keys : List ℕ
+  pub counts : List ℕ
+  pub pointers : List ℕ
+  pub windows : List ℕ
+  pub contents : List ℕ
+
+abbrev pub cardOf : Memory → Card
+cardOf m = card (recordOf (m .info)) (m .flags) (m .keys) (m .counts) (m .pointers) (m .windows) (m .contents)
+
+-- A step of a caller: a function for one call, or a batch, with what its buffer and its three numbers hold.
+pub data Step : Type 0 where
+  calls : Function → Step
+  batches : (port : ℕ) (input answers : List ℕ) (records read written : ℕ) → Step
+
+-- What a step returns, and leaves in its buffers and numbers. Of a function without a result the value is the rule's, which nobody sees.
+pub data Returned : Type 0 where
+  fromCall : (number value : ℕ) (out places : List ℕ) → Returned
+  fromBatch : (number records read written : ℕ) (answers : List ℕ) → Returned
+
+-- ---- what the functions promise, chained
+
+abbrev pub stateOf : Memory → List ℕ → ℕ → ℕ → ℕ → BatchState
+stateOf m answers records read written = batchState (m .info) (m .flags) (m .keys) (m .counts) (m .pointers) (m .windows) (m .contents) answers records read written
+
+-- Each step does what its contract says, on the memory that the one before left.
+pub data Called : Memory → List Step → List Returned → Memory → Type 0 where
+  none : {m : Memory} → Called m [] [] m
+  called : {m n end : Memory} {f : Function} {steps : List Step} {rs : List Returned} {number value : ℕ} {out places : List ℕ}
+      → Gives (effectBy f (m .info) (cardOf m)) number value (n .info) (cardOf n) out places → Called n steps rs end
+      → Called m (calls f ∷ steps) (fromCall number value out places ∷ rs) end
+  batched : {m n end : Memory} {port : ℕ} {input answers answers' : List ℕ} {records read written number records' read' written' : ℕ} {steps : List Step} {rs : List Returned}
+      → BatchIs (wireOf port) (stateOf m answers records read written) input number (stateOf n answers' records' read' written') → Called n steps rs end
+      → Called m (batches port input answers records read written ∷ steps) (fromBatch number records' read' written' answers' ∷ rs) end
+
+-- ---- the calls of a sequence, and what it returns, by the rules
+
+-- The call that a function makes of its operands, if they hold one, with what is lent with it.
+unfoldable pub sentOf : Decoding → Lending → List Sent
+sentOf (Decoded port call) l = record { port = port; request = request call (l .input) (l .out) (l .places) } ∷ []
+sentOf Bad l = []
+
+-- Those that a batch makes of the records of its bytes: as many as it counts.
+unfoldable pub sentAt : Wire → Card → List ℕ → ℕ → List Sent
+sentAt (At wire) c input room =
+    take (serve wire c input room .records) (map (sentWith (lentSize (c .public .info .bytes))) (arrivals wire input .records))
+sentAt Nowhere c input room = []
+
+-- Where the record has not its five numbers no call is made.
+unfoldable pub callsOf : List ℕ → Card → Step → List Sent
+callsOf info c (calls f) = cond (eqb (length info) recordLength) (sentOf (lendingOf f .decoding) (lendingOf f)) []
+callsOf info c (batches port input answers records read written) = cond (eqb (length info) recordLength) (sentAt (wireOf port) c input (length answers)) []
+
+-- All calls of a sequence, in order, each step on the card that those before it left.
+unfoldable pub callsIn : List ℕ → Card → List Step → List Sent
+callsIn info c [] = []
+callsIn info c (s ∷ steps) = callsOf info c s ++ callsIn info (afterAll c (callsOf info c s)) steps
+
+abbrev pub byEffect : Effect → Returned
+byEffect e = fromCall (e .number) (e .value) (e .out) (e .places)
+
+-- What a batch returns, by what the rule makes of its bytes.
+abbrev pub byPlay : Play → List ℕ → List ℕ → Returned
+byPlay p input answers = fromBatch (stopNumber (p .stop)) (p .records) (length input - length (p .left)) (length (p .output)) (overwrite answers 0 (p .output))
+
+unfoldable pub batchReturns : Wire → Bool → Card → List ℕ → List ℕ → ℕ → ℕ → ℕ → Returned
+batchReturns (At wire) five c input answers records read written =
+    cond five (byPlay (serve wire c input (length answers)) input answers) (fromBatch 1 records read written answers)
+batchReturns Nowhere five c input answers records read written = fromBatch 13 records read written answers
+
+unfoldable pub returnsOf : List ℕ → Card → Step → Returned
+returnsOf info c (calls f) = byEffect (effectBy f info c)
+returnsOf info c (batches port input answers records read written) = batchReturns (wireOf port) (eqb (length info) recordLength) c input answers records read written
+
+-- What each step returns, on the card that those before it left.
+unfoldable pub returnsIn : List ℕ → Card → List Step → List Returned
+returnsIn info c [] = []
+returnsIn info c (s ∷ steps) = returnsOf info c s ∷ returnsIn info (afterAll c (callsOf info c s)) steps
+
+-- ---- at the host port
+
+-- The number of the port that a step is called at.
+abbrev pub portNumber : Step → ℕ
+portNumber (calls f) = functionPort f
+portNumber (batches port input answers records read written) = port
+
+-- Every step is called at the host port, whose number is 0.
+abbrev pub AllAtHost : List Step → Type 0
+AllAtHost [] = Unit {0}
+AllAtHost (s ∷ steps) = (portNumber s ≡ 0) × AllAtHost steps
+
+-- The requests that a step holds at the host port of a card with blocks of so many bytes: that of its operands, or those of its bytes.
+unfoldable pub requestOf : Decoding → Lending → List Request
+requestOf (Decoded port call) l = request call (l .input) (l .out) (l .places) ∷ []
+requestOf Bad l = []
+
+unfoldable pub requestsOf : ℕ → Step → List Request
+requestsOf bytes (calls f) = requestOf (lendingOf f .decoding) (lendingOf f)
+requestsOf bytes (batches port input answers records read written) = requestsIn bytes input
+
+unfoldable pub requestsBy : ℕ → List Step → List Request
+requestsBy bytes [] = []
+requestsBy bytes (s ∷ steps) = requestsOf bytes s ++ requestsBy bytes steps
+
+-- The keys that any step presents, whatever it returns.
+unfoldable pub keysBy : Card → List Step → ℕ → ℕ → Bool
+keysBy c steps high low = presented (requestsBy (c .public .info .bytes) steps) high low
