@@ -12,7 +12,7 @@ use Rattle.card.specs.Contents.{zeros}
 use Rattle.card.specs.Card.{Public, Card, block}
 use Rattle.card.specs.Plan.{Result}
 use Rattle.card.specs.SoundCard.{SoundCard}
-use Rattle.card.specs.Session.{Request, Sent, Reply, request, perform, reply, performed, replies, afterAll, hostSession}
+use Rattle.card.specs.Session.{Request, Sent, Reply, request, perform, reply, performed, replies, afterAll, sentByHost, hostSession}
 use Rattle.card.specs.SessionLaws.{perform-bytes}
 use Rattle.card.specs.Reach.{presented, Hidden, lastTaken}
 use Rattle.card.proofs.Secrecy.Theorem.{EqualBut, HiddenOrFree, HiddenOrStillFree, HasKeys, Secret}
@@ -30,7 +30,7 @@ use Rattle.input.specs.declared.Stop.{Stop}
 use Rattle.input.specs.declared.Stop.the-variants.{Went, Ended, Full}
 use Rattle.batch.specs.Serve.{answerBytes, lentSize, lentPlaces, answerRoom, served, answering, serveTurnOf, serveTurn, serveWithin, serve}
 use Rattle.batch.specs.Held.{serving, requestsIn, keysIn, madeIn}
-use Rattle.batch.proofs.BytesSafe.{bytes-safe}
+use Rattle.batch.proofs.BytesSafe.{left-by-calls}
 
 -- ---- the statement
 
@@ -150,30 +150,17 @@ batchAct bytes xs room = record {
 
 -- ---- the calls that a batch made
 
-module _ (size : Call → ℕ) where
-  front-held : (made behind : List Arrived) → take (length made) (map (requestWith size) (made ++ behind)) ≡ map (requestWith size) made
-  front-held [] behind = refl
-  front-held (a ∷ made) behind = ap (λ (qs : List Request). requestWith size a ∷ qs) (front-held made behind)
-
-  front-hosts : (made behind : List Arrived) → map (sentWith size) (made ++ behind) ≡ hostSession (map (requestWith size) (made ++ behind)) → map (sentWith size) made ≡ hostSession (map (requestWith size) made)
-  front-hosts [] behind e = refl
-  front-hosts (a ∷ made) behind e =
-      let first : sentWith size a ≡ record { port = Host; request = requestWith size a } = cc in
-      let later : map (sentWith size) (made ++ behind) ≡ hostSession (map (requestWith size) (made ++ behind)) = cc in
-      ap₂ (λ (s : Sent) (ss : List Sent). s ∷ ss) first (front-hosts made behind later)
+take-hosts : (n : ℕ) (qs : List Request) → take n (hostSession qs) ≡ hostSession (take n qs)
+take-hosts zero qs = refl
+take-hosts (suc n) [] = refl
+take-hosts (suc n) (q ∷ qs) = ap (λ (ss : List Sent). sentByHost q ∷ ss) (take-hosts n qs)
 
 -- The card that a batch leaves is the one that its calls leave.
 after-made : (c : Card) (xs : List ℕ) (room : ℕ) → serve Host c xs room .after ≡ afterAll c (madeIn c xs room)
 unfolding madeIn requestsIn
 after-made c xs room =
-    let q : PerformedBy (serving Host) 0 c xs room (serve Host c xs room) = bytes-safe Host c xs room in
-    let size : Call → ℕ = lentSize (c .public .info .bytes) in
-    let front : take (serve Host c xs room .records) (map (requestWith size) (arrivals Host xs .records)) ≡ map (requestWith size) (q .made) =
-    ap₂ (λ (n : ℕ) (held : List Arrived). take n (map (requestWith size) held)) (q .counts ∙ zero-add (length (q .made))) (q .held) ∙ front-held size (q .made) (q .behind) in
-    q .leaves
-    ∙ ap (afterAll c)
-    (front-hosts size (q .made) (q .behind) (ap (map (sentWith size)) (sym (q .held)) ∙ host-arrivals size xs ∙ ap (λ (held : List Arrived). hostSession (map (requestWith size) held)) (q .held))
-    ∙ ap hostSession (sym front))
+    let n : ℕ = serve Host c xs room .records in
+    left-by-calls Host c xs room ∙ ap (afterAll c) (ap (take n) (host-arrivals (lentSize (c .public .info .bytes)) xs) ∙ take-hosts n (map (requestWith (lentSize (c .public .info .bytes))) (arrivals Host xs .records)))
 
 -- ---- the theorem
 

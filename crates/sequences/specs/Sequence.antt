@@ -7,7 +7,8 @@ use lib.Dec.{eqb}
 use lib.ListN.{length, take}
 use Rattle.card.specs.Contents.{overwrite}
 use Rattle.card.specs.Card.{Card, card}
-use Rattle.card.specs.Session.{Request, Sent, request, afterAll}
+use Rattle.card.specs.Calls.{answerNumber}
+use Rattle.card.specs.Session.{Request, Sent, Reply, request, perform, reply, afterAll}
 use Rattle.card.specs.Reach.{presented}
 use Rattle.card.specs.declared.Port.{Port}
 use Rattle.records.specs.declared.Decoding.{Decoding}
@@ -17,7 +18,7 @@ use Rattle.input.specs.Arrivals.{arrivals, sentWith}
 use Rattle.batch.specs.Serve.{lentSize, serve}
 use Rattle.batch.specs.Held.{requestsIn}
 use Rattle.adapter.specs.Numbers.{recordLength, recordOf, wireOf}
-use Rattle.adapter.specs.Effects.{Effect, Gives}
+use Rattle.adapter.specs.Effects.{valueAfter, Gives}
 use Rattle.adapter.specs.declared.Wire.{Wire}
 use Rattle.adapter.specs.declared.Wire.the-variants.{At, Nowhere}
 use Rattle.interface.specs.Functions.{Function, Lending, lendingOf, effectBy, functionPort}
@@ -63,6 +64,10 @@ pub data Called : Memory → List Step → List Returned → Memory → Type 0 w
 
 -- ---- the calls of a sequence, and what it returns, by the rules
 
+-- The record has its five numbers; no function makes a call where it has not.
+abbrev pub isFive : List ℕ → Bool
+isFive info = eqb (length info) recordLength
+
 -- The call that a function makes of its operands, if they hold one, with what is lent with it.
 unfoldable pub sentOf : Decoding → Lending → List Sent
 sentOf (Decoded port call) l = record { port = port; request = request call (l .input) (l .out) (l .places) } ∷ []
@@ -70,40 +75,44 @@ sentOf Bad l = []
 
 -- Those that a batch makes of the records of its bytes: as many as it counts.
 unfoldable pub sentAt : Wire → Card → List ℕ → ℕ → List Sent
-sentAt (At wire) c input room =
-    take (serve wire c input room .records) (map (sentWith (lentSize (c .public .info .bytes))) (arrivals wire input .records))
+sentAt (At wire) c input room = take (serve wire c input room .records) (map (sentWith (lentSize (c .public .info .bytes))) (arrivals wire input .records))
 sentAt Nowhere c input room = []
 
--- Where the record has not its five numbers no call is made.
-unfoldable pub callsOf : List ℕ → Card → Step → List Sent
-callsOf info c (calls f) = cond (eqb (length info) recordLength) (sentOf (lendingOf f .decoding) (lendingOf f)) []
-callsOf info c (batches port input answers records read written) = cond (eqb (length info) recordLength) (sentAt (wireOf port) c input (length answers)) []
+unfoldable pub callsOf : Bool → Card → Step → List Sent
+callsOf five c (calls f) = cond five (sentOf (lendingOf f .decoding) (lendingOf f)) []
+callsOf five c (batches port input answers records read written) = cond five (sentAt (wireOf port) c input (length answers)) []
 
 -- All calls of a sequence, in order, each step on the card that those before it left.
-unfoldable pub callsIn : List ℕ → Card → List Step → List Sent
-callsIn info c [] = []
-callsIn info c (s ∷ steps) = callsOf info c s ++ callsIn info (afterAll c (callsOf info c s)) steps
+unfoldable pub callsIn : Bool → Card → List Step → List Sent
+callsIn five c [] = []
+callsIn five c (s ∷ steps) = callsOf five c s ++ callsIn five (afterAll c (callsOf five c s)) steps
 
-abbrev pub byEffect : Effect → Returned
-byEffect e = fromCall (e .number) (e .value) (e .out) (e .places)
+-- What a function returns, by the reply of the rules; or 13 where there is no call, and 1 where the record has not its numbers.
+abbrev pub byReply : Reply → ℕ → Returned
+byReply r value = fromCall (answerNumber (r .answer)) (valueAfter (r .answer) value) (r .out) (r .places)
 
--- What a batch returns, by what the rule makes of its bytes.
+unfoldable pub callReturns : Bool → Card → Decoding → Lending → Returned
+callReturns five c (Decoded port call) l =
+    cond five (byReply (reply (perform port c (request call (l .input) (l .out) (l .places)))) (l .value)) (fromCall 1 (l .value) (l .out) (l .places))
+callReturns five c Bad l = fromCall 13 (l .value) (l .out) (l .places)
+
+-- What a batch returns, by what the rule makes of its bytes; or 13 at no port, and 1 where the record has not its numbers.
 abbrev pub byPlay : Play → List ℕ → List ℕ → Returned
 byPlay p input answers = fromBatch (stopNumber (p .stop)) (p .records) (length input - length (p .left)) (length (p .output)) (overwrite answers 0 (p .output))
 
-unfoldable pub batchReturns : Wire → Bool → Card → List ℕ → List ℕ → ℕ → ℕ → ℕ → Returned
-batchReturns (At wire) five c input answers records read written =
+unfoldable pub batchReturns : Bool → Card → Wire → List ℕ → List ℕ → ℕ → ℕ → ℕ → Returned
+batchReturns five c (At wire) input answers records read written =
     cond five (byPlay (serve wire c input (length answers)) input answers) (fromBatch 1 records read written answers)
-batchReturns Nowhere five c input answers records read written = fromBatch 13 records read written answers
+batchReturns five c Nowhere input answers records read written = fromBatch 13 records read written answers
 
-unfoldable pub returnsOf : List ℕ → Card → Step → Returned
-returnsOf info c (calls f) = byEffect (effectBy f info c)
-returnsOf info c (batches port input answers records read written) = batchReturns (wireOf port) (eqb (length info) recordLength) c input answers records read written
+unfoldable pub returnsOf : Bool → Card → Step → Returned
+returnsOf five c (calls f) = callReturns five c (lendingOf f .decoding) (lendingOf f)
+returnsOf five c (batches port input answers records read written) = batchReturns five c (wireOf port) input answers records read written
 
 -- What each step returns, on the card that those before it left.
-unfoldable pub returnsIn : List ℕ → Card → List Step → List Returned
-returnsIn info c [] = []
-returnsIn info c (s ∷ steps) = returnsOf info c s ∷ returnsIn info (afterAll c (callsOf info c s)) steps
+unfoldable pub returnsIn : Bool → Card → List Step → List Returned
+returnsIn five c [] = []
+returnsIn five c (s ∷ steps) = returnsOf five c s ∷ returnsIn five (afterAll c (callsOf five c s)) steps
 
 -- ---- at the host port
 
