@@ -150,7 +150,7 @@ batchAct bytes xs room = record {
 
 -- ---- the calls that a batch made
 
-take-hosts : (n : ℕ) (qs : List Request) → take n (hostSession qs) ≡ hostSession (take n qs)
+pub take-hosts : (n : ℕ) (qs : List Request) → take n (hostSession qs) ≡ hostSession (take n qs)
 take-hosts zero qs = refl
 take-hosts (suc n) [] = refl
 take-hosts (suc n) (q ∷ qs) = ap (λ (ss : List Sent). sentByHost q ∷ ss) (take-hosts n qs)

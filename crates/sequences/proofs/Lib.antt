@@ -1,1 +1,2 @@
 pub mod CallsSafe
+pub mod CallsSecret
