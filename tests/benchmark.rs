@@ -503,7 +503,13 @@ fn mixed(card: &Card, count: usize) -> impl Iterator<Item = Direct> {
             3 => {
                 pointed = block;
                 let (source, destination) = (1, block);
-                Direct::Create { port: 0, source, source_credential: key.clone(), destination, destination_credential: key.clone() }
+                Direct::Create {
+                    port: 0,
+                    source,
+                    source_credential: key.clone(),
+                    destination,
+                    destination_credential: key.clone(),
+                }
             }
             7 => Direct::Delete { port: 0, source: 1, credential: key.clone(), destination: pointed },
             _ => Direct::Read { port: 0, block, credential: key.clone(), interval: 0 },
@@ -622,7 +628,13 @@ fn deepest() -> (&'static str, usize) {
         ("ALLOC 63", Direct::Alloc { port: 0, reference: 1, credential: key.clone(), hint: 2_048, count: 63 }),
         (
             "CREATE",
-            Direct::Create { port: 0, source: 1, source_credential: key.clone(), destination: 2, destination_credential: key.clone() },
+            Direct::Create {
+                port: 0,
+                source: 1,
+                source_credential: key.clone(),
+                destination: 2,
+                destination_credential: key.clone(),
+            },
         ),
         ("DELETE", Direct::Delete { port: 0, source: 1, credential: key.clone(), destination: 2 }),
         ("KEY", Direct::Key { port: 0, block: 2, credential: key.clone(), read: new.clone(), write: new }),

@@ -116,64 +116,17 @@ pub type Raw = Vec<u8>;
 /// A call of the C interface.
 #[derive(Clone, Debug, PartialEq)]
 pub enum Direct {
-    Format {
-        blocks: u64,
-        roots: u64,
-        bytes: u64,
-    },
-    Read {
-        port: u8,
-        block: u16,
-        credential: Raw,
-        interval: u32,
-    },
-    Write {
-        port: u8,
-        block: u16,
-        credential: Raw,
-        interval: u32,
-        data: Vec<u8>,
-    },
-    Alloc {
-        port: u8,
-        reference: u16,
-        credential: Raw,
-        hint: u16,
-        count: u8,
-    },
-    Create {
-        port: u8,
-        source: u16,
-        source_credential: Raw,
-        destination: u16,
-        destination_credential: Raw,
-    },
-    Delete {
-        port: u8,
-        source: u16,
-        credential: Raw,
-        destination: u16,
-    },
-    Key {
-        port: u8,
-        block: u16,
-        credential: Raw,
-        read: Raw,
-        write: Raw,
-    },
-    Renew {
-        mode: u8,
-        block: u16,
-        key: Raw,
-        interval: u32,
-    },
-    Force {
-        block: u16,
-    },
+    Format { blocks: u64, roots: u64, bytes: u64 },
+    Read { port: u8, block: u16, credential: Raw, interval: u32 },
+    Write { port: u8, block: u16, credential: Raw, interval: u32, data: Vec<u8> },
+    Alloc { port: u8, reference: u16, credential: Raw, hint: u16, count: u8 },
+    Create { port: u8, source: u16, source_credential: Raw, destination: u16, destination_credential: Raw },
+    Delete { port: u8, source: u16, credential: Raw, destination: u16 },
+    Key { port: u8, block: u16, credential: Raw, read: Raw, write: Raw },
+    Renew { mode: u8, block: u16, key: Raw, interval: u32 },
+    Force { block: u16 },
     Free,
-    Tick {
-        seconds: u64,
-    },
+    Tick { seconds: u64 },
     Audit,
 }
 
@@ -463,12 +416,9 @@ impl Direct {
                 read: new_key_bytes(read),
                 write: new_key_bytes(write),
             },
-            Call::Renew { mode, block, key, interval } => Direct::Renew {
-                mode,
-                block,
-                key: credential_bytes(Credential::Key(key)),
-                interval,
-            },
+            Call::Renew { mode, block, key, interval } => {
+                Direct::Renew { mode, block, key: credential_bytes(Credential::Key(key)), interval }
+            }
             Call::Force { block } => Direct::Force { block },
             Call::Free => Direct::Free,
             Call::Tick { seconds } => Direct::Tick { seconds },
@@ -480,16 +430,27 @@ impl Direct {
     pub fn plain(&self) -> Option<(Port, Call)> {
         Some(match self {
             Direct::Format { .. } => return None,
-            Direct::Read { port, block, credential, interval } => {
-                (plain_port(*port)?, Call::Read { block: *block, credential: credential_of(credential)?, interval: *interval })
-            }
+            Direct::Read { port, block, credential, interval } => (
+                plain_port(*port)?,
+                Call::Read { block: *block, credential: credential_of(credential)?, interval: *interval },
+            ),
             Direct::Write { port, block, credential, interval, data } => (
                 plain_port(*port)?,
-                Call::Write { block: *block, credential: credential_of(credential)?, interval: *interval, data: data.clone() },
+                Call::Write {
+                    block: *block,
+                    credential: credential_of(credential)?,
+                    interval: *interval,
+                    data: data.clone(),
+                },
             ),
             Direct::Alloc { port, reference, credential, hint, count } => (
                 plain_port(*port)?,
-                Call::Alloc { reference: *reference, credential: credential_of(credential)?, hint: *hint, count: *count },
+                Call::Alloc {
+                    reference: *reference,
+                    credential: credential_of(credential)?,
+                    hint: *hint,
+                    count: *count,
+                },
             ),
             Direct::Create { port, source, source_credential, destination, destination_credential } => (
                 plain_port(*port)?,
