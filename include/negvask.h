@@ -685,8 +685,9 @@ uint32_t negvask_serve(NEGVASK_TABLES,
  *        TICK, 1 for the others
  *
  * So a malformed record is 13 even where there is no room for an answer.
- * Where a batch stops at 13, 256 or 257 it has performed the records
- * before, and nothing of that record is done.
+ * Where a batch stops with 13, 256 or 257 it has performed the records
+ * before, and nothing of that record is done. After 257 a caller goes on
+ * from `input + *read` with more room.
  *
  * Else the record is performed as by negvask_serve(), on the card that
  * the one before left, with B bytes lent to READ and 64 places to ALLOC.
@@ -702,11 +703,13 @@ uint32_t negvask_serve(NEGVASK_TABLES,
  *
  * The card is checked once and not before every record: what is answered
  * and what is left are the same. So a batch on a large card is many
- * times faster than its records one by one. On a card that is out of
- * shape or unsound each record is answered 1 or 2, and the batch goes on
- * and returns 0 at the end of the input. There B is what `info` has,
- * whatever that is; above 65,536 READ is lent nothing and asks for 1 byte
- * of room.
+ * times faster than its records one by one.
+ *
+ * On a card that is out of shape or unsound, its `info` of five numbers,
+ * the answer to each record is 1 or 2, and the batch goes on: it returns
+ * 0 at the end of the input. B is then what `info` has, whatever that is;
+ * if it is above 65,536, READ is lent nothing and asks for 1 byte of
+ * room.
  *
  * Unmodified: what negvask_serve() leaves unmodified, `input`, and the
  * bytes of `answers` from `*written` on. If `port` is neither 0 nor 1, or
