@@ -1,6 +1,10 @@
 //! The library's C interface as Rust sees it: lent tables with guards around them, and every call with raw operands.
 
-use crate::model::{credential_of, new_key_of, Buffers, Call, Card, Credential, Key, Port, Progress};
+use crate::model::{credential_of, new_key_of, port_of, Buffers, Call, Card, Credential, Key, Port, Progress};
+
+/// The ports by their numbers. A wire of another number is none.
+pub const HOST: u8 = 0;
+pub const SERVICE: u8 = 1;
 
 /// Declares functions that all begin with the record and the six tables.
 macro_rules! library {
@@ -39,9 +43,9 @@ library! {
     negvask_force(block: u16);
     negvask_free(value: *mut u64);
     negvask_tick(seconds: u64, value: *mut u64);
-    negvask_serve(kind: u8, body: *const u8, body_len: usize, out: *mut u8, out_len: usize,
+    negvask_serve(port: u8, kind: u8, body: *const u8, body_len: usize, out: *mut u8, out_len: usize,
                   places: *mut u16, places_len: usize, value: *mut u64);
-    negvask_batch(input: *const u8, input_len: usize, answers: *mut u8, answers_len: usize,
+    negvask_batch(port: u8, input: *const u8, input_len: usize, answers: *mut u8, answers_len: usize,
                   records: *mut u64, read: *mut u64, written: *mut u64);
 }
 
@@ -146,6 +150,15 @@ impl LentBuffers {
         }
     }
 
+    /// What the buffers hold.
+    pub fn buffers(&self) -> Buffers {
+        Buffers {
+            out: self.out.values().to_vec(),
+            places: self.places.values().to_vec(),
+            value: self.value.values()[0],
+        }
+    }
+
     /// The first place where the buffers are not as the model has them.
     pub fn difference(&self, model: &Buffers) -> Option<String> {
         differs("out", &self.out, &model.out)
@@ -173,6 +186,12 @@ impl LentBatch {
             read: number(numbers.read),
             written: number(numbers.written),
         }
+    }
+
+    /// What the three numbers say.
+    pub fn progress(&self) -> Progress {
+        let number = |lent: &Lent<u64>| lent.values()[0];
+        Progress { records: number(&self.records), read: number(&self.read), written: number(&self.written) }
     }
 
     /// The first place where they are not as the model has them.
@@ -232,6 +251,19 @@ impl Tables {
 
     pub fn difference(&self, model: &Card) -> Option<String> {
         self.difference_but_contents(model).or_else(|| differs("contents", &self.contents, &model.contents))
+    }
+
+    /// What the record and the tables hold.
+    pub fn card(&self) -> Card {
+        Card {
+            info: self.info.values().to_vec(),
+            flags: self.flags.values().to_vec(),
+            keys: self.keys.values().to_vec(),
+            counts: self.counts.values().to_vec(),
+            pointers: self.pointers.values().to_vec(),
+            windows: self.windows.values().to_vec(),
+            contents: self.contents.values().to_vec(),
+        }
     }
 
     /// One call of the C interface.
@@ -317,11 +349,12 @@ impl Tables {
         }
     }
 
-    /// One call record.
-    pub fn serve(&mut self, kind: u8, body: &[u8], lent: &mut LentBuffers) -> u32 {
+    /// One call record on the wire of a port.
+    pub fn serve(&mut self, wire: u8, kind: u8, body: &[u8], lent: &mut LentBuffers) -> u32 {
         with_tables!(
             negvask_serve,
             self,
+            wire,
             kind,
             body.as_ptr(),
             body.len(),
@@ -333,11 +366,12 @@ impl Tables {
         )
     }
 
-    /// The records of an input with one audit.
-    pub fn batch(&mut self, lent: &mut LentBatch) -> u32 {
+    /// The records of an input on the wire of a port, with one audit.
+    pub fn batch(&mut self, wire: u8, lent: &mut LentBatch) -> u32 {
         with_tables!(
             negvask_batch,
             self,
+            wire,
             lent.input.pointer(),
             lent.input.length(),
             lent.answers.pointer(),
@@ -374,14 +408,6 @@ fn bytes_of(first: u8, high: u64, low: u64) -> Raw {
 fn plain_key(raw: &Raw) -> Option<Key> {
     match credential_of(raw)? {
         Credential::Key(key) => Some(key),
-        _ => None,
-    }
-}
-
-fn plain_port(port: u8) -> Option<Port> {
-    match port {
-        0 => Some(Port::Host),
-        1 => Some(Port::Service),
         _ => None,
     }
 }
@@ -431,11 +457,11 @@ impl Direct {
         Some(match self {
             Direct::Format { .. } => return None,
             Direct::Read { port, block, credential, interval } => (
-                plain_port(*port)?,
+                port_of(*port)?,
                 Call::Read { block: *block, credential: credential_of(credential)?, interval: *interval },
             ),
             Direct::Write { port, block, credential, interval, data } => (
-                plain_port(*port)?,
+                port_of(*port)?,
                 Call::Write {
                     block: *block,
                     credential: credential_of(credential)?,
@@ -444,7 +470,7 @@ impl Direct {
                 },
             ),
             Direct::Alloc { port, reference, credential, hint, count } => (
-                plain_port(*port)?,
+                port_of(*port)?,
                 Call::Alloc {
                     reference: *reference,
                     credential: credential_of(credential)?,
@@ -453,7 +479,7 @@ impl Direct {
                 },
             ),
             Direct::Create { port, source, source_credential, destination, destination_credential } => (
-                plain_port(*port)?,
+                port_of(*port)?,
                 Call::Create {
                     source: *source,
                     source_credential: credential_of(source_credential)?,
@@ -462,11 +488,11 @@ impl Direct {
                 },
             ),
             Direct::Delete { port, source, credential, destination } => (
-                plain_port(*port)?,
+                port_of(*port)?,
                 Call::Delete { source: *source, credential: credential_of(credential)?, destination: *destination },
             ),
             Direct::Key { port, block, credential, read, write } => (
-                plain_port(*port)?,
+                port_of(*port)?,
                 Call::Key {
                     block: *block,
                     credential: credential_of(credential)?,
