@@ -418,7 +418,7 @@ fn run_wires(calls: u64, seed: u64, seen: &mut Seen) -> Result<(), String> {
         service_kinds(&mut random(2, card), &mut seen.service).map_err(|e| format!("card {card}, service {e}"))?;
     }
     println!("{}", seen.service.summary());
-    for card in 0..calls / 150_000 {
+    for card in 0..(calls / 150_000).max(1) {
         other_ports(&mut random(4, card), &mut seen.ports).map_err(|e| format!("card {card}, {e}"))?;
     }
     println!("{}", seen.ports.summary());

@@ -9,7 +9,7 @@ use crate::model::{
 };
 use crate::random_call::{buffers, Chooser};
 use crate::random_card::{random_card, Random, Size, KEYS};
-use crate::wires::{spoil, Sort};
+use crate::wires::{spoil, starts, Sort};
 use std::collections::BTreeMap;
 
 /// The bytes of a block on these cards.
@@ -212,6 +212,8 @@ pub struct ByteSecrecy {
     stops: BTreeMap<(bool, u32), u64>,
     /// Batches without room for a record that presents a key, and that ended there.
     keys_without_room: u64,
+    /// Inputs with a record of the service port.
+    with_service_kind: u64,
 }
 
 /// The stops that can occur by record and by batch. A record cut short is malformed by itself.
@@ -225,8 +227,9 @@ impl ByteSecrecy {
             these.map(|((_, stop), count)| format!("{count} at {stop}")).collect::<Vec<_>>().join(", ")
         };
         format!(
-            "{}, stops by batch: {} ({} before a key), by record: {}",
+            "{}, {} sent a service record, stops by batch: {} ({} before a key), by record: {}",
             self.counts.summary(),
+            self.with_service_kind,
             stops(true),
             self.keys_without_room,
             stops(false)
@@ -236,8 +239,8 @@ impl ByteSecrecy {
     pub fn missing(&self) -> Vec<String> {
         let mut missing = self.counts.missing();
         missing.extend(STOPS.iter().filter(|stop| !self.stops.contains_key(stop)).map(|stop| format!("stop {stop:?}")));
-        if self.keys_without_room == 0 {
-            missing.push("a key for which there is no room".to_string());
+        if self.keys_without_room == 0 || self.with_service_kind == 0 {
+            missing.push("a key for which there is no room, or a service record".to_string());
         }
         missing.iter().map(|m| format!("bytes: {m}")).collect()
     }
@@ -262,14 +265,25 @@ fn presented_by_records(input: &[u8]) -> Vec<Key> {
     whole_records(input).iter().flat_map(|record| presented_by(&record.call)).collect()
 }
 
-/// A host's records, of which one may be spoilt.
-fn host_bytes(rnd: &mut Random, start: &Card) -> Result<Vec<u8>, String> {
+/// A host's records, of which one may be spoilt or made one of the service port.
+fn host_bytes(rnd: &mut Random, start: &Card, seen: &mut ByteSecrecy) -> Result<Vec<u8>, String> {
     let session = random_session(rnd, start)?;
     let records = session.iter().filter_map(|(direct, _, _)| direct.record());
     let mut input: Vec<u8> = records.flat_map(|(kind, body)| [vec![kind], body].concat()).collect();
-    if rnd.percent(50) {
-        let sort = rnd.of(&[Sort::Flipped, Sort::Cut, Sort::Inserted]);
-        spoil(rnd, Port::Host, sort, &mut input);
+    match rnd.below(10) {
+        0..=3 => {}
+        4..=7 => {
+            let sort = rnd.of(&[Sort::Flipped, Sort::Cut, Sort::Inserted]);
+            spoil(rnd, Port::Host, sort, &mut input);
+        }
+        _ => {
+            let mut starts = starts(Port::Host, &input);
+            starts.retain(|&at| input.get(at).is_some_and(|&kind| kind <= 6));
+            if !starts.is_empty() {
+                input[rnd.of(&starts)] += 128;
+                seen.with_service_kind += 1;
+            }
+        }
     }
     Ok(input)
 }
@@ -363,7 +377,7 @@ impl Pair {
 /// One session of bytes. Blocks are hidden by the keys of all whole records, also of those without room.
 pub fn byte_secrecy(rnd: &mut Random, seen: &mut ByteSecrecy) -> Result<(), String> {
     let start = starting_card(rnd)?;
-    let input = host_bytes(rnd, &start)?;
+    let input = host_bytes(rnd, &start, seen)?;
     let mut pair = Pair::new(rnd, start, &presented_by_records(&input));
     if rnd.percent(60) {
         pair.batches(rnd, &input, seen)?;

@@ -79,14 +79,19 @@ fn body_by_chance(rnd: &mut Random) -> (u8, Vec<u8>) {
     (kind, body)
 }
 
-/// A place in a record of the input, its kind or one of the bytes behind, but seldom in the data of WRITE.
-fn place(rnd: &mut Random, wire: Port, input: &[u8]) -> usize {
+/// Where the whole records at the front of the input begin, and where they end.
+pub fn starts(wire: Port, input: &[u8]) -> Vec<usize> {
     let mut starts = vec![0];
     while let Ok(record) = next_record(wire, &input[starts[starts.len() - 1]..]) {
         starts.push(starts[starts.len() - 1] + record.length);
     }
+    starts
+}
+
+/// A place in a record of the input, its kind or one of the bytes behind, but seldom in the data of WRITE.
+fn place(rnd: &mut Random, wire: Port, input: &[u8]) -> usize {
     let within = rnd.of(&[1, 4, 60]);
-    let place = rnd.of(&starts) + rnd.below(within) as usize;
+    let place = rnd.of(&starts(wire, input)) + rnd.below(within) as usize;
     place.min(input.len())
 }
 
