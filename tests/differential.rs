@@ -113,6 +113,20 @@ impl Reached {
         answers
     }
 
+    /// Prints what was refused 13 before there was a call; gives what did not occur.
+    fn without_call(&self) -> Vec<String> {
+        let at = |wanted: &dyn Fn(usize, usize, u8) -> bool| -> u64 {
+            self.counts.iter().filter(|((route, call, port, _), _)| wanted(*route, *call, *port)).map(|(_, c)| c).sum()
+        };
+        let mut refused = vec![("by function, another port".to_string(), at(&|route, _, port| route == 0 && port > 1))];
+        for (i, why) in NO_CALL.iter().enumerate() {
+            refused.push((format!("by record, {why}"), at(&|route, call, _| route == 1 && call == CALLS.len() + i)));
+        }
+        let counts: Vec<String> = refused.iter().map(|(why, count)| format!("{why} {count}")).collect();
+        println!("refused 13: {}", counts.join("; "));
+        refused.iter().filter(|(_, count)| *count == 0).map(|(why, _)| format!("refused 13: {why}")).collect()
+    }
+
     /// Prints the table; gives the pairs that can occur and did not.
     fn table(&self) -> Vec<String> {
         let mut missing = Vec::new();
@@ -148,16 +162,7 @@ impl Reached {
                 }
             }
         }
-        let at = |wanted: &dyn Fn(usize, usize, u8) -> bool| -> u64 {
-            self.counts.iter().filter(|((route, call, port, _), _)| wanted(*route, *call, *port)).map(|(_, c)| c).sum()
-        };
-        let mut refused = vec![("by function, another port".to_string(), at(&|route, _, port| route == 0 && port > 1))];
-        for (i, why) in NO_CALL.iter().enumerate() {
-            refused.push((format!("by record, {why}"), at(&|route, call, _| route == 1 && call == CALLS.len() + i)));
-        }
-        let counts: Vec<String> = refused.iter().map(|(why, count)| format!("{why} {count}")).collect();
-        println!("refused 13: {}", counts.join("; "));
-        missing.extend(refused.iter().filter(|(_, count)| *count == 0).map(|(why, _)| format!("refused 13: {why}")));
+        missing.extend(self.without_call());
         println!(
             "damage: {} ways, each refused {} times or more",
             self.damages.len(),

@@ -144,7 +144,7 @@ impl Pair {
         }
     }
 
-    /// The cards after the session: equal but for what was hidden or unallocated, and that kept unless it was freed.
+    /// The cards after the session: equal but for blocks that are still hidden or unallocated, and the hidden ones kept.
     fn compare_after(&self, seen: &mut Secrecy) -> Result<(), String> {
         let (first, second) = (self.one.card(), self.two.card());
         if let Some(difference) = self.one.difference_but_contents(&second) {
@@ -153,8 +153,11 @@ impl Pair {
         for b in 0..self.start.blocks() {
             let (one, two) = (&first.contents[part(b)], &second.contents[part(b)]);
             let (hidden, freed) = (self.hidden[b], self.freed[b]);
-            if !hidden && self.start.allocated(b) && one != two {
-                return Err(format!("block {b} differs after the session, and was in reach of it at the start"));
+            let differed = hidden || !self.start.allocated(b);
+            // A block that was freed or unallocated is filled with zeros when it is allotted.
+            let may_differ = differed && (hidden && !freed || !second.allocated(b));
+            if !may_differ && one != two {
+                return Err(format!("block {b} differs after the session"));
             }
             if hidden && !freed && (one != &self.start.contents[part(b)] || two != &self.other.contents[part(b)]) {
                 return Err(format!("hidden block {b} lost its contents"));
