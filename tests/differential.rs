@@ -415,7 +415,7 @@ fn run_batches(count: u64, seed: u64, whole: bool, seen: &mut Batches) -> Result
 /// Bytes at the ports: so many cards for each test, each with its own seed.
 fn run_wires(calls: u64, seed: u64, seen: &mut Seen) -> Result<(), String> {
     let random = |test: u64, card: u64| Random(seed.wrapping_mul(11_000_003 + test).wrapping_add(card));
-    for card in 0..calls / 600 {
+    for card in 0..calls / 750 {
         bytes(&mut random(0, card), &mut seen.bytes).map_err(|e| format!("card {card}, {e}"))?;
     }
     println!("{}", seen.bytes.summary());

@@ -38,7 +38,9 @@ pub enum Sort {
     Inserted,
 }
 
-const SORTS: [Sort; 5] = [Sort::Chance, Sort::Bodies, Sort::Flipped, Sort::Cut, Sort::Inserted];
+/// The sorts, and how often: few bytes by chance are records.
+const SORTS: [(Sort, u64); 5] =
+    [(Sort::Chance, 4), (Sort::Bodies, 1), (Sort::Flipped, 1), (Sort::Cut, 1), (Sort::Inserted, 1)];
 
 /// The numbers of the ports that the bytes are sent to, and how often: both, and two that are none.
 const WIRES: [(u8, u64); 4] = [(HOST, 3), (SERVICE, 3), (2, 1), (255, 1)];
@@ -154,7 +156,7 @@ impl Bytes {
 
     pub fn missing(&self) -> Vec<String> {
         let mut missing = Vec::new();
-        for sort in SORTS {
+        for (sort, _) in SORTS {
             for (wire, _) in WIRES {
                 let stops = possible(sort, wire);
                 for stop in stops.iter().filter(|&&stop| !self.stops.contains_key(&(sort, wire, stop))) {
@@ -220,9 +222,9 @@ fn bytes_at(rnd: &mut Random, card: &Card, sort: Sort, wire: u8, seen: &mut Byte
 /// Bytes of every sort at every port, with one card to start with.
 pub fn bytes(rnd: &mut Random, seen: &mut Bytes) -> Result<(), String> {
     let card = small_card(rnd);
-    for sort in SORTS {
+    for (sort, often) in SORTS {
         for (wire, times) in WIRES {
-            for _ in 0..times {
+            for _ in 0..often * times {
                 bytes_at(rnd, &card, sort, wire, seen)?;
             }
         }
