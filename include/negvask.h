@@ -19,10 +19,16 @@
  * call must not overlap. Nothing else is asked of the caller: tables
  * and operands of any content are answered, and a bad one is refused.
  *
- * Every function returns NEGVASK_DONE (0) or the number of a refusal. A
- * function that refuses changes nothing: no table, no part of the
- * record, no buffer and no result. Where several refusals apply, the
- * first one in the order given at the function is returned.
+ * Every function but negvask_batch() returns NEGVASK_DONE (0) or the
+ * number of a refusal, and one that refuses changes nothing: no table, no
+ * part of the record, no buffer and no result. Where several refusals
+ * apply, the first one in the order given at the function is returned.
+ *
+ * negvask_batch() performs many calls and returns why it stopped: 0, 1,
+ * 13, NEGVASK_CUT (256) or NEGVASK_FULL (257). Where it stops at a
+ * record, with 13, 256 or 257, it has performed all those before it, and
+ * nothing of that one is done. A call that is refused within a batch
+ * changes nothing but the byte of its answer.
  *
  * The record, `info`, has exactly five numbers:
  *
@@ -53,6 +59,14 @@
  * for the maker's and operator's own. Calls at the service port skip
  * credentials and open no window; their operands are checked as a
  * host's are, and a credential passed there must still be well formed.
+ *
+ * The firmware chooses the port by the wire on which bytes arrive, never
+ * by anything in the bytes. Bytes that come from a host go to
+ * negvask_serve() or negvask_batch() with NEGVASK_HOST, as they came, and
+ * to no other function: there a record for the service port is refused
+ * 13. NEGVASK_SERVICE and negvask_format() must not be reachable from a
+ * host: the one opens every block without a credential, the other does
+ * away with all keys and pointers.
  *
  * A credential is 17 bytes, in the form that call records have:
  *
@@ -118,7 +132,8 @@
  *                         NEGVASK_BYTES(nothing), 0, out, sizeof out);
  *   // answer == NEGVASK_NOT_OPENED
  *
- * examples/host.c is a whole program of this kind.
+ * examples/host.c is a whole program of this kind. examples/batch.c has a
+ * host's wire and a service wire.
  */
 
 #ifndef NEGVASK_H
@@ -160,11 +175,12 @@ extern "C" {
 #define NEGVASK_NO_PLACE        11
 /** The time would reach 2^40. */
 #define NEGVASK_CLOCK           12
-/** A record, credential, new key or port is ill formed, or a credential
-    has not its length. */
+/** A port, record, credential or new key is ill formed: the kind of a
+    record that does not exist at the port, and a credential that has not
+    its length, are such. */
 #define NEGVASK_MALFORMED       13
 
-/* Where negvask_batch() stops, beside 0, 1 and 13: no refusal has these
+/* Why negvask_batch() stops, beside 0, 1 and 13: no refusal has these
    numbers. */
 
 /** The input ends within a record. */
@@ -174,7 +190,9 @@ extern "C" {
 
 /* Operands. */
 
+/** The port of everything that comes from a host. */
 #define NEGVASK_HOST             0
+/** The maker's and operator's port, which no host may reach. */
 #define NEGVASK_SERVICE          1
 
 /** The number of bytes in a credential or a new key. */
@@ -283,6 +301,8 @@ static inline negvask_new_key negvask_set_no_key(void)
 /**
  * \brief Format a card: the maker's call, never a host's.
  *
+ * No record carries it, and nothing that a host sends may lead to it.
+ *
  * Time and M become 0; roots are allocated, all other blocks are not;
  * keys, counts, pointers and windows become 0, and so do the contents of
  * the roots. Unmodified: the contents of the other blocks.
@@ -307,9 +327,9 @@ uint32_t negvask_format(NEGVASK_TABLES,
  * \brief Check record and tables whole.
  *
  * Takes time linear in N and P. Every other function but
- * negvask_format() begins with the same check, so that a caller need not
- * make it first. Unmodified: everything. Contents are not looked at, only
- * their length.
+ * negvask_format() makes the same check before it performs a call, so
+ * that a caller need not make it first. Unmodified: everything. Contents
+ * are not looked at, only their length.
  *
  * Refusals, in order:
  *   1   out of shape
@@ -583,7 +603,10 @@ uint32_t negvask_free(NEGVASK_TABLES, uint64_t *value);
 uint32_t negvask_tick(NEGVASK_TABLES, uint64_t seconds, uint64_t *value);
 
 /**
- * \brief Perform one call record.
+ * \brief Perform one call record that arrived at a port.
+ *
+ * A record that comes from a host goes here with NEGVASK_HOST, or into
+ * the input of negvask_batch() with NEGVASK_HOST, and nowhere else.
  *
  * A record is one byte of kind, then a body whose length the kind fixes;
  * `body` may be longer, and its further bytes are not looked at. Numbers
@@ -603,20 +626,28 @@ uint32_t negvask_tick(NEGVASK_TABLES, uint64_t seconds, uint64_t *value);
  *   10  TICK     8    seconds 8
  *   11  AUDIT    0
  *
- * Kinds 129 to 134 are 1 to 6 at the service port. A credential is 0 and
- * 16 zeros; 1, the block's number in 2 bytes and 14 zeros; or 2 and the
- * key. A new key is 0 and 16 zeros, or 1 and the key.
+ * These are a host's calls at either port, and judged as a host's. At
+ * NEGVASK_SERVICE there are also kinds 129 to 134, which are 1 to 6 as
+ * calls at the service port; at NEGVASK_HOST these do not exist. A
+ * credential is 0 and 16 zeros; 1, the block's number in 2 bytes and 14
+ * zeros; or 2 and the key. A new key is 0 and 16 zeros, or 1 and the key.
  *
  * The record's call is performed as by its function above, with `out`
  * lent to READ, `places` to ALLOC and `value` to DELETE, FREE and TICK.
+ * WRITE by record needs blocks of 512 bytes: its data are 512, and on a
+ * card with another B it is refused 4.
+ *
  * Unmodified: what that function leaves unmodified, `body`, and the
  * buffers that the call does not use.
  *
  * Refusals, in order:
- *   13  another kind; a body cut short; in a credential or new key a
- *       wrong first byte or filler that is not zero
+ *   13  `port` is neither 0 nor 1; a kind that does not exist at the
+ *       port; a body cut short; in a credential or new key a wrong first
+ *       byte or filler that is not zero
  *   1 to 12  as the function of that call
  *
+ * \param port        the port at which the record arrived: NEGVASK_HOST
+ *                    if it comes from a host, else NEGVASK_SERVICE.
  * \param kind        the record's first byte.
  * \param body        the rest of the record.
  * \param body_len    the number of bytes in it.
@@ -629,17 +660,38 @@ uint32_t negvask_tick(NEGVASK_TABLES, uint64_t seconds, uint64_t *value);
  * \return  0 or a refusal.
  */
 uint32_t negvask_serve(NEGVASK_TABLES,
-	uint8_t kind, const uint8_t *body, size_t body_len,
+	uint8_t port, uint8_t kind, const uint8_t *body, size_t body_len,
 	uint8_t *out, size_t out_len, uint16_t *places, size_t places_len,
 	uint64_t *value);
 
 /**
- * \brief Perform many call records with one check of the card.
+ * \brief Perform many call records that arrived at a port, with one check
+ * of the card.
+ *
+ * Bytes that come from a host go here with NEGVASK_HOST, as they came, or
+ * record by record to negvask_serve() with NEGVASK_HOST, and nowhere
+ * else.
  *
  * `input` is one record after the other, each one byte of kind and then
- * its body, as for negvask_serve(). Each record is performed as by that
- * function, on the card that the one before left, and its answer is put
- * behind the one before in `answers`:
+ * its body, as for negvask_serve(). Each record is judged in this order,
+ * and the batch stops at the first that holds:
+ *
+ *   13   a kind that does not exist at the port
+ *   256  the input ends within the body
+ *   13   in a credential or new key a wrong first byte or filler that is
+ *        not zero
+ *   257  `answers` has less room left than the longest answer takes:
+ *        1 + B bytes for READ, 129 for ALLOC, 9 for DELETE, FREE and
+ *        TICK, 1 for the others
+ *
+ * So a malformed record is 13 even where there is no room for an answer.
+ * Where a batch stops with 13, 256 or 257 it has performed the records
+ * before, and nothing of that record is done. After 257 a caller goes on
+ * from `input + *read` with more room.
+ *
+ * Else the record is performed as by negvask_serve(), on the card that
+ * the one before left, with B bytes lent to READ and 64 places to ALLOC.
+ * Its answer is put behind the one before in `answers`:
  *
  *   1 byte    0 or a refusal 1 to 12
  *   and, if it is 0,
@@ -647,18 +699,25 @@ uint32_t negvask_serve(NEGVASK_TABLES,
  *   ALLOC               2 bytes for each number, in the order taken
  *   DELETE, FREE, TICK  8 bytes, the result
  *
- * Numbers are big-endian. Before a record is performed there must be
- * room for the longest answer to it: 1 + B bytes for READ, 129 for
- * ALLOC, 9 for DELETE, FREE and TICK, 1 for the others. Where there is
- * less, nothing of that record is done.
+ * Numbers are big-endian.
  *
  * The card is checked once and not before every record: what is answered
  * and what is left are the same. So a batch on a large card is many
  * times faster than its records one by one.
  *
- * Unmodified: what negvask_serve() leaves unmodified, `input`, and the
- * bytes of `answers` from `*written` on. On a refusal 1: everything.
+ * On a card that is out of shape or unsound, its `info` of five numbers,
+ * the answer to each record is 1 or 2, and the batch goes on: it returns
+ * 0 at the end of the input. B is then what `info` has, whatever that is;
+ * if it is above 65,536, READ is lent nothing and asks for 1 byte of
+ * room.
  *
+ * Unmodified: what negvask_serve() leaves unmodified, `input`, and the
+ * bytes of `answers` from `*written` on. If `port` is neither 0 nor 1, or
+ * `info` has not five numbers: everything, and `*records`, `*read` and
+ * `*written` too.
+ *
+ * \param port         the port at which the bytes arrived: NEGVASK_HOST
+ *                     if they come from a host, else NEGVASK_SERVICE.
  * \param input        the records.
  * \param input_len    the number of bytes in it.
  * \param answers      receives the answers.
@@ -666,15 +725,16 @@ uint32_t negvask_serve(NEGVASK_TABLES,
  * \param records      receives how many records were performed.
  * \param read         receives how many bytes of `input` these are.
  * \param written      receives how many bytes of `answers` are written.
- * \return  why it stopped:
+ * \return  why it stopped, a port that is neither 0 nor 1 before all else:
  *   0                   at the end of the input
+ *   NEGVASK_MALFORMED   `port` is neither 0 nor 1; or a record is
+ *                       malformed
  *   NEGVASK_SHAPE       the record `info` has not five numbers
- *   NEGVASK_MALFORMED   a record is ill formed
  *   NEGVASK_CUT         the input ends within a record
  *   NEGVASK_FULL        there is no room for the next answer
  */
 uint32_t negvask_batch(NEGVASK_TABLES,
-	const uint8_t *input, size_t input_len,
+	uint8_t port, const uint8_t *input, size_t input_len,
 	uint8_t *answers, size_t answers_len,
 	uint64_t *records, uint64_t *read, uint64_t *written);
 

@@ -12,7 +12,7 @@ mod library;
 #[allow(dead_code)]
 mod model;
 
-use library::{credential_bytes, new_key_bytes, Direct, LentBatch, LentBuffers, Tables};
+use library::{credential_bytes, new_key_bytes, Direct, LentBatch, LentBuffers, Tables, HOST};
 use model::{
     ends, word, Buffers, Call, Card, Credential, Key, Port, Progress, ALLOCATED, DAY, READ_KEY, TIME_END, WRITE_KEY,
 };
@@ -460,7 +460,7 @@ fn load(side: &mut Side, calls: impl Iterator<Item = Direct>) -> Load {
     for (kind, body) in &records {
         input.push(*kind);
         input.extend(body);
-        expected.push(side.tables.serve(*kind, body, &mut side.buffers) as u8);
+        expected.push(side.tables.serve(HOST, *kind, body, &mut side.buffers) as u8);
         match kind {
             1 => expected.extend(side.buffers.out.values()),
             5 => expected.extend(side.buffers.value.values()[0].to_be_bytes()),
@@ -470,7 +470,7 @@ fn load(side: &mut Side, calls: impl Iterator<Item = Direct>) -> Load {
     let room = expected.len() + 1_024;
     expected.resize(room, 0);
     let mut lent = LentBatch::new(&input, &vec![0; room], Progress::default());
-    done(side.tables.batch(&mut lent));
+    done(side.tables.batch(HOST, &mut lent));
     let (served, read, written) = (records.len() as u64, input.len() as u64, room as u64 - 1_024);
     let progress = Progress { records: served, read, written };
     assert_eq!(lent.difference(&input, &expected, progress), None, "the batch answers otherwise");
@@ -503,7 +503,13 @@ fn mixed(card: &Card, count: usize) -> impl Iterator<Item = Direct> {
             3 => {
                 pointed = block;
                 let (source, destination) = (1, block);
-                Direct::Create { port: 0, source, source_credential: key.clone(), destination, destination_credential: key.clone() }
+                Direct::Create {
+                    port: 0,
+                    source,
+                    source_credential: key.clone(),
+                    destination,
+                    destination_credential: key.clone(),
+                }
             }
             7 => Direct::Delete { port: 0, source: 1, credential: key.clone(), destination: pointed },
             _ => Direct::Read { port: 0, block, credential: key.clone(), interval: 0 },
@@ -513,7 +519,7 @@ fn mixed(card: &Card, count: usize) -> impl Iterator<Item = Direct> {
 
 fn batch_time(side: &mut Side, load: &Load) -> Duration {
     let lent = &mut *load.lent.borrow_mut();
-    timed(|| done(side.tables.batch(lent)))
+    timed(|| done(side.tables.batch(HOST, lent)))
 }
 
 /// The records timed together call by call, so that a slow moment spoils few of them, as it spoils one batch.
@@ -528,8 +534,9 @@ fn batch_and_single(side: &mut Side, load: &Load) -> [f64; 2] {
     while rounds < 10 || (start.elapsed() < SHARE && rounds < 20_000) {
         batch = batch_time(side, load).min(batch);
         for (best, slice) in slices.iter_mut().zip(load.records.chunks(SLICE)) {
-            let time =
-                timed(|| slice.iter().for_each(|(kind, body)| done(side.tables.serve(*kind, body, &mut side.buffers))));
+            let time = timed(|| {
+                slice.iter().for_each(|(kind, body)| done(side.tables.serve(HOST, *kind, body, &mut side.buffers)))
+            });
             *best = time.min(*best);
         }
         rounds += 1;
@@ -622,7 +629,13 @@ fn deepest() -> (&'static str, usize) {
         ("ALLOC 63", Direct::Alloc { port: 0, reference: 1, credential: key.clone(), hint: 2_048, count: 63 }),
         (
             "CREATE",
-            Direct::Create { port: 0, source: 1, source_credential: key.clone(), destination: 2, destination_credential: key.clone() },
+            Direct::Create {
+                port: 0,
+                source: 1,
+                source_credential: key.clone(),
+                destination: 2,
+                destination_credential: key.clone(),
+            },
         ),
         ("DELETE", Direct::Delete { port: 0, source: 1, credential: key.clone(), destination: 2 }),
         ("KEY", Direct::Key { port: 0, block: 2, credential: key.clone(), read: new.clone(), write: new }),
@@ -642,7 +655,7 @@ fn deepest() -> (&'static str, usize) {
     let input: Vec<u8> =
         calls.iter().filter_map(|(_, call)| call.record()).flat_map(|(k, b)| [vec![k], b].concat()).collect();
     let mut lent = LentBatch::new(&input, &[0; 2_048], Progress::default());
-    let batch = stack_of(&mut || done(s.tables.batch(&mut lent)));
+    let batch = stack_of(&mut || done(s.tables.batch(HOST, &mut lent)));
     if batch > deepest.1 {
         ("negvask_batch", batch)
     } else {

@@ -1,14 +1,16 @@
 //! Differential test: the library against the model, call by call.
 //!
-//! Four parts, all but the first on random cards from a printed seed:
+//! In parts, all but the first on random cards from a printed seed:
 //! - the document's own trials and its example of ten records, by the library;
 //! - random calls by the C functions on one card and as records on another, damaged tables among them; after each,
 //!   the answer, the record, every table, every lent buffer and the memory beside them are compared with the model;
 //! - batches of call records, the model with an audit for each record;
-//! - secrecy: one host session on two cards that differ in hidden and unallocated contents only.
+//! - bytes of any sort at the ports, service records at the host port, and numbers that no port has;
+//! - secrecy: one host session of calls, and one of bytes, on two cards that differ in hidden and unallocated contents
+//!   only.
 //!
-//! Options: --calls N --seed S. Exit status 1 on a difference, or at the default size on a pair of call and answer
-//! or a stop of a batch that can occur and did not.
+//! Options: --calls N --seed S. Exit status 1 on a difference, or at the default size on a pair of call and answer,
+//! a stop of a batch or another case that can occur and did not.
 
 mod batch;
 mod damage;
@@ -18,16 +20,18 @@ mod random_call;
 mod random_card;
 mod secrecy;
 mod trials;
+mod wires;
 
 use batch::{batches, Batches};
 use damage::{damage, DAMAGES, SHAPE_DAMAGES};
-use library::{Direct, LentBuffers, Tables};
-use model::{number, Buffers, Card};
+use library::{Direct, LentBuffers, Tables, HOST, SERVICE};
+use model::{number, port_of, Buffers, Call, Card, Port};
 use random_call::{buffers, random_format, spoilt_record, Chooser};
 use random_card::{random_card, random_size, Random, Size, KEYS};
-use secrecy::{secrecy, Secrecy};
+use secrecy::{byte_secrecy, secrecy, ByteSecrecy, Secrecy};
 use std::collections::BTreeMap;
 use trials::trials;
+use wires::{bytes, other_ports, service_kinds, Bytes, OtherPorts, ServiceKinds};
 
 const DEFAULT_CALLS: u64 = 300_000;
 const DEFAULT_SEED: u64 = 1;
@@ -36,6 +40,9 @@ const DEFAULT_SEED: u64 = 1;
 
 const CALLS: [&str; 12] =
     ["FORMAT", "READ", "WRITE", "ALLOC", "CREATE", "DELETE", "KEY", "RENEW", "FORCE", "FREE", "TICK", "AUDIT"];
+
+/// Records that have no call, behind the calls: why there is none.
+const NO_CALL: [&str; 3] = ["a kind of the service port at the host port", "another kind", "another port"];
 
 /// Counts by route (0 by function, 1 by record), call, port and answer.
 #[derive(Default)]
@@ -59,6 +66,17 @@ fn index(call: &Direct) -> (usize, u8) {
         Direct::Free => (9, 0),
         Direct::Tick { .. } => (10, 0),
         Direct::Audit => (11, 0),
+    }
+}
+
+/// The place of a record among the calls, or behind them.
+fn record_index(wire: u8, kind: u8) -> (usize, u8) {
+    match (wire, kind) {
+        (HOST | SERVICE, 1..=11) => (kind as usize, 0),
+        (SERVICE, 129..=134) => (kind as usize - 128, 1),
+        (HOST, 129..=134) => (CALLS.len(), 0),
+        (HOST | SERVICE, _) => (CALLS.len() + 1, 0),
+        _ => (CALLS.len() + 2, 0),
     }
 }
 
@@ -93,6 +111,20 @@ impl Reached {
         }
         answers.sort();
         answers
+    }
+
+    /// Prints what was refused 13 before there was a call; gives what did not occur.
+    fn without_call(&self) -> Vec<String> {
+        let at = |wanted: &dyn Fn(usize, usize, u8) -> bool| -> u64 {
+            self.counts.iter().filter(|((route, call, port, _), _)| wanted(*route, *call, *port)).map(|(_, c)| c).sum()
+        };
+        let mut refused = vec![("by function, another port".to_string(), at(&|route, _, port| route == 0 && port > 1))];
+        for (i, why) in NO_CALL.iter().enumerate() {
+            refused.push((format!("by record, {why}"), at(&|route, call, _| route == 1 && call == CALLS.len() + i)));
+        }
+        let counts: Vec<String> = refused.iter().map(|(why, count)| format!("{why} {count}")).collect();
+        println!("refused 13: {}", counts.join("; "));
+        refused.iter().filter(|(_, count)| *count == 0).map(|(why, _)| format!("refused 13: {why}")).collect()
     }
 
     /// Prints the table; gives the pairs that can occur and did not.
@@ -130,10 +162,7 @@ impl Reached {
                 }
             }
         }
-        let other = |route: usize| {
-            self.counts.iter().filter(move |(k, _)| k.0 == route && (k.1 == 12 || k.2 > 1)).map(|(_, c)| c)
-        };
-        println!("refused 13: another port {}, another kind {}", other(0).sum::<u64>(), other(1).sum::<u64>());
+        missing.extend(self.without_call());
         println!(
             "damage: {} ways, each refused {} times or more",
             self.damages.len(),
@@ -168,39 +197,30 @@ impl Bench {
         self.model = card;
     }
 
-    /// One call on model and library; gives the answer, or the difference.
-    fn step(&mut self, step: &Step, lent: &Buffers, reached: &mut Reached) -> Result<u32, String> {
-        let mut expected = lent.clone();
+    /// The model's answer. A refusal must have changed nothing.
+    fn expect(&mut self, step: &Step, buffers: &mut Buffers) -> Result<u32, String> {
         let small = self.model.contents.len() <= 1 << 16;
-        let before = small.then(|| self.model.clone());
-        let answer = match step {
-            Step::Call(Direct::Format { blocks, roots, bytes }) => self.model.format(*blocks, *roots, *bytes),
-            Step::Call(call) => match call.plain() {
+        let before = (small.then(|| self.model.clone()), buffers.clone());
+        let answer = number(match step {
+            Step::Call(Direct::Format { blocks, roots, bytes }, _) => self.model.format(*blocks, *roots, *bytes),
+            Step::Call(call, _) => match call.plain() {
                 None => Err(model::MALFORMED),
-                Some((port, plain)) => self.model.perform(port, &plain, &mut expected),
+                Some((port, plain)) => self.model.perform(port, &plain, buffers),
             },
-            Step::Record(kind, body) => model::serve(&mut self.model, *kind, body, &mut expected),
-        };
-        let answer = number(answer);
-        if answer != 0 && (before.is_some_and(|b| b != self.model) || expected != *lent) {
+            Step::Record(wire, kind, body) => model::serve(&mut self.model, *wire, *kind, body, buffers),
+        });
+        if answer != 0 && (before.0.is_some_and(|b| b != self.model) || before.1 != *buffers) {
             return Err("the model changed something in a refusal".to_string());
         }
+        Ok(answer)
+    }
 
-        // The same by the library: by function on one card, by record on the other.
-        let (by_function, by_record) = match step {
-            Step::Call(call) => {
-                let record = call.record().filter(|(kind, body)| {
-                    let same = model::decode(*kind, body) == call.plain();
-                    assert!(same || call.plain().is_none(), "the record is not the call's");
-                    same
-                });
-                (Some(call.clone()), record)
-            }
-            Step::Record(kind, body) => {
-                let call = model::decode(*kind, body).map(|(port, call)| Direct::from(port, &call));
-                (call, Some((*kind, body.clone())))
-            }
-        };
+    /// One call on model and library, by function on one card and by record on the other; gives the answer, or the
+    /// difference.
+    fn step(&mut self, step: &Step, lent: &Buffers, reached: &mut Reached) -> Result<u32, String> {
+        let mut expected = lent.clone();
+        let answer = self.expect(step, &mut expected)?;
+        let (by_function, by_record) = step.routes();
         if let Some(call) = &by_function {
             let mut buffers = LentBuffers::new(lent);
             let given = self.functions.call(call, &mut buffers);
@@ -209,14 +229,9 @@ impl Bench {
         }
         let mut buffers = LentBuffers::new(lent);
         let (given, name) = match (&by_record, &by_function) {
-            (Some((kind, body)), _) => {
-                let given = self.records.serve(*kind, body, &mut buffers);
-                let place = match kind {
-                    1..=11 => (*kind as usize, 0),
-                    129..=134 => (*kind as usize - 128, 1),
-                    _ => (12, 0),
-                };
-                reached.note(1, place, given);
+            (Some((wire, kind, body)), _) => {
+                let given = self.records.serve(*wire, *kind, body, &mut buffers);
+                reached.note(1, record_index(*wire, *kind), given);
                 (given, "by record")
             }
             (None, Some(call)) => (self.records.call(call, &mut buffers), "by function on the other card"),
@@ -230,8 +245,48 @@ impl Bench {
 
 #[derive(Debug)]
 enum Step {
-    Call(Direct),
-    Record(u8, Vec<u8>),
+    /// A call, and the wire on which its record comes.
+    Call(Direct, u8),
+    /// The wire of a record, its kind and its body.
+    Record(u8, u8, Vec<u8>),
+}
+
+/// The call of a record on a wire; None is refusal 13.
+fn call_of(wire: u8, kind: u8, body: &[u8]) -> Option<(Port, Call)> {
+    model::decode(port_of(wire)?, kind, body)
+}
+
+impl Step {
+    /// The call on its wire: one at the service port on that alone, a host's on either.
+    fn call(rnd: &mut Random, call: Direct) -> Self {
+        let wire = if index(&call).1 == SERVICE { SERVICE } else { rnd.of(&[HOST, SERVICE]) };
+        Step::Call(call, wire)
+    }
+
+    /// A spoilt record of the call on any wire.
+    fn spoilt(rnd: &mut Random, call: &Direct) -> Self {
+        let (kind, body) = spoilt_record(rnd, call);
+        let wire = if rnd.percent(4) { rnd.of(&[2, 3, 128, 255]) } else { rnd.of(&[HOST, SERVICE]) };
+        Step::Record(wire, kind, body)
+    }
+
+    /// The call by function and by record, where it has the form.
+    fn routes(&self) -> (Option<Direct>, Option<(u8, u8, Vec<u8>)>) {
+        match self {
+            Step::Call(call, wire) => {
+                let record = call.record().map(|(kind, body)| (*wire, kind, body)).filter(|(wire, kind, body)| {
+                    let same = call_of(*wire, *kind, body) == call.plain();
+                    assert!(same || call.plain().is_none(), "the record is not the call's");
+                    same
+                });
+                (Some(call.clone()), record)
+            }
+            Step::Record(wire, kind, body) => {
+                let call = call_of(*wire, *kind, body).map(|(port, call)| Direct::from(port, &call));
+                (call, Some((*wire, *kind, body.clone())))
+            }
+        }
+    }
 }
 
 fn compare(
@@ -264,12 +319,8 @@ fn differential(rnd: &mut Random, size: Size, calls: u64, reached: &mut Reached)
         let format = rnd.percent(if damaged { 8 } else { 1 });
         let call = if format { random_format(rnd, &bench.model) } else { chooser.call(rnd, &bench.model) };
         let lent = buffers(rnd, &bench.model, Some(&call));
-        let mut step = if !damaged && rnd.percent(10) {
-            let (kind, body) = spoilt_record(rnd, &call);
-            Step::Record(kind, body)
-        } else {
-            Step::Call(call)
-        };
+        let spoilt = !damaged && rnd.percent(10);
+        let mut step = if spoilt { Step::spoilt(rnd, &call) } else { Step::call(rnd, call) };
         let report = |step: &Step, note: &str, difference: String| {
             let mut shown = format!("{step:?}");
             shown.truncate(600);
@@ -288,7 +339,8 @@ fn differential(rnd: &mut Random, size: Size, calls: u64, reached: &mut Reached)
                 return Err(report(&step, &note, format!("the model has not refused it {expected}")));
             }
             // FORMAT with operands that fit tables out of range.
-            if let (Step::Call(Direct::Format { blocks, roots, bytes }), [n, r, b, ..]) = (&mut step, &card.info[..]) {
+            if let (Step::Call(Direct::Format { blocks, roots, bytes }, _), [n, r, b, ..]) = (&mut step, &card.info[..])
+            {
                 (*blocks, *roots, *bytes) = (*n, *r, *b);
             }
             bench.load(card);
@@ -360,10 +412,41 @@ fn run_batches(count: u64, seed: u64, whole: bool, seen: &mut Batches) -> Result
     Ok(())
 }
 
-fn run(calls: u64, seed: u64, reached: &mut Reached, batched: &mut Batches, seen: &mut Secrecy) -> Result<(), String> {
-    let rows = trials()?;
-    println!("trials of the document: {rows} of {rows} as written");
-    let whole = calls >= DEFAULT_CALLS;
+/// Bytes at the ports: so many cards for each test, each with its own seed.
+fn run_wires(calls: u64, seed: u64, seen: &mut Seen) -> Result<(), String> {
+    let random = |test: u64, card: u64| Random(seed.wrapping_mul(11_000_003 + test).wrapping_add(card));
+    for card in 0..calls / 750 {
+        bytes(&mut random(0, card), &mut seen.bytes).map_err(|e| format!("card {card}, {e}"))?;
+    }
+    println!("{}", seen.bytes.summary());
+    for card in 0..calls / 1_500 {
+        service_kinds(&mut random(2, card), &mut seen.service).map_err(|e| format!("card {card}, service {e}"))?;
+    }
+    println!("{}", seen.service.summary());
+    for card in 0..(calls / 150_000).max(1) {
+        other_ports(&mut random(4, card), &mut seen.ports).map_err(|e| format!("card {card}, {e}"))?;
+    }
+    println!("{}", seen.ports.summary());
+    Ok(())
+}
+
+fn run_secrecy(calls: u64, seed: u64, seen: &mut Seen) -> Result<(), String> {
+    for session in 0..calls / 100 {
+        let mut rnd = Random(seed.wrapping_mul(7_000_003).wrapping_add(session));
+        secrecy(&mut rnd, &mut seen.secrecy).map_err(|e| format!("session {session}, secrecy, {e}"))?;
+    }
+    println!("secrecy: {}, no difference", seen.secrecy.summary());
+    for session in 0..calls / 100 {
+        let mut rnd = Random(seed.wrapping_mul(13_000_027).wrapping_add(session));
+        byte_secrecy(&mut rnd, &mut seen.byte_secrecy)
+            .map_err(|e| format!("session {session} of bytes, secrecy, {e}"))?;
+    }
+    println!("secrecy of bytes: {}, no difference", seen.byte_secrecy.summary());
+    Ok(())
+}
+
+/// Random calls, first on cards at the ends of the ranges.
+fn run_calls(calls: u64, seed: u64, whole: bool, reached: &mut Reached) -> Result<(), String> {
     let mut card = 0;
     for (size, count) in ENDS.iter().filter(|_| whole) {
         card += 1;
@@ -382,16 +465,43 @@ fn run(calls: u64, seed: u64, reached: &mut Reached, batched: &mut Batches, seen
         })?;
     }
     println!("differential: {} calls on {card} cards, each by function and by record, no difference", reached.calls);
-    run_batches(calls / 50, seed, whole, batched)?;
-    for session in 0..calls / 100 {
-        let mut rnd = Random(seed.wrapping_mul(7_000_003).wrapping_add(session));
-        secrecy(&mut rnd, seen).map_err(|e| format!("session {session}, {e}"))?;
-    }
-    println!(
-        "secrecy: {} sessions, {} calls ({} done, {} of them READ), {} hidden blocks ({} of them freed), no difference",
-        seen.sessions, seen.calls, seen.done, seen.reads, seen.hidden, seen.freed
-    );
     Ok(())
+}
+
+/// What each part has come across.
+#[derive(Default)]
+struct Seen {
+    reached: Reached,
+    batches: Batches,
+    bytes: Bytes,
+    service: ServiceKinds,
+    ports: OtherPorts,
+    secrecy: Secrecy,
+    byte_secrecy: ByteSecrecy,
+}
+
+impl Seen {
+    /// What can occur and did not.
+    fn missing(&self) -> Vec<String> {
+        let mut missing = self.reached.table();
+        missing.extend(self.batches.missing());
+        missing.extend(self.bytes.missing());
+        missing.extend(self.service.missing());
+        missing.extend(self.ports.missing());
+        missing.extend(self.secrecy.missing());
+        missing.extend(self.byte_secrecy.missing());
+        missing
+    }
+}
+
+fn run(calls: u64, seed: u64, seen: &mut Seen) -> Result<(), String> {
+    let rows = trials()?;
+    println!("trials of the document: {rows} of {rows} as written");
+    let whole = calls >= DEFAULT_CALLS;
+    run_calls(calls, seed, whole, &mut seen.reached)?;
+    run_batches(calls / 50, seed, whole, &mut seen.batches)?;
+    run_wires(calls, seed, seen)?;
+    run_secrecy(calls, seed, seen)
 }
 
 fn main() {
@@ -409,16 +519,12 @@ fn main() {
         }
     }
     println!("seed {seed}, {calls} calls");
-    let (mut reached, mut batched, mut seen) = (Reached::default(), Batches::default(), Secrecy::default());
-    if let Err(report) = run(calls, seed, &mut reached, &mut batched, &mut seen) {
+    let mut seen = Seen::default();
+    if let Err(report) = run(calls, seed, &mut seen) {
         println!("DIFFERENCE with --calls {calls} --seed {seed}: {report}");
         std::process::exit(1);
     }
-    let mut missing = reached.table();
-    missing.extend(batched.missing());
-    if seen.hidden == 0 || seen.freed == 0 || seen.reads == 0 {
-        missing.push("secrecy: no hidden block, none freed or no READ done".to_string());
-    }
+    let missing = seen.missing();
     missing.iter().for_each(|m| println!("not reached: {m}"));
     if !missing.is_empty() && calls >= DEFAULT_CALLS {
         std::process::exit(1);

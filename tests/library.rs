@@ -1,6 +1,10 @@
 //! The library's C interface as Rust sees it: lent tables with guards around them, and every call with raw operands.
 
-use crate::model::{credential_of, new_key_of, Buffers, Call, Card, Credential, Key, Port, Progress};
+use crate::model::{credential_of, new_key_of, port_of, Buffers, Call, Card, Credential, Key, Port, Progress};
+
+/// The ports by their numbers. A wire of another number is none.
+pub const HOST: u8 = 0;
+pub const SERVICE: u8 = 1;
 
 /// Declares functions that all begin with the record and the six tables.
 macro_rules! library {
@@ -39,9 +43,9 @@ library! {
     negvask_force(block: u16);
     negvask_free(value: *mut u64);
     negvask_tick(seconds: u64, value: *mut u64);
-    negvask_serve(kind: u8, body: *const u8, body_len: usize, out: *mut u8, out_len: usize,
+    negvask_serve(port: u8, kind: u8, body: *const u8, body_len: usize, out: *mut u8, out_len: usize,
                   places: *mut u16, places_len: usize, value: *mut u64);
-    negvask_batch(input: *const u8, input_len: usize, answers: *mut u8, answers_len: usize,
+    negvask_batch(port: u8, input: *const u8, input_len: usize, answers: *mut u8, answers_len: usize,
                   records: *mut u64, read: *mut u64, written: *mut u64);
 }
 
@@ -116,64 +120,17 @@ pub type Raw = Vec<u8>;
 /// A call of the C interface.
 #[derive(Clone, Debug, PartialEq)]
 pub enum Direct {
-    Format {
-        blocks: u64,
-        roots: u64,
-        bytes: u64,
-    },
-    Read {
-        port: u8,
-        block: u16,
-        credential: Raw,
-        interval: u32,
-    },
-    Write {
-        port: u8,
-        block: u16,
-        credential: Raw,
-        interval: u32,
-        data: Vec<u8>,
-    },
-    Alloc {
-        port: u8,
-        reference: u16,
-        credential: Raw,
-        hint: u16,
-        count: u8,
-    },
-    Create {
-        port: u8,
-        source: u16,
-        source_credential: Raw,
-        destination: u16,
-        destination_credential: Raw,
-    },
-    Delete {
-        port: u8,
-        source: u16,
-        credential: Raw,
-        destination: u16,
-    },
-    Key {
-        port: u8,
-        block: u16,
-        credential: Raw,
-        read: Raw,
-        write: Raw,
-    },
-    Renew {
-        mode: u8,
-        block: u16,
-        key: Raw,
-        interval: u32,
-    },
-    Force {
-        block: u16,
-    },
+    Format { blocks: u64, roots: u64, bytes: u64 },
+    Read { port: u8, block: u16, credential: Raw, interval: u32 },
+    Write { port: u8, block: u16, credential: Raw, interval: u32, data: Vec<u8> },
+    Alloc { port: u8, reference: u16, credential: Raw, hint: u16, count: u8 },
+    Create { port: u8, source: u16, source_credential: Raw, destination: u16, destination_credential: Raw },
+    Delete { port: u8, source: u16, credential: Raw, destination: u16 },
+    Key { port: u8, block: u16, credential: Raw, read: Raw, write: Raw },
+    Renew { mode: u8, block: u16, key: Raw, interval: u32 },
+    Force { block: u16 },
     Free,
-    Tick {
-        seconds: u64,
-    },
+    Tick { seconds: u64 },
     Audit,
 }
 
@@ -190,6 +147,15 @@ impl LentBuffers {
             out: Lent::new(&buffers.out, 0xA5),
             places: Lent::new(&buffers.places, 0xA5A5),
             value: Lent::new(&[buffers.value], 0xA5A5_A5A5_A5A5_A5A5),
+        }
+    }
+
+    /// What the buffers hold.
+    pub fn buffers(&self) -> Buffers {
+        Buffers {
+            out: self.out.values().to_vec(),
+            places: self.places.values().to_vec(),
+            value: self.value.values()[0],
         }
     }
 
@@ -220,6 +186,12 @@ impl LentBatch {
             read: number(numbers.read),
             written: number(numbers.written),
         }
+    }
+
+    /// What the three numbers say.
+    pub fn progress(&self) -> Progress {
+        let number = |lent: &Lent<u64>| lent.values()[0];
+        Progress { records: number(&self.records), read: number(&self.read), written: number(&self.written) }
     }
 
     /// The first place where they are not as the model has them.
@@ -279,6 +251,19 @@ impl Tables {
 
     pub fn difference(&self, model: &Card) -> Option<String> {
         self.difference_but_contents(model).or_else(|| differs("contents", &self.contents, &model.contents))
+    }
+
+    /// What the record and the tables hold.
+    pub fn card(&self) -> Card {
+        Card {
+            info: self.info.values().to_vec(),
+            flags: self.flags.values().to_vec(),
+            keys: self.keys.values().to_vec(),
+            counts: self.counts.values().to_vec(),
+            pointers: self.pointers.values().to_vec(),
+            windows: self.windows.values().to_vec(),
+            contents: self.contents.values().to_vec(),
+        }
     }
 
     /// One call of the C interface.
@@ -364,11 +349,12 @@ impl Tables {
         }
     }
 
-    /// One call record.
-    pub fn serve(&mut self, kind: u8, body: &[u8], lent: &mut LentBuffers) -> u32 {
+    /// One call record on the wire of a port.
+    pub fn serve(&mut self, wire: u8, kind: u8, body: &[u8], lent: &mut LentBuffers) -> u32 {
         with_tables!(
             negvask_serve,
             self,
+            wire,
             kind,
             body.as_ptr(),
             body.len(),
@@ -380,11 +366,12 @@ impl Tables {
         )
     }
 
-    /// The records of an input with one audit.
-    pub fn batch(&mut self, lent: &mut LentBatch) -> u32 {
+    /// The records of an input on the wire of a port, with one audit.
+    pub fn batch(&mut self, wire: u8, lent: &mut LentBatch) -> u32 {
         with_tables!(
             negvask_batch,
             self,
+            wire,
             lent.input.pointer(),
             lent.input.length(),
             lent.answers.pointer(),
@@ -425,14 +412,6 @@ fn plain_key(raw: &Raw) -> Option<Key> {
     }
 }
 
-fn plain_port(port: u8) -> Option<Port> {
-    match port {
-        0 => Some(Port::Host),
-        1 => Some(Port::Service),
-        _ => None,
-    }
-}
-
 impl Direct {
     pub fn from(port: Port, call: &Call) -> Self {
         let port = port as u8;
@@ -463,12 +442,9 @@ impl Direct {
                 read: new_key_bytes(read),
                 write: new_key_bytes(write),
             },
-            Call::Renew { mode, block, key, interval } => Direct::Renew {
-                mode,
-                block,
-                key: credential_bytes(Credential::Key(key)),
-                interval,
-            },
+            Call::Renew { mode, block, key, interval } => {
+                Direct::Renew { mode, block, key: credential_bytes(Credential::Key(key)), interval }
+            }
             Call::Force { block } => Direct::Force { block },
             Call::Free => Direct::Free,
             Call::Tick { seconds } => Direct::Tick { seconds },
@@ -480,19 +456,30 @@ impl Direct {
     pub fn plain(&self) -> Option<(Port, Call)> {
         Some(match self {
             Direct::Format { .. } => return None,
-            Direct::Read { port, block, credential, interval } => {
-                (plain_port(*port)?, Call::Read { block: *block, credential: credential_of(credential)?, interval: *interval })
-            }
+            Direct::Read { port, block, credential, interval } => (
+                port_of(*port)?,
+                Call::Read { block: *block, credential: credential_of(credential)?, interval: *interval },
+            ),
             Direct::Write { port, block, credential, interval, data } => (
-                plain_port(*port)?,
-                Call::Write { block: *block, credential: credential_of(credential)?, interval: *interval, data: data.clone() },
+                port_of(*port)?,
+                Call::Write {
+                    block: *block,
+                    credential: credential_of(credential)?,
+                    interval: *interval,
+                    data: data.clone(),
+                },
             ),
             Direct::Alloc { port, reference, credential, hint, count } => (
-                plain_port(*port)?,
-                Call::Alloc { reference: *reference, credential: credential_of(credential)?, hint: *hint, count: *count },
+                port_of(*port)?,
+                Call::Alloc {
+                    reference: *reference,
+                    credential: credential_of(credential)?,
+                    hint: *hint,
+                    count: *count,
+                },
             ),
             Direct::Create { port, source, source_credential, destination, destination_credential } => (
-                plain_port(*port)?,
+                port_of(*port)?,
                 Call::Create {
                     source: *source,
                     source_credential: credential_of(source_credential)?,
@@ -501,11 +488,11 @@ impl Direct {
                 },
             ),
             Direct::Delete { port, source, credential, destination } => (
-                plain_port(*port)?,
+                port_of(*port)?,
                 Call::Delete { source: *source, credential: credential_of(credential)?, destination: *destination },
             ),
             Direct::Key { port, block, credential, read, write } => (
-                plain_port(*port)?,
+                port_of(*port)?,
                 Call::Key {
                     block: *block,
                     credential: credential_of(credential)?,

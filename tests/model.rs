@@ -1,4 +1,5 @@
-//! An independent model of the storage card, written from document 01 alone.
+//! An independent model of the storage card, written from document 01 alone; what the port of a wire means, and what a
+//! batch is, from the words of `include/negvask.h`.
 //!
 //! It favours plain rules over speed: a question about pointers is answered by looking through the pointers.
 //! Every call first names its refusal, in the document's order, and changes the card only when there is none.
@@ -58,10 +59,19 @@ pub enum Credential {
     Key(Key),
 }
 
-#[derive(Clone, Copy, Debug, PartialEq)]
+#[derive(Clone, Copy, Debug, PartialEq, Eq, PartialOrd, Ord)]
 pub enum Port {
     Host,
     Service,
+}
+
+/// The port of a number; None for a number that no port has.
+pub fn port_of(number: u8) -> Option<Port> {
+    match number {
+        0 => Some(Port::Host),
+        1 => Some(Port::Service),
+        _ => None,
+    }
 }
 
 #[derive(Clone, Copy, Debug, PartialEq)]
@@ -625,15 +635,21 @@ pub fn new_key_of(bytes: &[u8]) -> Option<Option<Key>> {
     (bytes.len() == 17).then(|| Body(bytes).new_key())?
 }
 
-/// The call of a record and its port; None is refusal 13. Bytes past the body are not looked at.
-pub fn decode(kind: u8, body: &[u8]) -> Option<(Port, Call)> {
-    let (port, plain) = match kind {
-        1..=11 => (Port::Host, kind),
-        129..=134 => (Port::Service, kind - 128),
-        _ => return None,
-    };
+/// The port at which a record's call is performed, by the port of the wire on which the record came: a host's kinds are
+/// a host's calls on either wire, and the service port's exist on the service wire alone.
+fn call_port(wire: Port, kind: u8) -> Option<Port> {
+    match (wire, kind) {
+        (_, 1..=11) => Some(Port::Host),
+        (Port::Service, 129..=134) => Some(Port::Service),
+        _ => None,
+    }
+}
+
+/// The call of a record on a wire and the call's port; None is refusal 13. Bytes past the body are not looked at.
+pub fn decode(wire: Port, kind: u8, body: &[u8]) -> Option<(Port, Call)> {
+    let port = call_port(wire, kind)?;
     let mut body = Body(body);
-    let call = match plain {
+    let call = match kind % 128 {
         1 => Call::Read { block: body.block()?, credential: body.credential()?, interval: body.interval()? },
         2 => Call::Write {
             block: body.block()?,
@@ -669,31 +685,29 @@ pub fn decode(kind: u8, body: &[u8]) -> Option<(Port, Call)> {
     Some((port, call))
 }
 
-/// One record: 13 before anything else, then its call.
-pub fn serve(card: &mut Card, kind: u8, body: &[u8], lent: &mut Buffers) -> Answer {
-    match decode(kind, body) {
-        None => Err(MALFORMED),
-        Some((port, call)) => card.perform(port, &call, lent),
-    }
+/// One record on the wire of a port's number: 13 before anything else, then its call.
+pub fn serve(card: &mut Card, wire: u8, kind: u8, body: &[u8], lent: &mut Buffers) -> Answer {
+    let (port, call) = port_of(wire).and_then(|wire| decode(wire, kind, body)).ok_or(MALFORMED)?;
+    card.perform(port, &call, lent)
 }
 
 // ---- Batches of call records ----
 
-/// The length of a record's body by its kind; None for a kind that does not exist.
-pub fn body_length(kind: u8) -> Option<usize> {
-    match kind {
-        1 | 129 => Some(23),
-        2 | 130 => Some(535),
-        3 | 131 => Some(22),
-        4 | 132 => Some(38),
-        5 | 133 => Some(21),
-        6 | 134 => Some(53),
-        7 => Some(23),
-        8 => Some(2),
-        9 | 11 => Some(0),
-        10 => Some(8),
-        _ => None,
-    }
+/// The length of a record's body by its kind; None for a kind that does not exist on the wire.
+pub fn body_length(wire: Port, kind: u8) -> Option<usize> {
+    call_port(wire, kind)?;
+    Some(match kind % 128 {
+        1 => 23,
+        2 => 535,
+        3 => 22,
+        4 => 38,
+        5 => 21,
+        6 => 53,
+        7 => 23,
+        8 => 2,
+        10 => 8,
+        _ => 0,
+    })
 }
 
 /// The record at the front of an input.
@@ -705,12 +719,12 @@ pub struct Record {
     pub length: usize,
 }
 
-/// The next record, or why a batch stops here.
-pub fn next_record(input: &[u8]) -> Result<Record, u32> {
+/// The next record on a wire, or why a batch stops here.
+pub fn next_record(wire: Port, input: &[u8]) -> Result<Record, u32> {
     let Some((&kind, rest)) = input.split_first() else { return Err(0) };
-    let length = body_length(kind).ok_or(MALFORMED)?;
+    let length = body_length(wire, kind).ok_or(MALFORMED)?;
     let body = rest.get(..length).ok_or(CUT_SHORT)?;
-    let (port, call) = decode(kind, body).ok_or(MALFORMED)?;
+    let (port, call) = decode(wire, kind, body).ok_or(MALFORMED)?;
     Ok(Record { kind, port, call, length: length + 1 })
 }
 
@@ -759,14 +773,15 @@ pub struct Progress {
     pub written: u64,
 }
 
-/// Serves the records of an input, each with its own audit; why it stopped.
-pub fn batch(card: &mut Card, input: &[u8], answers: &mut [u8], progress: &mut Progress) -> u32 {
+/// Serves the records of an input on the wire of a port's number, each with its own audit; why it stopped.
+pub fn batch(card: &mut Card, wire: u8, input: &[u8], answers: &mut [u8], progress: &mut Progress) -> u32 {
+    let Some(wire) = port_of(wire) else { return MALFORMED };
     if card.info.len() != 5 {
         return SHAPE;
     }
     *progress = Progress::default();
     loop {
-        let record = match next_record(&input[progress.read as usize..]) {
+        let record = match next_record(wire, &input[progress.read as usize..]) {
             Ok(record) => record,
             Err(stop) => return stop,
         };

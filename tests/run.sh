@@ -1,5 +1,5 @@
 #!/usr/bin/env bash
-# Builds the tests against the library's archive and runs them: one line each, exit status 1 if one fails.
+# Builds the tests against the library's archive and runs them: what each came to, exit status 1 if one fails.
 #
 #   tests/run.sh [ARCHIVE] [--calls N] [--seed S]   differential test and the examples in C
 #   tests/run.sh [ARCHIVE] --benchmark              the benchmark's tables instead
@@ -44,7 +44,8 @@ if [ "$mode" = benchmark ]; then
 fi
 
 if build differential && "$work/differential" "${options[@]}" > "$work/differential.out"; then
-	echo "differential test: passed ($(grep -E '^(differential|batch|secrecy):' "$work/differential.out" | paste -sd ';' | sed 's/;/; /g'))"
+	echo "differential test: passed"
+	grep -E '^(differential|batch|bytes|service kinds|ports|secrecy|secrecy of bytes):' "$work/differential.out" | sed 's/^/  /'
 else
 	grep -A3 -E '^(DIFFERENCE|not reached)' "$work/differential.out" 2>/dev/null
 	echo "differential test: FAILED"

@@ -1,21 +1,49 @@
-//! Secrecy: one host session on two cards that differ only in the contents of hidden and unallocated blocks.
+//! Secrecy: what a host sends, on two cards that differ only in the contents of hidden and unallocated blocks.
+//!
+//! A session of calls, by function or by record; and bytes at the host port, as batches or record by record.
 
-use crate::library::{LentBuffers, Tables};
-use crate::model::{Buffers, Call, Card, Credential, Key};
+use crate::batch::{all_served, random_room};
+use crate::library::{Direct, LentBatch, LentBuffers, Tables, HOST};
+use crate::model::{
+    body_length, decode, next_record, Buffers, Call, Card, Credential, Key, Port, Progress, Record, MALFORMED, NO_ROOM,
+};
 use crate::random_call::{buffers, Chooser};
 use crate::random_card::{random_card, Random, Size, KEYS};
+use crate::wires::{spoil, starts, Sort};
+use std::collections::BTreeMap;
+
+/// The bytes of a block on these cards.
+const BYTES: usize = 512;
+
+fn part(b: usize) -> std::ops::Range<usize> {
+    b * BYTES..(b + 1) * BYTES
+}
 
 #[derive(Default)]
 pub struct Secrecy {
     pub sessions: u64,
-    pub calls: u64,
-    pub done: u64,
-    pub hidden: u64,
-    pub freed: u64,
-    pub reads: u64,
+    calls: u64,
+    done: u64,
+    hidden: u64,
+    freed: u64,
+    reads: u64,
 }
 
-pub fn presented_by(call: &Call) -> Vec<Key> {
+impl Secrecy {
+    pub fn summary(&self) -> String {
+        format!(
+            "{} sessions, {} calls ({} done, {} of them READ), {} hidden blocks ({} of them freed)",
+            self.sessions, self.calls, self.done, self.reads, self.hidden, self.freed
+        )
+    }
+
+    pub fn missing(&self) -> Vec<String> {
+        let missing = self.hidden == 0 || self.freed == 0 || self.reads == 0;
+        missing.then(|| "secrecy: no hidden block, none freed or no READ done".to_string()).into_iter().collect()
+    }
+}
+
+fn presented_by(call: &Call) -> Vec<Key> {
     let key = |c: &Credential| match c {
         Credential::Key(k) => vec![*k],
         _ => vec![],
@@ -34,10 +62,13 @@ pub fn presented_by(call: &Call) -> Vec<Key> {
     }
 }
 
-pub fn secrecy(rnd: &mut Random, seen: &mut Secrecy) -> Result<(), String> {
-    let size = Size { bytes: 512, blocks: rnd.within(16, 32), roots: rnd.within(1, 3), places: rnd.within(20, 90) };
+// ---- Two cards ----
+
+/// A sound card with most windows closed and more blocks sealed than by chance, so that much is hidden.
+fn starting_card(rnd: &mut Random) -> Result<Card, String> {
+    let bytes = BYTES as u64;
+    let size = Size { bytes, blocks: rnd.within(16, 32), roots: rnd.within(1, 3), places: rnd.within(20, 90) };
     let mut start = random_card(rnd, size);
-    // Close most windows and seal more blocks, so that much is hidden.
     for b in 0..start.blocks() {
         if start.allocated(b) {
             if rnd.percent(80) {
@@ -53,8 +84,96 @@ pub fn secrecy(rnd: &mut Random, seen: &mut Secrecy) -> Result<(), String> {
         }
     }
     start.audit().map_err(|a| format!("the starting card is refused {a} by the model"))?;
+    Ok(start)
+}
 
-    // The session is chosen along the model's card, of which it sees no contents.
+/// Two cards, as they start and as they are lent.
+struct Pair {
+    start: Card,
+    other: Card,
+    /// By the keys that the session presents.
+    hidden: Vec<bool>,
+    one: Tables,
+    two: Tables,
+    /// Whether a DELETE took the block's last pointer.
+    freed: Vec<bool>,
+}
+
+fn of_two_cards(difference: String) -> String {
+    difference.replace("library", "one card").replace("model", "the other")
+}
+
+impl Pair {
+    fn new(rnd: &mut Random, start: Card, presented: &[Key]) -> Self {
+        let hidden = start.hidden(presented);
+        let mut other = start.clone();
+        for b in (0..start.blocks()).filter(|&b| hidden[b] || !start.allocated(b)) {
+            rnd.fill(&mut other.contents[part(b)]);
+        }
+        let freed = vec![false; start.blocks()];
+        Pair { one: Tables::new(&start), two: Tables::new(&other), start, other, hidden, freed }
+    }
+
+    /// The same on both cards: the answer and what the buffers then hold, which must be equal.
+    fn both(
+        &mut self,
+        lent: &Buffers,
+        run: impl Fn(&mut Tables, &mut LentBuffers) -> u32,
+    ) -> Result<(u32, Buffers), String> {
+        let (mut first, mut second) = (LentBuffers::new(lent), LentBuffers::new(lent));
+        let answers = (run(&mut self.one, &mut first), run(&mut self.two, &mut second));
+        if answers.0 != answers.1 {
+            return Err(format!("answers of the two cards differ: {} and {}", answers.0, answers.1));
+        }
+        let after = second.buffers();
+        match first.difference(&after).or_else(|| second.difference(&after)) {
+            Some(difference) => Err(format!("buffers of the two cards differ: {}", of_two_cards(difference))),
+            None => Ok((answers.0, after)),
+        }
+    }
+
+    /// Notes a call that was answered.
+    fn note(&mut self, call: &Call, answer: u32, value: u64, seen: &mut Secrecy) {
+        seen.calls += 1;
+        if answer == 0 {
+            seen.done += 1;
+            seen.reads += matches!(call, Call::Read { .. }) as u64;
+            if let Call::Delete { destination, .. } = call {
+                self.freed[*destination as usize] |= value == 1;
+            }
+        }
+    }
+
+    /// The cards after the session: equal but for blocks that are still hidden or unallocated, and the hidden ones kept.
+    fn compare_after(&self, seen: &mut Secrecy) -> Result<(), String> {
+        let (first, second) = (self.one.card(), self.two.card());
+        if let Some(difference) = self.one.difference_but_contents(&second) {
+            return Err(format!("after the session the two cards' tables differ: {}", of_two_cards(difference)));
+        }
+        for b in 0..self.start.blocks() {
+            let (one, two) = (&first.contents[part(b)], &second.contents[part(b)]);
+            let (hidden, freed) = (self.hidden[b], self.freed[b]);
+            let differed = hidden || !self.start.allocated(b);
+            // A block that was freed or unallocated is filled with zeros when it is allotted.
+            let may_differ = differed && (hidden && !freed || !second.allocated(b));
+            if !may_differ && one != two {
+                return Err(format!("block {b} differs after the session"));
+            }
+            if hidden && !freed && (one != &self.start.contents[part(b)] || two != &self.other.contents[part(b)]) {
+                return Err(format!("hidden block {b} lost its contents"));
+            }
+            seen.hidden += hidden as u64;
+            seen.freed += (hidden && freed) as u64;
+        }
+        seen.sessions += 1;
+        Ok(())
+    }
+}
+
+// ---- Sessions of calls ----
+
+/// A host's calls with what is lent to them, chosen along the model's card, of which they see no contents.
+fn random_session(rnd: &mut Random, start: &Card) -> Result<Vec<(Direct, Call, Buffers)>, String> {
     let known: Vec<Key> = (0..rnd.below(5)).map(|_| rnd.of(&KEYS)).collect();
     let chooser = Chooser::any(true, &known);
     let mut guide = start.clone();
@@ -66,72 +185,207 @@ pub fn secrecy(rnd: &mut Random, seen: &mut Secrecy) -> Result<(), String> {
         let _ = guide.perform(port, &call, &mut lent.clone());
         session.push((direct, call, lent));
     }
-    let presented: Vec<Key> = session.iter().flat_map(|(_, call, _)| presented_by(call)).collect();
-    let hidden = start.hidden(&presented);
-    let part = |b: usize| b * 512..b * 512 + 512;
-    let mut other = start.clone();
-    let may_differ: Vec<bool> = (0..start.blocks()).map(|b| hidden[b] || !start.allocated(b)).collect();
-    for b in 0..start.blocks() {
-        if may_differ[b] {
-            rnd.fill(&mut other.contents[part(b)]);
-        }
-    }
-    seen.hidden += hidden.iter().filter(|&&h| h).count() as u64;
+    Ok(session)
+}
 
+/// One session of calls.
+pub fn secrecy(rnd: &mut Random, seen: &mut Secrecy) -> Result<(), String> {
+    let start = starting_card(rnd)?;
+    let session = random_session(rnd, &start)?;
+    let presented: Vec<Key> = session.iter().flat_map(|(_, call, _)| presented_by(call)).collect();
+    let mut pair = Pair::new(rnd, start, &presented);
     let by_record = rnd.percent(50);
-    let (mut one, mut two) = (Tables::new(&start), Tables::new(&other));
-    let mut freed = vec![false; start.blocks()];
     for (i, (direct, call, lent)) in session.iter().enumerate() {
-        let (mut buffers1, mut buffers2) = (LentBuffers::new(lent), LentBuffers::new(lent));
-        let answers = match direct.record().filter(|_| by_record) {
-            Some((kind, body)) => (one.serve(kind, &body, &mut buffers1), two.serve(kind, &body, &mut buffers2)),
-            None => (one.call(direct, &mut buffers1), two.call(direct, &mut buffers2)),
+        let answered = match direct.record().filter(|_| by_record) {
+            Some((kind, body)) => pair.both(lent, |tables, buffers| tables.serve(HOST, kind, &body, buffers)),
+            None => pair.both(lent, |tables, buffers| tables.call(direct, buffers)),
         };
-        let shown = || format!("secrecy, call {} of the session: {call:?}", i + 1);
-        if answers.0 != answers.1 {
-            return Err(format!("{}\n  answers differ: {} and {}", shown(), answers.0, answers.1));
-        }
-        let second = Buffers {
-            out: buffers2.out.values().to_vec(),
-            places: buffers2.places.values().to_vec(),
-            value: buffers2.value.values()[0],
+        let (answer, after) = answered.map_err(|d| format!("call {} of the session: {call:?}\n  {d}", i + 1))?;
+        pair.note(call, answer, after.value, seen);
+    }
+    pair.compare_after(seen)
+}
+
+// ---- Bytes ----
+
+#[derive(Default)]
+pub struct ByteSecrecy {
+    pub counts: Secrecy,
+    /// By whether they were served as a batch, and why that stopped.
+    stops: BTreeMap<(bool, u32), u64>,
+    /// Batches without room for a record that presents a key, and that ended there.
+    keys_without_room: u64,
+    /// Inputs with a record of the service port.
+    with_service_kind: u64,
+}
+
+/// The stops that can occur by record and by batch. A record cut short is malformed by itself.
+const STOPS: [(bool, u32); 6] =
+    [(false, 0), (false, MALFORMED), (true, 0), (true, MALFORMED), (true, 256), (true, NO_ROOM)];
+
+impl ByteSecrecy {
+    pub fn summary(&self) -> String {
+        let stops = |by_batch| {
+            let these = self.stops.iter().filter(|((batch, _), _)| *batch == by_batch);
+            these.map(|((_, stop), count)| format!("{count} at {stop}")).collect::<Vec<_>>().join(", ")
         };
-        if let Some(difference) = buffers1.difference(&second) {
-            let difference = difference.replace("library", "one card").replace("model", "the other");
-            return Err(format!("{}\n  buffers of the two cards differ: {difference}", shown()));
+        format!(
+            "{}, {} sent a service record, stops by batch: {} ({} before a key), by record: {}",
+            self.counts.summary(),
+            self.with_service_kind,
+            stops(true),
+            self.keys_without_room,
+            stops(false)
+        )
+    }
+
+    pub fn missing(&self) -> Vec<String> {
+        let mut missing = self.counts.missing();
+        missing.extend(STOPS.iter().filter(|stop| !self.stops.contains_key(stop)).map(|stop| format!("stop {stop:?}")));
+        if self.keys_without_room == 0 || self.with_service_kind == 0 {
+            missing.push("a key for which there is no room, or a service record".to_string());
         }
-        if answers.0 == 0 {
-            seen.done += 1;
-            seen.reads += matches!(call, Call::Read { .. }) as u64;
-            if let Call::Delete { destination, .. } = call {
-                freed[*destination as usize] |= second.value == 1;
+        missing.iter().map(|m| format!("bytes: {m}")).collect()
+    }
+
+    fn stop(&mut self, by_batch: bool, stop: u32) {
+        *self.stops.entry((by_batch, stop)).or_default() += 1;
+    }
+}
+
+/// The whole records at the front of bytes at the host port.
+fn whole_records(input: &[u8]) -> Vec<Record> {
+    let mut records = Vec::new();
+    let mut rest = input;
+    while let Ok(record) = next_record(Port::Host, rest) {
+        rest = &rest[record.length..];
+        records.push(record);
+    }
+    records
+}
+
+fn presented_by_records(input: &[u8]) -> Vec<Key> {
+    whole_records(input).iter().flat_map(|record| presented_by(&record.call)).collect()
+}
+
+/// A host's records, of which one may be spoilt or made one of the service port.
+fn host_bytes(rnd: &mut Random, start: &Card, seen: &mut ByteSecrecy) -> Result<Vec<u8>, String> {
+    let session = random_session(rnd, start)?;
+    let records = session.iter().filter_map(|(direct, _, _)| direct.record());
+    let mut input: Vec<u8> = records.flat_map(|(kind, body)| [vec![kind], body].concat()).collect();
+    match rnd.below(10) {
+        0..=3 => {}
+        4..=7 => {
+            let sort = rnd.of(&[Sort::Flipped, Sort::Cut, Sort::Inserted]);
+            spoil(rnd, Port::Host, sort, &mut input);
+        }
+        _ => {
+            let mut starts = starts(Port::Host, &input);
+            starts.retain(|&at| input.get(at).is_some_and(|&kind| kind <= 6));
+            if !starts.is_empty() {
+                input[rnd.of(&starts)] += 128;
+                seen.with_service_kind += 1;
             }
         }
-        seen.calls += 1;
     }
-    let second = Card {
-        info: two.info.values().to_vec(),
-        flags: two.flags.values().to_vec(),
-        keys: two.keys.values().to_vec(),
-        counts: two.counts.values().to_vec(),
-        pointers: two.pointers.values().to_vec(),
-        windows: two.windows.values().to_vec(),
-        contents: two.contents.values().to_vec(),
-    };
-    if let Some(difference) = one.difference_but_contents(&second) {
-        let difference = difference.replace("library", "one card").replace("model", "the other");
-        return Err(format!("secrecy: after the session the two cards' tables differ: {difference}"));
+    Ok(input)
+}
+
+/// The bytes of a done call's results in the answers of a batch.
+fn results_length(call: &Call) -> usize {
+    match call {
+        Call::Read { .. } => BYTES,
+        Call::Alloc { count, .. } => 2 * *count as usize,
+        Call::Delete { .. } | Call::Free | Call::Tick { .. } => 8,
+        _ => 0,
     }
-    for b in 0..start.blocks() {
-        let (first, second) = (&one.contents.values()[part(b)], &second.contents[part(b)]);
-        if !may_differ[b] && first != second {
-            return Err(format!("secrecy: block {b} differs after the session, and was in reach of it at the start"));
+}
+
+impl Pair {
+    /// One batch on both cards: the stop, the answers and the three numbers, which must be equal.
+    fn batch(&mut self, rnd: &mut Random, input: &[u8], room: usize) -> Result<(u32, Vec<u8>, Progress), String> {
+        let numbers = Progress { records: rnd.next(), read: rnd.next(), written: rnd.next() };
+        let lent = rnd.bytes(room);
+        let (mut first, mut second) = (LentBatch::new(input, &lent, numbers), LentBatch::new(input, &lent, numbers));
+        let stops = (self.one.batch(HOST, &mut first), self.two.batch(HOST, &mut second));
+        if stops.0 != stops.1 {
+            return Err(format!("stops of the two cards differ: {} and {}", stops.0, stops.1));
         }
-        if hidden[b] && !freed[b] && (first != &start.contents[part(b)] || second != &other.contents[part(b)]) {
-            return Err(format!("secrecy: hidden block {b} lost its contents"));
+        let (answers, progress) = (second.answers.values().to_vec(), second.progress());
+        let difference = first.difference(input, &answers, progress);
+        match difference.or_else(|| second.difference(input, &answers, progress)) {
+            Some(difference) => Err(format!("batches on the two cards differ: {}", of_two_cards(difference))),
+            None => Ok((stops.0, answers, progress)),
         }
-        seen.freed += (hidden[b] && freed[b]) as u64;
     }
-    seen.sessions += 1;
-    Ok(())
+
+    /// Notes the calls that a batch answered, by the answers.
+    fn note_answers(&mut self, input: &[u8], answers: &[u8], progress: Progress, seen: &mut Secrecy) -> Option<()> {
+        let (mut read, mut written) = (0, 0);
+        for _ in 0..progress.records {
+            let record = next_record(Port::Host, input.get(read..)?).ok()?;
+            let answer = *answers.get(written)?;
+            let length = if answer == 0 { results_length(&record.call) } else { 0 };
+            let results = answers.get(written + 1..written + 1 + length)?;
+            let value = results.iter().take(8).fold(0, |n, &byte| n << 8 | byte as u64);
+            self.note(&record.call, answer as u32, value, seen);
+            read += record.length;
+            written += 1 + length;
+        }
+        (progress.read == read as u64 && progress.written == written as u64).then_some(())
+    }
+
+    /// The bytes as batches with room by chance: where there was none, the next goes on from there or the session ends.
+    fn batches(&mut self, rnd: &mut Random, input: &[u8], seen: &mut ByteSecrecy) -> Result<(), String> {
+        let mut rest = input;
+        loop {
+            let room = random_room(rnd, &all_served(&self.one.card(), HOST, rest));
+            let (stop, answers, progress) = self.batch(rnd, rest, room)?;
+            self.note_answers(rest, &answers, progress, &mut seen.counts)
+                .ok_or_else(|| format!("the answers of the batch are not those of its records, {progress:?}"))?;
+            rest = &rest[progress.read as usize..];
+            if stop != NO_ROOM || rnd.percent(50) {
+                seen.stop(true, stop);
+                seen.keys_without_room += (stop == NO_ROOM && !presented_by_records(rest).is_empty()) as u64;
+                return Ok(());
+            }
+        }
+    }
+
+    /// The bytes record by record, until one is malformed.
+    fn records(&mut self, rnd: &mut Random, input: &[u8], seen: &mut ByteSecrecy) -> Result<(), String> {
+        let mut rest = input;
+        while let Some((&kind, behind)) = rest.split_first() {
+            let call = decode(Port::Host, kind, behind).map(|(_, call)| call);
+            let direct = call.as_ref().map(|call| Direct::from(Port::Host, call));
+            let lent = buffers(rnd, &self.start, direct.as_ref());
+            let (answer, after) = self.both(&lent, |tables, buffers| tables.serve(HOST, kind, behind, buffers))?;
+            match (call, body_length(Port::Host, kind)) {
+                (Some(call), Some(length)) => {
+                    self.note(&call, answer, after.value, &mut seen.counts);
+                    rest = &behind[length..];
+                }
+                _ if answer == MALFORMED => {
+                    seen.stop(false, MALFORMED);
+                    return Ok(());
+                }
+                _ => return Err(format!("a malformed record of kind {kind} is answered {answer}")),
+            }
+        }
+        seen.stop(false, 0);
+        Ok(())
+    }
+}
+
+/// One session of bytes. Blocks are hidden by the keys of all whole records, also of those without room.
+pub fn byte_secrecy(rnd: &mut Random, seen: &mut ByteSecrecy) -> Result<(), String> {
+    let start = starting_card(rnd)?;
+    let input = host_bytes(rnd, &start, seen)?;
+    let mut pair = Pair::new(rnd, start, &presented_by_records(&input));
+    if rnd.percent(60) {
+        pair.batches(rnd, &input, seen)?;
+    } else {
+        pair.records(rnd, &input, seen)?;
+    }
+    pair.compare_after(&mut seen.counts)
 }

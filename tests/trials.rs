@@ -1,8 +1,8 @@
 //! The document's own trials: its example of ten records, and T1 to T12, on library and model.
 
 use crate::compare;
-use crate::library::{Direct, LentBuffers, Tables};
-use crate::model::{self, number, Buffers, Call, Card, Credential, Port, NO_HINT};
+use crate::library::{self, Direct, LentBatch, LentBuffers, Tables};
+use crate::model::{self, number, Buffers, Call, Card, Credential, Port, Progress, MALFORMED, NO_HINT};
 use crate::random_card::KEYS;
 
 pub const SERVICE: Port = Port::Service;
@@ -32,13 +32,14 @@ impl Player {
         Player { model, tables }
     }
 
-    /// Plays a record on library and model; its line as the player prints it, without the ordinal.
+    /// Plays a record on library and model, at the service port as the player does; its line as the player prints it,
+    /// without the ordinal.
     pub fn play(&mut self, port: Port, call: Call) -> Result<String, String> {
         let (kind, body) = Direct::from(port, &call).record().ok_or("no record")?;
         let lent = Buffers { out: vec![0xEE; 512], places: vec![0xEEEE; 64], value: 0 };
         let (mut expected, mut buffers) = (lent.clone(), LentBuffers::new(&lent));
-        let answer = number(model::serve(&mut self.model, kind, &body, &mut expected));
-        let given = self.tables.serve(kind, &body, &mut buffers);
+        let answer = number(model::serve(&mut self.model, library::SERVICE, kind, &body, &mut expected));
+        let given = self.tables.serve(library::SERVICE, kind, &body, &mut buffers);
         compare("trial", given, answer, &self.tables, &self.model, &buffers, &expected)?;
         let mut line = format!("{kind} {given}");
         if given == 0 {
@@ -54,6 +55,25 @@ impl Player {
         }
         Ok(line)
     }
+}
+
+/// The calls as a batch on fresh cards: whole at the service port, while the host port stops at the first, a service record.
+fn example_batch(calls: &[(Port, Call, &str)]) -> Result<(), String> {
+    let records = calls.iter().filter_map(|(port, call, _)| Direct::from(*port, call).record());
+    let input: Vec<u8> = records.flat_map(|(kind, body)| [vec![kind], body].concat()).collect();
+    let whole = Progress { records: 10, read: input.len() as u64, written: 1_070 };
+    for (port, stop, progress) in [(library::SERVICE, 0, whole), (library::HOST, MALFORMED, Progress::default())] {
+        let mut player = Player::new();
+        let mut answers = vec![0xEE; 2_000];
+        let mut lent = LentBatch::new(&input, &answers, Progress::default());
+        let given = player.tables.batch(port, &mut lent);
+        model::batch(&mut player.model, port, &input, &mut answers, &mut Progress::default());
+        let difference = lent.difference(&input, &answers, progress).or(player.tables.difference(&player.model));
+        if given != stop || difference.is_some() {
+            return Err(format!("the example as a batch at port {port}: stop {given}, {difference:?}"));
+        }
+    }
+    Ok(())
 }
 
 pub fn trials() -> Result<usize, String> {
@@ -135,6 +155,7 @@ pub fn trials() -> Result<usize, String> {
             ],
         ),
     ];
+    example_batch(&rows[0].1)?;
     for (name, calls) in &rows {
         let mut player = Player::new();
         for (i, (port, call, expected)) in calls.iter().enumerate() {
