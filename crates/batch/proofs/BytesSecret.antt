@@ -8,13 +8,14 @@ use native.Mathlib.Nat.{zero-add}
 use lib.Dec.{ltb}
 use lib.ListN.{length, take, getD}
 use lib.Seq.{take-at}
+use Rattle.card.specs.ListsLaws.{or-left, or-right}
 use Rattle.card.specs.Contents.{zeros}
 use Rattle.card.specs.Card.{Public, Card, block}
 use Rattle.card.specs.Plan.{Result}
 use Rattle.card.specs.SoundCard.{SoundCard}
 use Rattle.card.specs.Session.{Request, Sent, Reply, request, perform, reply, performed, replies, afterAll, sentByHost, hostSession}
 use Rattle.card.specs.SessionLaws.{perform-bytes}
-use Rattle.card.specs.Reach.{presented, Hidden, lastTaken}
+use Rattle.card.specs.Reach.{presents, presented, Hidden, lastTaken}
 use Rattle.card.proofs.Secrecy.Theorem.{EqualBut, HiddenOrFree, HiddenOrStillFree, HasKeys, Secret}
 use Rattle.card.proofs.Secrecy.Acts.{Act, ActsSecret, madeBy, answersBy, heldBy, acts-secret}
 use Rattle.card.specs.declared.Port.{Port}
@@ -45,6 +46,36 @@ pub record BytesSecret (c d : Card) (xs : List ℕ) (room : ℕ) : Type 0 where
   -- On both, each hidden block ends with the contents it started with, unless a call of the bytes took its last pointer away.
   pub kept : (b : ℕ) → Hidden (keysIn c xs) c b → lastTaken c (madeIn c xs room) b ≡ false → block (serve Host c xs room .after) b ≡ block c b
   pub keptOnOther : (b : ℕ) → Hidden (keysIn c xs) c b → lastTaken d (madeIn d xs room) b ≡ false → block (serve Host d xs room .after) b ≡ block d b
+
+-- ---- what it is judged by
+
+-- Whether a record is served depends on the bytes, the room and the bytes of a block alone, whatever the card answers to it.
+pub room-by-record : (wire : Port) (room : ℕ) (c d : Card) → c .public .info .bytes ≡ d .public .info .bytes → (xs : List ℕ) → serveTurn wire room c xs .stop ≡ serveTurn wire room d xs .stop
+unfolding serveTurn serveTurnOf
+room-by-record wire room c d same xs = by-next (decode wire xs)
+  where
+    by-room : (full : Bool) (port : Port) (call : Call) (payload rest : List ℕ)
+        → cond full (halted Full c xs) (answering port c call payload rest) .stop ≡ cond full (halted Full d xs) (answering port d call payload rest) .stop
+    by-room true port call payload rest = refl
+    by-room false port call payload rest = refl
+
+    by-next : (n : Next) → serveTurnOf wire room c xs n .stop ≡ serveTurnOf wire room d xs n .stop
+    by-next ended = refl
+    by-next refused = refl
+    by-next (sent port call payload rest) =
+        by-room (ltb room (answerRoom (c .public .info .bytes) call)) port call payload rest
+        ∙ ap (λ (n : ℕ). cond (ltb room (answerRoom n call)) (halted Full d xs) (answering port d call payload rest) .stop) same
+
+presented-among : (before : List Request) (q : Request) (behind : List Request) (high low : ℕ) → presents (q .call) high low ≡ true → presented (before ++ (q ∷ behind)) high low ≡ true
+unfolding presented
+presented-among [] q behind high low h = or-left _ _ h
+presented-among (p ∷ before) q behind high low h = or-right (presents (p .call) high low) _ (presented-among before q behind high low h)
+
+-- Every key that any record of the bytes presents is counted, whatever is answered to the record.
+pub keys-counted : (c : Card) (xs : List ℕ) (before : List Request) (q : Request) (behind : List Request) → requestsIn (c .public .info .bytes) xs ≡ before ++ (q ∷ behind)
+    → (high low : ℕ) → presents (q .call) high low ≡ true → keysIn c xs high low ≡ true
+unfolding keysIn
+keys-counted c xs before q behind e high low h = ap (λ (qs : List Request). presented qs high low) e ∙ presented-among before q behind high low h
 
 -- ---- what a batch tells
 

@@ -4,3 +4,4 @@ pub mod TurnServed
 pub mod Serving
 pub mod BytesSafe
 pub mod BytesSecret
+pub mod BytesExample
