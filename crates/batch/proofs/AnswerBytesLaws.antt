@@ -27,7 +27,7 @@ use Rattle.lines.specs.Written.{Written, written-none, written-join, written-le
 use Rattle.lines.proofs.WrittenPart.{WrittenPart, part-more}
 use Rattle.lines.specs.declared.Filled.{Filled}
 use Rattle.lines.specs.declared.Filled.the-variants.{Neither, Bytes, Blocks}
-use Rattle.batch.specs.Serve.{pairs, filledBytes, answerBytes, lentBytes, lentSize, answerRoom}
+use Rattle.serving.specs.Serve.{pairs, filledBytes, answerBytes, lentBytes, lentSize, answerRoom}
 
 -- ---- what is lent
 

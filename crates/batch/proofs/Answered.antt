@@ -31,7 +31,7 @@ use Rattle.fields.specs.Bytes.{bytes}
 use Rattle.lines.specs.Replied.{replied}
 use Rattle.lines.specs.Written.{Written}
 use Rattle.input.specs.Played.{WroteIs}
-use Rattle.batch.specs.Serve.{pairs, answerBytes, lentSize, lentPlaces, answerRoom, served}
+use Rattle.serving.specs.Serve.{pairs, answerBytes, lentSize, lentPlaces, answerRoom, served}
 use Rattle.batch.proofs.AnswerBytesLaws.{pairs-length}
 
 -- ---- the verdict

@@ -19,7 +19,7 @@ use Rattle.input.specs.PlayedLaws.{is-went, not-went}
 use Rattle.input.proofs.SameTables.{SameTables}
 use Rattle.input.specs.declared.Stop.{Stop}
 use Rattle.input.specs.declared.Stop.the-variants.{Went, Ended, Short, Refused, Full}
-use Rattle.batch.specs.Serve.{serveTurn, roomFrom, serveWithin, serve}
+use Rattle.serving.specs.Serve.{serveTurn, roomFrom, serveWithin, serve}
 use Rattle.batch.proofs.TurnServed.{serve-turn-left, serve-turn-halts, serve-turn-verdict}
 
 -- Some answers are written, and the batch goes on from here, by at most so many turns after the next.

@@ -25,7 +25,7 @@ use Rattle.input.specs.declared.Stop.the-variants.{Went, Ended, Full}
 use Rattle.input.specs.declared.Record.{Record}
 use Rattle.input.specs.declared.Found.{Found}
 use Rattle.input.specs.declared.Found.the-variants.{Whole, Nothing}
-use Rattle.batch.specs.Serve.{answerBytes, answerRoom, served, answering, serveTurnOf, serveTurn, roomFrom}
+use Rattle.serving.specs.Serve.{answerBytes, answerRoom, served, answering, serveTurnOf, serveTurn, roomFrom}
 use Rattle.batch.proofs.Answered.{verdict-kept}
 
 -- ---- by what was found

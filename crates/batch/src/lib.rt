@@ -21,7 +21,7 @@ ghost use Rattle.fields.specs.Bytes.{bytes};
 ghost use Rattle.lines.specs.Replied.{replied};
 ghost use Rattle.lines.specs.Written.{Written};
 ghost use Rattle.input.specs.Played.{Writes, Turns, Plays};
-ghost use Rattle.batch.specs.Serve.{pairs, filledBytes, answerBytes, lentSize, answerRoom, served, serveTurn, roomFrom, serve};
+ghost use Rattle.serving.specs.Serve.{pairs, filledBytes, answerBytes, lentSize, answerRoom, served, serveTurn, roomFrom, serve};
 
 // ---- the room for an answer
 

@@ -15,7 +15,7 @@ use Rattle.input.specs.declared.Stop.the-variants.{Went, Ended, Short, Refused,
 use Rattle.adapter.specs.Numbers.{recordLength, recordOf, numbersOf, wireOf}
 use Rattle.adapter.specs.declared.Wire.{Wire}
 use Rattle.adapter.specs.declared.Wire.the-variants.{At, Nowhere}
-use Rattle.batch.specs.Serve.{serve}
+use Rattle.serving.specs.Serve.{serve}
 
 -- Why a batch stopped: 0 at the end of its input, 13 at a record refused 13, 256 at one cut short, 257 where its answer has no room.
 abbrev pub stopNumber : Stop → ℕ

@@ -21,8 +21,8 @@ use Rattle.records.specs.declared.Decoding.{Decoding}
 use Rattle.records.specs.declared.Decoding.the-variants.{Decoded, Bad}
 use Rattle.input.specs.Play.{Play}
 use Rattle.input.specs.Played.{PlayedIs}
-use Rattle.batch.specs.Serve.{serve}
-use Rattle.batch.proofs.BytesSafe.{left-by-calls}
+use Rattle.serving.specs.Serve.{serve}
+use Rattle.serving.proofs.BytesSafe.{left-by-calls}
 use Rattle.adapter.specs.Numbers.{recordLength, wireOf}
 use Rattle.adapter.specs.Effects.{Effect, effectOf, refusedEffect, effect, Gives}
 use Rattle.adapter.specs.declared.Wire.{Wire}

@@ -28,9 +28,9 @@ use Rattle.records.specs.declared.Decoding.{Decoding}
 use Rattle.records.specs.declared.Decoding.the-variants.{Decoded, Bad}
 use Rattle.input.specs.Arrivals.{arrivals, requestWith, sentWith}
 use Rattle.input.specs.ArrivalsLaws.{host-arrivals}
-use Rattle.batch.specs.Serve.{lentSize, serve}
-use Rattle.batch.specs.Held.{requestsIn}
-use Rattle.batch.proofs.BytesSecret.{Told, told, batchAct, take-hosts}
+use Rattle.serving.specs.Serve.{lentSize, serve}
+use Rattle.serving.specs.Held.{requestsIn}
+use Rattle.serving.proofs.BytesSecret.{Told, told, batchAct, take-hosts}
 use Rattle.adapter.specs.Numbers.{numbersOf, recordOf, wireOf, callAt, atPort, decodeAt}
 use Rattle.adapter.specs.declared.Wire.{Wire}
 use Rattle.adapter.specs.declared.Wire.the-variants.{At, Nowhere}

@@ -15,8 +15,8 @@ use Rattle.records.specs.declared.Decoding.{Decoding}
 use Rattle.records.specs.declared.Decoding.the-variants.{Decoded, Bad}
 use Rattle.input.specs.Play.{Play}
 use Rattle.input.specs.Arrivals.{arrivals, sentWith}
-use Rattle.batch.specs.Serve.{lentSize, serve}
-use Rattle.batch.specs.Held.{requestsIn}
+use Rattle.serving.specs.Serve.{lentSize, serve}
+use Rattle.serving.specs.Held.{requestsIn}
 use Rattle.adapter.specs.Numbers.{recordLength, recordOf, wireOf}
 use Rattle.adapter.specs.Effects.{Effect, valueAfter, Does, Gives}
 use Rattle.adapter.specs.declared.Wire.{Wire}

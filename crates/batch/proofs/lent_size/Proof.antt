@@ -1,5 +1,5 @@
 -- `batch::lent_size` meets its contract. Assumes nothing.
-use Rattle.batch.specs.Serve.{lentSize}
+use Rattle.serving.specs.Serve.{lentSize}
 use Rattle.batch.proofs.AnswerBytesLaws.{lent-whole, lent-none}
 use borrow.Author.Needs.{needs}
 use Rattle.batch.proofs.lent_size.Statement.{statement}

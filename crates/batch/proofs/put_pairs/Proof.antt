@@ -5,7 +5,7 @@ use Prim.Native.Nat.{_-_}
 use mathlib.Core.Path.{refl}
 use lib.ListN.{length, take}
 use Rattle.lines.proofs.WrittenPart.{part-none}
-use Rattle.batch.specs.Serve.{pairs}
+use Rattle.serving.specs.Serve.{pairs}
 use Rattle.batch.proofs.AnswerBytesLaws.{Pairing, pairing-more, pairing-done}
 use Rattle.batch.proofs.put_pairs.Statement.{statement}
 use Rattle.batch.proofs.put_pairs.Tie as tie

@@ -9,7 +9,7 @@ use borrow.Author.Needs.{needs}
 use Rattle.card.proofs.Call.{the-type}
 use Rattle.card.specs.declared.Call.{Call}
 use Rattle.card.specs.declared.Call.the-variants.{Read, Write, Alloc, Create, Delete, Key, Renew, Force, Free, Tick, Audit}
-use Rattle.batch.specs.Serve.{answerRoom}
+use Rattle.serving.specs.Serve.{answerRoom}
 use Rattle.batch.proofs.AnswerBytesLaws.{lent-most, room-read}
 use Rattle.batch.proofs.room_of.Statement.{statement}
 use Rattle.batch.proofs.room_of.Tie as tie

@@ -19,8 +19,8 @@ use Rattle.input.specs.Arrivals.{Arrived, arrivals, sentWith}
 use Rattle.input.specs.Performed.{PerformedBy, TurnIn, noRoom, atEnd, atFault, performs}
 use Rattle.input.specs.PerformedLaws.{loop-performs}
 use Rattle.input.specs.declared.Stop.the-variants.{Full}
-use Rattle.batch.specs.Serve.{lentSize, answerRoom, served, answering, serveTurnOf, serveTurn, serveWithin, serve}
-use Rattle.batch.specs.Held.{serving}
+use Rattle.serving.specs.Serve.{lentSize, answerRoom, served, answering, serveTurnOf, serveTurn, serveWithin, serve}
+use Rattle.serving.specs.Held.{serving}
 
 module _ (wire : Port) (before : ℕ) (c : Card) (xs : List ℕ) (room : ℕ) where
   by-room : (port : Port) (call : Call) (payload rest : List ℕ) → decode wire xs ≡ sent port call payload rest → (full : Bool) → ltb room (answerRoom (c .public .info .bytes) call) ≡ full

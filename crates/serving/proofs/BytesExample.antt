@@ -28,9 +28,9 @@ use Rattle.records.specs.Decode.{withCredential, renewWith, decodeCall, decodeK
 use Rattle.input.specs.Play.{goOn}
 use Rattle.input.specs.Arrivals.{arrivalsOf, arrivalsWithin, arrivals}
 use Rattle.input.specs.declared.Stop.the-variants.{Ended}
-use Rattle.batch.specs.Serve.{pairs, answerBytes, lentSize, answerRoom, served, serveTurnOf, serveTurn, serveWithin, serve}
-use Rattle.batch.specs.Held.{requestsIn, keysIn, madeIn}
-use Rattle.batch.proofs.BytesSecret.{BytesSecret, told, bytes-secret}
+use Rattle.serving.specs.Serve.{pairs, answerBytes, lentSize, answerRoom, served, serveTurnOf, serveTurn, serveWithin, serve}
+use Rattle.serving.specs.Held.{requestsIn, keysIn, madeIn}
+use Rattle.serving.proofs.BytesSecret.{BytesSecret, told, bytes-secret}
 
 -- To compute what bytes hold on these cards, a proof unfolds this one name.
 unfoldable holding : Unit {0}

@@ -16,7 +16,7 @@ use Rattle.records.specs.Decode.{withCredential, createWith, keyWith, decodeCal
 use Rattle.input.specs.Play.{Play, goOn, isShort, fault}
 use Rattle.input.specs.declared.Stop.{Stop}
 use Rattle.input.specs.declared.Stop.the-variants.{Ended, Short, Refused, Full}
-use Rattle.batch.specs.Serve.{pairs, answerBytes, lentSize, answerRoom, served, serveTurnOf, serveTurn, serveWithin, serve}
+use Rattle.serving.specs.Serve.{pairs, answerBytes, lentSize, answerRoom, served, serveTurnOf, serveTurn, serveWithin, serve}
 
 -- ---- records in bytes
 

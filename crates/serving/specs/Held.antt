@@ -13,7 +13,7 @@ use Rattle.card.specs.declared.Call.{Call}
 use Rattle.records.specs.Decode.{sent, decode}
 use Rattle.input.specs.Arrivals.{Arrived, arrivals, requestWith}
 use Rattle.input.specs.Performed.{Manner}
-use Rattle.batch.specs.Serve.{answerBytes, lentSize, answerRoom, serve}
+use Rattle.serving.specs.Serve.{answerBytes, lentSize, answerRoom, serve}
 
 -- There is no room for the longest answer to the record that is next.
 pub record NoRoomFor (wire : Port) (bytes room : ℕ) (xs : List ℕ) : Type 0 where

@@ -29,9 +29,9 @@ use Rattle.input.specs.ArrivalsLaws.{arrivals-sent, host-arrivals}
 use Rattle.input.specs.Performed.{PerformedBy}
 use Rattle.input.specs.declared.Stop.{Stop}
 use Rattle.input.specs.declared.Stop.the-variants.{Went, Ended, Full}
-use Rattle.batch.specs.Serve.{answerBytes, lentSize, lentPlaces, answerRoom, served, answering, serveTurnOf, serveTurn, serveWithin, serve}
-use Rattle.batch.specs.Held.{serving, requestsIn, keysIn, madeIn}
-use Rattle.batch.proofs.BytesSafe.{left-by-calls}
+use Rattle.serving.specs.Serve.{answerBytes, lentSize, lentPlaces, answerRoom, served, answering, serveTurnOf, serveTurn, serveWithin, serve}
+use Rattle.serving.specs.Held.{serving, requestsIn, keysIn, madeIn}
+use Rattle.serving.proofs.BytesSafe.{left-by-calls}
 
 -- ---- the statement
 

@@ -1,0 +1,3 @@
+pub mod BytesSafe
+pub mod BytesSecret
+pub mod BytesExample
