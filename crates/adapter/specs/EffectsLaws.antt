@@ -17,7 +17,6 @@ use Rattle.card.specs.declared.Call.{Call}
 use Rattle.card.specs.declared.Answer.{Answer}
 use Rattle.card.specs.declared.Refusal.{Refusal}
 use Rattle.card.specs.declared.Refusal.the-variants.{Misshapen, Unsound, NotAllocated, BadOperand, NotOpened, IsRoot, PointerExists, NoPointer, HasPointers, TooFewBlocks, TooFewPlaces, TimeEnds, BadRecord}
-use Rattle.kinds.specs.Kinds.{lengthOf, dataLength, operandsLength}
 use Rattle.kinds.specs.KindsLaws.{data-right}
 use Rattle.records.specs.Decode.{nameOf, dataOf}
 use Rattle.records.specs.Parsed.{ParsedIs}

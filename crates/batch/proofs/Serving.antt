@@ -2,7 +2,7 @@
 -- Assumes nothing.
 use Prim.Native.Nat.{ℕ, suc, _+_, _-_, _≤_, _<_}
 use mathlib.Core.Path.{_≡_, refl, sym, ap, ap₂, _∙_, subst}
-use mathlib.Core.Bool.{true, false, true≢false}
+use mathlib.Core.Bool.{true, false}
 use mathlib.Core.List.{List, [], _++_, append-assoc}
 use native.Mathlib.Omega.{arith}
 use native.Mathlib.Nat.{sub-zero, zero-add}
@@ -12,13 +12,13 @@ use Rattle.card.specs.Soundness.{verdict}
 use Rattle.card.specs.declared.Info.{Info}
 use Rattle.card.specs.declared.Port.{Port}
 use Rattle.lines.specs.Written.{Written, written-none, written-join, written-length}
-use Rattle.input.specs.Play.{Turn, Play, outputBefore, stopped, goOn}
+use Rattle.input.specs.Play.{Turn, Play, outputBefore, goOn}
 use Rattle.input.specs.Played.{TurnIs, PlayedIs, isWent}
 use Rattle.input.specs.PlayLaws.{goOn-halts}
 use Rattle.input.specs.PlayedLaws.{is-went, not-went}
 use Rattle.input.proofs.SameTables.{SameTables}
 use Rattle.input.specs.declared.Stop.{Stop}
-use Rattle.input.specs.declared.Stop.the-variants.{Went, Ended, Short, Refused, Full}
+use Rattle.input.specs.declared.Stop.the-variants.{Went}
 use Rattle.serving.specs.Serve.{serveTurn, roomFrom, serveWithin, serve}
 use Rattle.batch.proofs.TurnServed.{serve-turn-left, serve-turn-halts, serve-turn-verdict}
 

@@ -1,6 +1,6 @@
 -- The call records that bytes hold which arrive at a port: from bytes to a list of calls.
 use Prim.Native.Nat.{ℕ, zero, suc, _+_}
-use mathlib.Core.List.{List, [], _∷_, _++_, map}
+use mathlib.Core.List.{List, [], _∷_, _++_}
 use lib.ListN.{length, getD}
 use Rattle.card.specs.Contents.{zeros}
 use Rattle.card.specs.Session.{Request, Sent, Reply, request}

@@ -1,8 +1,8 @@
 -- Laws of the records that bytes hold: record by record, and that those of the host port are calls of a host.
 -- Assumes nothing.
-use Prim.Native.Nat.{ℕ, zero, suc, _≤_, _<_}
+use Prim.Native.Nat.{ℕ, zero, suc, _<_}
 use mathlib.Core.Path.{_≡_, refl, ap, ap₂, _∙_}
-use mathlib.Core.List.{List, [], _∷_, map}
+use mathlib.Core.List.{List, _∷_, map}
 use native.Mathlib.Omega.{arith}
 use lib.ListN.{length, getD}
 use Rattle.card.specs.Session.{Sent, hostSession}
@@ -12,7 +12,7 @@ use Rattle.card.specs.declared.Call.{Call}
 use Rattle.records.specs.Decode.{Next, ended, refused, sent, decode}
 use Rattle.records.specs.DecodeLaws.{decode-shorter, host-sent}
 use Rattle.input.specs.Play.{fault}
-use Rattle.input.specs.Arrivals.{Arrived, Arrivals, noneHeld, heldBefore, arrivalsOf, arrivalsWithin, arrivals, requestWith, sentWith}
+use Rattle.input.specs.Arrivals.{Arrivals, noneHeld, heldBefore, arrivalsOf, arrivalsWithin, arrivals, requestWith, sentWith}
 use Rattle.input.specs.declared.Stop.the-variants.{Ended}
 
 -- ---- record by record

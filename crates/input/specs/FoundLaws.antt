@@ -15,7 +15,6 @@ use Rattle.kinds.specs.Kinds.{lengthOf, dataLength, operandsLength, kindOf, kin
 use Rattle.records.specs.Decode.{ended, sent, decodeKnown, decodeBody, nameOf, dataOf, nextOf, decode}
 use Rattle.kinds.specs.KindsLaws.{data-right}
 use Rattle.records.specs.Parsed.{ParsedIs}
-use Rattle.kinds.specs.declared.Name.{Name}
 use Rattle.kinds.specs.declared.Kind.{Kind}
 use Rattle.kinds.specs.declared.Kind.the-variants.{Known, Unknown}
 use Rattle.kinds.specs.declared.Length.{Length}

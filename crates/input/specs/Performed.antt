@@ -4,13 +4,13 @@ use mathlib.Core.Path.{_≡_}
 use mathlib.Core.List.{List, [], _++_, map}
 use lib.ListN.{length, getD}
 use Rattle.card.specs.Card.{Card}
-use Rattle.card.specs.Session.{Sent, Reply, reply, performed, replies, afterAll, Each}
+use Rattle.card.specs.Session.{Reply, reply, performed, replies, afterAll, Each}
 use Rattle.card.specs.declared.Port.{Port}
 use Rattle.card.specs.declared.Call.{Call}
 use Rattle.card.proofs.Guarantees.Safe.{SafeCall}
 use Rattle.records.specs.Decode.{ended, refused, sent, decode}
 use Rattle.input.specs.Play.{Turn, halted, fault, Play}
-use Rattle.input.specs.Arrivals.{Arrived, Arrivals, arrivals, sentWith, writtenOf}
+use Rattle.input.specs.Arrivals.{Arrived, arrivals, sentWith, writtenOf}
 use Rattle.input.specs.declared.Stop.the-variants.{Went, Ended, Full}
 
 -- How records are performed: the port at which they arrive, the bytes lent to a call on a card with blocks of so many bytes, what is written of

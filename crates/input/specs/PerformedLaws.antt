@@ -1,18 +1,16 @@
 -- A loop of turns performs the calls that its bytes hold.
 -- Assumes nothing.
 use Prim.Native.Nat.{ℕ, zero, suc, _+_, _-_, _<_}
-use mathlib.Core.Path.{_≡_, refl, sym, ap, ap₂, _∙_, subst}
-use mathlib.Core.Bool.{Bool, true, false, true≢false}
+use mathlib.Core.Path.{_≡_, refl, sym, ap, _∙_, subst}
 use mathlib.Core.List.{List, [], _∷_, _++_, map}
 use native.Mathlib.Omega.{arith}
 use native.Mathlib.Nat.{add-zero, sub-zero}
 use lib.ListN.{length, length-append}
 use Rattle.card.specs.Card.{Card}
-use Rattle.card.specs.Session.{Sent, Reply, reply, performed, replies, afterAll, Each}
+use Rattle.card.specs.Session.{Sent, reply, performed, replies, afterAll, Each}
 use Rattle.card.specs.SessionLaws.{perform-bytes}
 use Rattle.card.proofs.Guarantees.Safe.{SafeCall, safe-call}
 use Rattle.card.specs.declared.Call.{Call}
-use Rattle.records.specs.Decode.{decode}
 use Rattle.records.specs.DecodeLaws.{decode-shorter}
 use Rattle.input.specs.Play.{Turn, halted, fault, Play, outputBefore, stopped, goOn}
 use Rattle.input.specs.PlayLaws.{fault-stops, goOn-halts}
@@ -20,7 +18,7 @@ use Rattle.input.specs.Arrivals.{Arrived, Arrivals, heldBefore, arrivals
 use Rattle.input.specs.ArrivalsLaws.{arrivals-ended, arrivals-refused, arrivals-sent}
 use Rattle.input.specs.Performed.{Manner, Ends, outOfRoom, allPerformed, PerformedBy, TurnIn, noRoom, atEnd, atFault, performs}
 use Rattle.input.specs.declared.Stop.{Stop}
-use Rattle.input.specs.declared.Stop.the-variants.{Went, Ended, Short, Refused, Full}
+use Rattle.input.specs.declared.Stop.the-variants.{Ended, Full}
 
 module _ (m : Manner) where
   -- ---- no record more

@@ -1,13 +1,13 @@
 -- What the decoder has found of a kind and its body, as it returns it.
 -- Assumes nothing.
-use Prim.Native.Nat.{ℕ, _-_, _≤_}
+use Prim.Native.Nat.{ℕ, _≤_}
 use mathlib.Core.Path.{_≡_, sym, ap, _∙_}
 use mathlib.Core.List.{List}
 use native.Mathlib.Omega.{arith}
 use lib.ListN.{length}
 use Rattle.card.specs.declared.Port.{Port}
 use Rattle.card.specs.declared.Call.{Call}
-use Rattle.kinds.specs.Kinds.{lengthOf, dataLength, operandsLength, lengthsOf, kindOf}
+use Rattle.kinds.specs.Kinds.{lengthOf, operandsLength, lengthsOf, kindOf}
 use Rattle.kinds.specs.declared.Name.{Name}
 use Rattle.kinds.specs.declared.Kind.{Kind}
 use Rattle.kinds.specs.declared.Kind.the-variants.{Known}

@@ -14,9 +14,8 @@ use Rattle.card.specs.declared.Port.{Port}
 use Rattle.card.specs.declared.Port.the-variants.{Host}
 use Rattle.card.specs.declared.Credential.{Credential}
 use Rattle.card.specs.declared.Credential.the-variants.{Key as KeyCredential}
-use Rattle.card.specs.declared.NewKey.{NewKey}
 use Rattle.card.specs.declared.Call.{Call}
-use Rattle.card.specs.declared.Call.the-variants.{Read, Write, Alloc, Create, Delete, Key, Renew, Force, Free, Tick, Audit}
+use Rattle.card.specs.declared.Call.the-variants.{Force, Free, Tick, Audit}
 use Rattle.fields.specs.Bytes.{number}
 use Rattle.kinds.specs.Kinds.{lengthOf, kindOf}
 use Rattle.kinds.specs.KindsLaws.{host-kinds}

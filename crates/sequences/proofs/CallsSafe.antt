@@ -2,12 +2,11 @@
 -- the card that the one before left.
 -- Assumes nothing.
 use Prim.Native.Nat.{ℕ, _-_, _≤_}
-use mathlib.Core.Path.{_≡_, refl, sym, ap, ap₂, _∙_, subst}
+use mathlib.Core.Path.{_≡_, refl, sym, ap, ap₂, _∙_}
 use mathlib.Core.Bool.{Bool, true, false, cond}
-use mathlib.Core.List.{List, [], _∷_, _++_}
+use mathlib.Core.List.{List, [], _∷_}
 use native.Mathlib.Omega.{arith}
 use native.Mathlib.Nat.{zero-add}
-use lib.Dec.{eqb}
 use lib.ListN.{length, drop, length-drop}
 use borrow.Author.Tests.{eqb-true, eqb-false}
 use Rattle.card.specs.ListsLaws.{absurd-test}
@@ -23,7 +22,7 @@ use Rattle.input.specs.Play.{Play}
 use Rattle.input.specs.Played.{PlayedIs}
 use Rattle.serving.specs.Serve.{serve}
 use Rattle.serving.proofs.BytesSafe.{left-by-calls}
-use Rattle.adapter.specs.Numbers.{recordLength, wireOf}
+use Rattle.adapter.specs.Numbers.{wireOf}
 use Rattle.adapter.specs.Effects.{Effect, effectOf, refusedEffect, effect, Gives}
 use Rattle.adapter.specs.declared.Wire.{Wire}
 use Rattle.adapter.specs.declared.Wire.the-variants.{At, Nowhere}

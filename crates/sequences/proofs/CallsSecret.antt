@@ -10,7 +10,7 @@ use borrow.Author.Tests.{eqb-true}
 use Rattle.card.specs.Contents.{overwrite}
 use Rattle.card.specs.Card.{Public, Card, block}
 use Rattle.card.specs.SoundCard.{SoundCard}
-use Rattle.card.specs.Session.{Request, Sent, Reply, request, perform, reply, replies, afterAll, sentByHost, hostSession}
+use Rattle.card.specs.Session.{Request, Sent, Reply, request, replies, afterAll, sentByHost, hostSession}
 use Rattle.card.specs.SessionLaws.{afterAll-bytes}
 use Rattle.card.specs.Reach.{presented, Hidden, lastTaken}
 use Rattle.card.specs.declared.Port.{Port}
@@ -30,13 +30,13 @@ use Rattle.input.specs.Arrivals.{arrivals, requestWith, sentWith}
 use Rattle.input.specs.ArrivalsLaws.{host-arrivals}
 use Rattle.serving.specs.Serve.{lentSize, serve}
 use Rattle.serving.specs.Held.{requestsIn}
-use Rattle.serving.proofs.BytesSecret.{Told, told, batchAct, take-hosts}
+use Rattle.serving.proofs.BytesSecret.{Told, told, batchAct, take-hosts, only}
 use Rattle.adapter.specs.Numbers.{numbersOf, recordOf, wireOf, callAt, atPort, decodeAt}
 use Rattle.adapter.specs.declared.Wire.{Wire}
-use Rattle.adapter.specs.declared.Wire.the-variants.{At, Nowhere}
+use Rattle.adapter.specs.declared.Wire.the-variants.{At}
 use Rattle.interface.specs.Functions.{Function, read, write, alloc, create, delete, key, renew, force, tick, free, audit, serve as serveRecord, Lending, lendingOf, functionPort}
 use Rattle.interface.specs.Batch.{stopNumber}
-use Rattle.sequences.specs.Sequence.{Memory, cardOf, Step, calls, batches, Returned, fromCall, fromBatch, Called, isFive, sentOf, sentAt, callsOf, callsIn, byReply, callReturns, byPlay, batchReturns, returnsOf, returnsIn, portNumber, AllAtHost, requestOf, requestsOf, requestsBy, keysBy}
+use Rattle.sequences.specs.Sequence.{Memory, cardOf, Step, calls, batches, Returned, fromCall, fromBatch, Called, isFive, sentOf, sentAt, callsOf, callsIn, byReply, callReturns, batchReturns, returnsOf, returnsIn, portNumber, AllAtHost, requestOf, requestsOf, requestsBy, keysBy}
 use Rattle.sequences.proofs.CallsSafe.{CallsSafe, calls-safe}
 
 -- ---- the statement
@@ -104,9 +104,6 @@ record StepAct (bytes : ℕ) (five : Bool) (s : Step) : Type 0 where
   pub holds : act .held ≡ requestsOf bytes s
   pub returns : (c : Card) → act .answer c ≡ returnsOf five c s
   pub makes : (c : Card) → c .public .info .bytes ≡ bytes → hostSession (take (act .made c) (act .held)) ≡ callsOf five c s
-
-only : {A : Type 0} {x y : A} → _≡_ {A = List A} (x ∷ []) (y ∷ []) → x ≡ y
-only e = cc
 
 module _ (bytes : ℕ) (five : Bool) where
   -- ---- one call
@@ -310,10 +307,8 @@ module _ {steps : List Step} {m n m' n' : Memory} {rs ss : List Returned} (atHos
       ∙ sym (five-numbers (n' .info) (right-safe .five ∙ same-five ∙ e))
   same-info false e = left-safe .notFive e ∙ sameRecord ∙ sym (right-safe .notFive (same-five ∙ e))
 
-  -- Any sequence of functions called at the host port, each with what the one before left, and any two memories that are equal but for the contents of
-  -- hidden and unallocated blocks of sound cards. Hidden is judged on the starting card, with the keys that any step presents.
-  pub calls-secret : CallsSecret steps m n rs ss m' n'
-  calls-secret = record {
+  all-alike : CallsSecret steps m n rs ss m' n'
+  all-alike = record {
     answers =
         left-safe .returns
         ∙ sym (sequence .returns c refl)
@@ -326,3 +321,10 @@ module _ {steps : List Step} {m n m' n' : Memory} {rs ss : List Returned} (atHos
     kept = λ b h f. ap (λ (x : Card). block x b) (left-safe .leaves) ∙ secret .kept b h f;
     keptOnOther = λ b h f. ap (λ (x : Card). block x b) after-other ∙ secret .keptOnOther b h (ap (λ (made : List Sent). lastTaken d made b) (sym other-calls) ∙ f);
   }
+
+-- Any sequence of functions called at the host port, each with what the one before left, from any two memories that hold sound cards and are equal but for
+-- the contents of hidden and unallocated blocks. Hidden is judged on the starting card, with the keys that any step presents.
+pub calls-secret : (steps : List Step) → AllAtHost steps → {m n m' n' : Memory} {rs ss : List Returned} → Called m steps rs m' → Called n steps ss n'
+    → SoundCard (cardOf m) → SoundCard (cardOf n) → m .info ≡ n .info → EqualBut (HiddenOrFree (keysBy (cardOf m) steps) (cardOf m)) (cardOf m) (cardOf n)
+    → CallsSecret steps m n rs ss m' n'
+calls-secret steps h runs runsOther sc sd e same = all-alike h runs runsOther sc sd e same

@@ -10,7 +10,6 @@ use Rattle.card.specs.Card.{Card, card}
 use Rattle.card.specs.Calls.{answerNumber}
 use Rattle.card.specs.Session.{Request, Sent, Reply, request, perform, reply, afterAll}
 use Rattle.card.specs.Reach.{presented}
-use Rattle.card.specs.declared.Port.{Port}
 use Rattle.records.specs.declared.Decoding.{Decoding}
 use Rattle.records.specs.declared.Decoding.the-variants.{Decoded, Bad}
 use Rattle.input.specs.Play.{Play}

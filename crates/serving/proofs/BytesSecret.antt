@@ -4,10 +4,8 @@ use Prim.Native.Nat.{ℕ, zero, suc, _+_, _-_}
 use mathlib.Core.Path.{_≡_, refl, sym, ap, ap₂, _∙_, subst}
 use mathlib.Core.Bool.{Bool, true, false, cond, true≢false}
 use mathlib.Core.List.{List, [], _∷_, _++_, map, append-nil}
-use native.Mathlib.Nat.{zero-add}
 use lib.Dec.{ltb}
 use lib.ListN.{length, take, getD}
-use lib.Seq.{take-at}
 use Rattle.card.specs.ListsLaws.{or-left, or-right}
 use Rattle.card.specs.Contents.{zeros}
 use Rattle.card.specs.Card.{Public, Card, block}
@@ -22,15 +20,14 @@ use Rattle.card.specs.declared.Port.{Port}
 use Rattle.card.specs.declared.Port.the-variants.{Host}
 use Rattle.card.specs.declared.Call.{Call}
 use Rattle.records.specs.Decode.{Next, ended, refused, sent, decode}
-use Rattle.input.specs.Play.{halted, Turn, Play, goOn, stopped, outputBefore, fault}
+use Rattle.input.specs.Play.{halted, Turn, Play, goOn, outputBefore, fault}
 use Rattle.input.specs.PlayLaws.{fault-stops, goOn-halts}
-use Rattle.input.specs.Arrivals.{Arrived, Arrivals, arrivals, requestWith, sentWith}
+use Rattle.input.specs.Arrivals.{Arrivals, arrivals, requestWith, sentWith}
 use Rattle.input.specs.ArrivalsLaws.{arrivals-sent, host-arrivals}
-use Rattle.input.specs.Performed.{PerformedBy}
 use Rattle.input.specs.declared.Stop.{Stop}
-use Rattle.input.specs.declared.Stop.the-variants.{Went, Ended, Full}
+use Rattle.input.specs.declared.Stop.the-variants.{Full}
 use Rattle.serving.specs.Serve.{answerBytes, lentSize, lentPlaces, answerRoom, served, answering, serveTurnOf, serveTurn, serveWithin, serve}
-use Rattle.serving.specs.Held.{serving, requestsIn, keysIn, madeIn}
+use Rattle.serving.specs.Held.{requestsIn, keysIn, madeIn}
 use Rattle.serving.proofs.BytesSafe.{left-by-calls}
 
 -- ---- the statement
@@ -195,7 +192,8 @@ after-made c xs room =
 
 -- ---- the theorem
 
-only : {A : Type 0} {x y : A} → _≡_ {A = List A} (x ∷ []) (y ∷ []) → x ≡ y
+-- Of two equal lists of one element.
+pub only : {A : Type 0} {x y : A} → _≡_ {A = List A} (x ∷ []) (y ∷ []) → x ≡ y
 only e = cc
 
 module _ (xs : List ℕ) (room : ℕ) (c d : Card) (sc : SoundCard c) (sd : SoundCard d) (same : EqualBut (HiddenOrFree (keysIn c xs) c) c d) where
@@ -230,10 +228,8 @@ module _ (xs : List ℕ) (room : ℕ) (c d : Card) (sc : SoundCard c) (sd : Soun
   after-other : serve Host d xs room .after ≡ afterAll d (madeIn c xs room)
   after-other = after-made d xs room ∙ ap (afterAll d) same-made
 
-  -- Any bytes that arrive at the host port, any room for answers, and any two sound cards that are equal but for the contents of hidden and
-  -- unallocated blocks. Hidden is judged on the starting card, with the keys that any record of the bytes presents.
-  pub bytes-secret : BytesSecret c d xs room
-  bytes-secret = record {
+  all-alike : BytesSecret c d xs room
+  all-alike = record {
     answers = ap (λ (t : Told). t .output) same-told;
     records = ap (λ (t : Told). t .records) same-told;
     stops = ap (λ (t : Told). t .stop) same-told;
@@ -244,3 +240,8 @@ module _ (xs : List ℕ) (room : ℕ) (c d : Card) (sc : SoundCard c) (sd : Soun
     kept = λ b h f. ap (λ (x : Card). block x b) (after-made c xs room) ∙ secret .kept b h f;
     keptOnOther = λ b h f. ap (λ (x : Card). block x b) after-other ∙ secret .keptOnOther b h (ap (λ (calls : List Sent). lastTaken d calls b) (sym same-made) ∙ f);
   }
+
+-- Any bytes that arrive at the host port, any room for answers, and any two sound cards that are equal but for the contents of hidden and unallocated
+-- blocks. Hidden is judged on the starting card, with the keys that any record of the bytes presents; `arrivals` says which records these are.
+pub bytes-secret : (xs : List ℕ) (room : ℕ) (c d : Card) → SoundCard c → SoundCard d → EqualBut (HiddenOrFree (keysIn c xs) c) c d → BytesSecret c d xs room
+bytes-secret = all-alike

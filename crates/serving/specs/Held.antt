@@ -9,7 +9,6 @@ use Rattle.card.specs.Session.{Request, Sent, hostSession}
 use Rattle.card.specs.Reach.{presented}
 use Rattle.card.specs.declared.Port.{Port}
 use Rattle.card.specs.declared.Port.the-variants.{Host}
-use Rattle.card.specs.declared.Call.{Call}
 use Rattle.records.specs.Decode.{sent, decode}
 use Rattle.input.specs.Arrivals.{Arrived, arrivals, requestWith}
 use Rattle.input.specs.Performed.{Manner}
