@@ -16,7 +16,7 @@ use Rattle.card.specs.declared.Answer.the-variants.{Refused, Done, Value}
 use Rattle.records.specs.Decode.{nameOf, dataOf}
 use Rattle.records.specs.declared.Decoding.{Decoding}
 use Rattle.records.specs.declared.Decoding.the-variants.{Decoded, Bad}
-use Rattle.adapter.specs.Numbers.{recordLength, recordOf, numbersOf}
+use Rattle.parameters.specs.Numbers.{recordLength, recordOf, numbersOf}
 
 pub record Effect : Type 0 where
   pub number : ℕ

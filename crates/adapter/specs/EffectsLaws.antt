@@ -23,7 +23,7 @@ use Rattle.records.specs.Parsed.{ParsedIs}
 use Rattle.records.specs.declared.Decoding.{Decoding}
 use Rattle.records.specs.declared.Decoding.the-variants.{Decoded, Bad}
 use Rattle.records.specs.declared.Parsed.{Parsed}
-use Rattle.adapter.specs.Numbers.{recordLength, recordOf, numbersOf}
+use Rattle.parameters.specs.Numbers.{recordLength, recordOf, numbersOf}
 use Rattle.adapter.specs.Effects.{Effect, valueAfter, effectOf, effect, formatEffect, dataIn, Does, Gives}
 
 -- The number of a refusal fits 32 bits.

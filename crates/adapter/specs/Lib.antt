@@ -1,4 +1,2 @@
-pub mod Numbers
-pub mod NumbersLaws
 pub mod Effects
 pub mod EffectsLaws

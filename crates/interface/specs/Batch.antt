@@ -12,9 +12,9 @@ use Rattle.card.specs.declared.Port.{Port}
 use Rattle.input.specs.Played.{PlayedIs}
 use Rattle.input.specs.declared.Stop.{Stop}
 use Rattle.input.specs.declared.Stop.the-variants.{Went, Ended, Short, Refused, Full}
-use Rattle.adapter.specs.Numbers.{recordLength, recordOf, numbersOf, wireOf}
-use Rattle.adapter.specs.declared.Wire.{Wire}
-use Rattle.adapter.specs.declared.Wire.the-variants.{At, Nowhere}
+use Rattle.parameters.specs.Numbers.{recordLength, recordOf, numbersOf, wireOf}
+use Rattle.parameters.specs.declared.Wire.{Wire}
+use Rattle.parameters.specs.declared.Wire.the-variants.{At, Nowhere}
 use Rattle.serving.specs.Serve.{serve}
 
 -- Why a batch stopped: 0 at the end of its input, 13 at a record refused 13, 256 at one cut short, 257 where its answer has no room.

@@ -7,7 +7,7 @@ use Rattle.card.specs.declared.Call.the-variants.{Force, Free, Tick, Audit}
 use Rattle.records.specs.Decode.{readWith, writeWith, allocWith, createWith, deleteWith, keyWith, renewWith}
 use Rattle.records.specs.declared.Decoding.{Decoding}
 use Rattle.records.specs.declared.Decoding.the-variants.{Decoded}
-use Rattle.adapter.specs.Numbers.{credentialOf, newKeyOf, wireOf, atPort, decodeAt}
+use Rattle.parameters.specs.Numbers.{credentialOf, newKeyOf, wireOf, atPort, decodeAt}
 use Rattle.adapter.specs.Effects.{Effect, effect, dataIn}
 
 -- A port, where one is passed, is the number that C passes. A buffer, and the place of a result, is what it holds.

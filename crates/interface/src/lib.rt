@@ -1,12 +1,12 @@
 // The functions that C links: the card's record as a lent slice of five numbers, tables and buffers as slices,
 // enums as numbers, credentials and new keys as bytes. Each makes a call of its operands and performs it, as a call record is.
 // include/negvask.h describes them.
-use adapter::Wire;
 use card::Call;
 use card::ForceOperands;
 use card::Port;
 use card::TickOperands;
 use input::Stop;
+use parameters::Wire;
 use records::Decoding;
 ghost use mathlib.Core.Path.{_≡_};
 ghost use mathlib.Core.List.{[]};
@@ -34,9 +34,9 @@ pub extern "C" fn negvask_read(
 ) -> u32
     ensures { λ r. ⌜ Effects (effectBy (read port block (now (credential .entry)) interval (now (out .entry)))) info flags keys counts pointers windows contents r (now (out .exit)) [] ⌝ }
 {
-    let parsed = adapter::credential_of(credential);
+    let parsed = parameters::credential_of(credential);
     let made = records::read_with(Port::Host, block, parsed, interval);
-    let decoding = adapter::at_port(port, made);
+    let decoding = parameters::at_port(port, made);
     let mut value = 0;
     adapter::perform(
         info,
@@ -72,9 +72,9 @@ pub extern "C" fn negvask_write(
 ) -> u32
     ensures { λ r. ⌜ Effects (effectBy (write port block (now (credential .entry)) interval (now (bytes .entry)))) info flags keys counts pointers windows contents r [] [] ⌝ }
 {
-    let parsed = adapter::credential_of(credential);
+    let parsed = parameters::credential_of(credential);
     let made = records::write_with(Port::Host, block, parsed, interval);
-    let decoding = adapter::at_port(port, made);
+    let decoding = parameters::at_port(port, made);
     let mut value = 0;
     adapter::perform_without_buffers(
         info,
@@ -109,9 +109,9 @@ pub extern "C" fn negvask_alloc(
 ) -> u32
     ensures { λ r. ⌜ Effects (effectBy (alloc port block (now (credential .entry)) hint count (now (places .entry)))) info flags keys counts pointers windows contents r [] (now (places .exit)) ⌝ }
 {
-    let parsed = adapter::credential_of(credential);
+    let parsed = parameters::credential_of(credential);
     let made = records::alloc_with(Port::Host, block, parsed, hint, count);
-    let decoding = adapter::at_port(port, made);
+    let decoding = parameters::at_port(port, made);
     let mut value = 0;
     adapter::perform(
         info,
@@ -147,10 +147,10 @@ pub extern "C" fn negvask_create(
 ) -> u32
     ensures { λ r. ⌜ Effects (effectBy (create port source (now (credential .entry)) destination (now (second .entry)))) info flags keys counts pointers windows contents r [] [] ⌝ }
 {
-    let first = adapter::credential_of(credential);
-    let other = adapter::credential_of(second);
+    let first = parameters::credential_of(credential);
+    let other = parameters::credential_of(second);
     let made = records::create_with(Port::Host, source, first, destination, other);
-    let decoding = adapter::at_port(port, made);
+    let decoding = parameters::at_port(port, made);
     let mut value = 0;
     adapter::perform_without_buffers(
         info,
@@ -184,9 +184,9 @@ pub extern "C" fn negvask_delete(
 ) -> u32
     ensures { λ r. ⌜ EffectsGiving (λ v. effectBy (delete port source (now (credential .entry)) destination v)) info flags keys counts pointers windows contents value r ⌝ }
 {
-    let parsed = adapter::credential_of(credential);
+    let parsed = parameters::credential_of(credential);
     let made = records::delete_with(Port::Host, source, parsed, destination);
-    let decoding = adapter::at_port(port, made);
+    let decoding = parameters::at_port(port, made);
     adapter::perform_without_buffers(
         info,
         flags,
@@ -219,11 +219,11 @@ pub extern "C" fn negvask_key(
 ) -> u32
     ensures { λ r. ⌜ Effects (effectBy (key port block (now (credential .entry)) (now (read .entry)) (now (write .entry)))) info flags keys counts pointers windows contents r [] [] ⌝ }
 {
-    let parsed = adapter::credential_of(credential);
-    let reading = adapter::new_key_of(read);
-    let writing = adapter::new_key_of(write);
+    let parsed = parameters::credential_of(credential);
+    let reading = parameters::new_key_of(read);
+    let writing = parameters::new_key_of(write);
     let made = records::key_with(Port::Host, block, parsed, reading, writing);
-    let decoding = adapter::at_port(port, made);
+    let decoding = parameters::at_port(port, made);
     let mut value = 0;
     adapter::perform_without_buffers(
         info,
@@ -256,7 +256,7 @@ pub extern "C" fn negvask_renew(
 ) -> u32
     ensures { λ r. ⌜ Effects (effectBy (renew mode block (now (key .entry)) interval)) info flags keys counts pointers windows contents r [] [] ⌝ }
 {
-    let parsed = adapter::credential_of(key);
+    let parsed = parameters::credential_of(key);
     let decoding = records::renew_with(Port::Host, mode, block, parsed, interval);
     let mut value = 0;
     adapter::perform_without_buffers(
@@ -409,11 +409,11 @@ pub extern "C" fn negvask_format(
 ) -> u32
     ensures { λ r. ⌜ Effects (formatEffect blocks roots bytes) info flags keys counts pointers windows contents r [] [] ⌝ }
 {
-    if info.len() != adapter::RECORD_LENGTH {
+    if info.len() != parameters::RECORD_LENGTH {
         return 1;
     }
     let outcome = format::format(
-        adapter::load(info),
+        parameters::load(info),
         blocks as usize,
         roots as usize,
         bytes as usize,
@@ -449,7 +449,7 @@ pub extern "C" fn negvask_serve(
 ) -> u32
     ensures { λ r. ⌜ EffectsLent (λ o p v. effectBy (serve port kind (now (body .entry)) o p v)) info flags keys counts pointers windows contents out places value r ⌝ }
 {
-    let parsed = adapter::decode_at(port, kind, body);
+    let parsed = parameters::decode_at(port, kind, body);
     let decoding = parsed.decoding;
     let from = parsed.payload;
     let end = parsed.end;
@@ -503,15 +503,15 @@ pub extern "C" fn negvask_batch(
 ) -> u32
     ensures { λ r. ⌜ ServesBatch port info flags keys counts pointers windows contents input answers records read written r ⌝ }
 {
-    let Wire::At(wire) = adapter::wire_of(port) else {
+    let Wire::At(wire) = parameters::wire_of(port) else {
         return 13;
     };
-    if info.len() != adapter::RECORD_LENGTH {
+    if info.len() != parameters::RECORD_LENGTH {
         return 1;
     }
     let part = batch::serve(
         wire,
-        adapter::load(info),
+        parameters::load(info),
         flags,
         keys,
         counts,
@@ -523,7 +523,7 @@ pub extern "C" fn negvask_batch(
     );
     let after = part.info;
     let stop = part.stop;
-    adapter::store(info, after);
+    parameters::store(info, after);
     *records = part.records;
     *read = part.read as u64;
     *written = part.written as u64;

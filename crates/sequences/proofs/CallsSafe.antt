@@ -22,10 +22,10 @@ use Rattle.input.specs.Play.{Play}
 use Rattle.input.specs.Played.{PlayedIs}
 use Rattle.serving.specs.Serve.{serve}
 use Rattle.serving.proofs.BytesSafe.{left-by-calls}
-use Rattle.adapter.specs.Numbers.{wireOf}
+use Rattle.parameters.specs.Numbers.{wireOf}
 use Rattle.adapter.specs.Effects.{Effect, effectOf, refusedEffect, effect, Gives}
-use Rattle.adapter.specs.declared.Wire.{Wire}
-use Rattle.adapter.specs.declared.Wire.the-variants.{At, Nowhere}
+use Rattle.parameters.specs.declared.Wire.{Wire}
+use Rattle.parameters.specs.declared.Wire.the-variants.{At, Nowhere}
 use Rattle.interface.specs.Functions.{Function, Lending, lendingOf, effectBy}
 use Rattle.interface.specs.Batch.{stopNumber, BatchState, BatchServed, BatchIs}
 use Rattle.sequences.specs.Sequence.{Memory, cardOf, Step, calls, batches, Returned, fromCall, fromBatch, stateOf, Called, none, called, batched, isFive, sentOf, sentAt, callsOf, callsIn, callReturns, byPlay, batchReturns, returnsOf, returnsIn}

@@ -31,9 +31,9 @@ use Rattle.input.specs.ArrivalsLaws.{host-arrivals}
 use Rattle.serving.specs.Serve.{lentSize, serve}
 use Rattle.serving.specs.Held.{requestsIn}
 use Rattle.serving.proofs.BytesSecret.{Told, told, batchAct, take-hosts, only}
-use Rattle.adapter.specs.Numbers.{numbersOf, recordOf, wireOf, callAt, atPort, decodeAt}
-use Rattle.adapter.specs.declared.Wire.{Wire}
-use Rattle.adapter.specs.declared.Wire.the-variants.{At}
+use Rattle.parameters.specs.Numbers.{numbersOf, recordOf, wireOf, callAt, atPort, decodeAt}
+use Rattle.parameters.specs.declared.Wire.{Wire}
+use Rattle.parameters.specs.declared.Wire.the-variants.{At}
 use Rattle.interface.specs.Functions.{Function, read, write, alloc, create, delete, key, renew, force, tick, free, audit, serve as serveRecord, Lending, lendingOf, functionPort}
 use Rattle.interface.specs.Batch.{stopNumber}
 use Rattle.sequences.specs.Sequence.{Memory, cardOf, Step, calls, batches, Returned, fromCall, fromBatch, Called, isFive, sentOf, sentAt, callsOf, callsIn, byReply, callReturns, batchReturns, returnsOf, returnsIn, portNumber, AllAtHost, requestOf, requestsOf, requestsBy, keysBy}

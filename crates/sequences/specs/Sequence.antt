@@ -16,10 +16,10 @@ use Rattle.input.specs.Play.{Play}
 use Rattle.input.specs.Arrivals.{arrivals, sentWith}
 use Rattle.serving.specs.Serve.{lentSize, serve}
 use Rattle.serving.specs.Held.{requestsIn}
-use Rattle.adapter.specs.Numbers.{recordLength, recordOf, wireOf}
+use Rattle.parameters.specs.Numbers.{recordLength, recordOf, wireOf}
 use Rattle.adapter.specs.Effects.{Effect, valueAfter, Does, Gives}
-use Rattle.adapter.specs.declared.Wire.{Wire}
-use Rattle.adapter.specs.declared.Wire.the-variants.{At, Nowhere}
+use Rattle.parameters.specs.declared.Wire.{Wire}
+use Rattle.parameters.specs.declared.Wire.the-variants.{At, Nowhere}
 use Rattle.interface.specs.Functions.{Function, Lending, lendingOf, effectBy, functionPort}
 use Rattle.interface.specs.Batch.{stopNumber, BatchState, BatchIs, batchState}
 

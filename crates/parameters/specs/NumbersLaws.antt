@@ -15,9 +15,9 @@ use Rattle.records.specs.Parsed.{ParsedIs}
 use Rattle.records.specs.declared.Decoding.{Decoding}
 use Rattle.records.specs.declared.Decoding.the-variants.{Decoded, Bad}
 use Rattle.records.specs.declared.Parsed.{Parsed}
-use Rattle.adapter.specs.Numbers.{recordLength, recordOf, numbersOf, wireOf, callAt, atPort, decodeAt}
-use Rattle.adapter.specs.declared.Wire.{Wire}
-use Rattle.adapter.specs.declared.Wire.the-variants.{At, Nowhere}
+use Rattle.parameters.specs.Numbers.{recordLength, recordOf, numbersOf, wireOf, callAt, atPort, decodeAt}
+use Rattle.parameters.specs.declared.Wire.{Wire}
+use Rattle.parameters.specs.declared.Wire.the-variants.{At, Nowhere}
 
 pub loaded : (xs : List ℕ) {fresh used timed : Info} → fresh ≡ freshInfo (getD xs 0 0) (getD xs 1 0) (getD xs 2 0) → used ≡ withUsed fresh (getD xs 3 0) → timed ≡ withTime used (getD xs 4 0)
     → timed ≡ recordOf xs

@@ -1,8 +1,8 @@
--- `adapter::load` meets its contract. Assumes nothing.
-use Rattle.adapter.specs.NumbersLaws.{loaded}
+-- `parameters::load` meets its contract. Assumes nothing.
+use Rattle.parameters.specs.NumbersLaws.{loaded}
 use borrow.Author.Needs.{needs}
-use Rattle.adapter.proofs.load.Statement.{statement}
-use Rattle.adapter.proofs.load.Tie as tie
+use Rattle.parameters.proofs.load.Statement.{statement}
+use Rattle.parameters.proofs.load.Tie as tie
 
 shared-slice-read-fresh : tie.Need-shared-slice-read-fresh
 shared-slice-read-fresh c = search needs

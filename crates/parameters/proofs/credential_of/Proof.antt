@@ -1,9 +1,9 @@
--- `adapter::credential_of` meets its contract. Assumes nothing.
+-- `parameters::credential_of` meets its contract. Assumes nothing.
 use borrow.Author.Tests.{eq-eqb, ne-eqb}
-use Rattle.adapter.specs.Numbers.{credentialOf}
+use Rattle.parameters.specs.Numbers.{credentialOf}
 use borrow.Author.Needs.{needs}
-use Rattle.adapter.proofs.credential_of.Statement.{statement}
-use Rattle.adapter.proofs.credential_of.Tie as tie
+use Rattle.parameters.proofs.credential_of.Statement.{statement}
+use Rattle.parameters.proofs.credential_of.Tie as tie
 
 returns : tie.Need-returns
 unfolding credentialOf

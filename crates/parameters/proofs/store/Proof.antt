@@ -1,8 +1,8 @@
--- `adapter::store` meets its contract. Assumes nothing.
-use Rattle.adapter.specs.NumbersLaws.{still-five, stored}
+-- `parameters::store` meets its contract. Assumes nothing.
+use Rattle.parameters.specs.NumbersLaws.{still-five, stored}
 use borrow.Author.Needs.{needs}
-use Rattle.adapter.proofs.store.Statement.{statement}
-use Rattle.adapter.proofs.store.Tie as tie
+use Rattle.parameters.proofs.store.Statement.{statement}
+use Rattle.parameters.proofs.store.Tie as tie
 
 slice-write-numbers : tie.Need-slice-write-numbers
 slice-write-numbers c = search needs

@@ -1,8 +1,8 @@
--- `adapter::wire_of` meets its contract. Assumes nothing.
+-- `parameters::wire_of` meets its contract. Assumes nothing.
 use borrow.Author.Tests.{ne-eqb}
-use Rattle.adapter.specs.Numbers.{wireOf}
-use Rattle.adapter.proofs.wire_of.Statement.{statement}
-use Rattle.adapter.proofs.wire_of.Tie as tie
+use Rattle.parameters.specs.Numbers.{wireOf}
+use Rattle.parameters.proofs.wire_of.Statement.{statement}
+use Rattle.parameters.proofs.wire_of.Tie as tie
 
 returns : tie.Need-returns
 unfolding wireOf

@@ -1,9 +1,9 @@
--- `adapter::new_key_of` meets its contract. Assumes nothing.
+-- `parameters::new_key_of` meets its contract. Assumes nothing.
 use borrow.Author.Tests.{eq-eqb, ne-eqb}
-use Rattle.adapter.specs.Numbers.{newKeyOf}
+use Rattle.parameters.specs.Numbers.{newKeyOf}
 use borrow.Author.Needs.{needs}
-use Rattle.adapter.proofs.new_key_of.Statement.{statement}
-use Rattle.adapter.proofs.new_key_of.Tie as tie
+use Rattle.parameters.proofs.new_key_of.Statement.{statement}
+use Rattle.parameters.proofs.new_key_of.Tie as tie
 
 returns : tie.Need-returns
 unfolding newKeyOf

@@ -1,9 +1,9 @@
--- `adapter::decode_at` meets its contract. Assumes nothing.
+-- `parameters::decode_at` meets its contract. Assumes nothing.
 use Rattle.records.proofs.Parsing.{parsed-bad}
-use Rattle.adapter.specs.NumbersLaws.{decodes-nowhere, decodes-at}
+use Rattle.parameters.specs.NumbersLaws.{decodes-nowhere, decodes-at}
 use borrow.Author.Needs.{needs}
-use Rattle.adapter.proofs.decode_at.Statement.{statement}
-use Rattle.adapter.proofs.decode_at.Tie as tie
+use Rattle.parameters.proofs.decode_at.Statement.{statement}
+use Rattle.parameters.proofs.decode_at.Tie as tie
 
 wire-of-requires : tie.Need-wire-of-requires
 wire-of-requires c κs = search needs

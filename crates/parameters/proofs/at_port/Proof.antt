@@ -1,8 +1,8 @@
--- `adapter::at_port` meets its contract. Assumes nothing.
-use Rattle.adapter.specs.NumbersLaws.{call-bad, call-nowhere, call-at}
+-- `parameters::at_port` meets its contract. Assumes nothing.
+use Rattle.parameters.specs.NumbersLaws.{call-bad, call-nowhere, call-at}
 use borrow.Author.Needs.{needs}
-use Rattle.adapter.proofs.at_port.Statement.{statement}
-use Rattle.adapter.proofs.at_port.Tie as tie
+use Rattle.parameters.proofs.at_port.Statement.{statement}
+use Rattle.parameters.proofs.at_port.Tie as tie
 
 enum-known-made : tie.Need-enum-known-made
 enum-known-made c = search needs

@@ -15,8 +15,8 @@ use Rattle.card.specs.declared.Call.{Call}
 use Rattle.records.specs.Decode.{decodeBody}
 use Rattle.records.specs.declared.Decoding.{Decoding}
 use Rattle.records.specs.declared.Decoding.the-variants.{Decoded, Bad}
-use Rattle.adapter.specs.declared.Wire.{Wire}
-use Rattle.adapter.specs.declared.Wire.the-variants.{At, Nowhere}
+use Rattle.parameters.specs.declared.Wire.{Wire}
+use Rattle.parameters.specs.declared.Wire.the-variants.{At, Nowhere}
 
 -- ---- the record: N, R, B, M and T
 
