@@ -115,8 +115,8 @@ module _ (K L : ℕ → ℕ → Bool) (c : Card) (same : (mode : Mode) (b : ℕ)
   same-reach (openWindow mode a o) = openWindow mode a o
   same-reach (pointed {b = b} g a p s) = pointed (same-reach g) a p (sym (same-sealed b (allocated-below (c .public) b a)) ∙ s)
 
-  same-hidden : {b : ℕ} → Hidden L c b → Hidden K c b
-  same-hidden h = record { isAllocated = h .isAllocated; outOfReach = λ g. h .outOfReach (same-reach g) }
+  hidden-alike : {b : ℕ} → Hidden L c b → Hidden K c b
+  hidden-alike h = record { isAllocated = h .isAllocated; outOfReach = λ g. h .outOfReach (same-reach g) }
 
 beq-true : (a b : Bool) → Bool·beq a b ≡ true → a ≡ b
 beq-true true true e = refl
@@ -142,7 +142,7 @@ alike Writing b l = beq-true _ _ (allBelow-true (opensAlike Writing) 16 (every-t
 
 hidden-still : {b : ℕ} → Hidden (presented session) (cardWith 5) b → Hidden keys (cardWith 5) b
 unfolding holding
-hidden-still h = same-hidden keys (presented session) (cardWith 5) alike h
+hidden-still h = hidden-alike keys (presented session) (cardWith 5) alike h
 
 -- ---- the example
 
