@@ -1,2 +1,3 @@
 pub mod Guarantees
 pub mod Secrecy
+pub mod Computed

@@ -6,4 +6,5 @@ pub mod Plans
 pub mod Sessions
 pub mod Theorem
 pub mod Acts
+pub mod Bounds
 pub mod Example

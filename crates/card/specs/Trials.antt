@@ -1,4 +1,4 @@
--- Document 01, "Marked trials" T1 to T12, its example of ten records as calls, and its five mistakes to exclude:
+-- Document 01, "Marked trials" T1 to T12, its example of ten records as calls, and its mistakes to exclude, each in a row of its own or one of these:
 -- rows of one table, shown of the rules by one proof that is computed.
 use Prim.Native.Nat.{ℕ, zero}
 use mathlib.Core.Path.{_≡_, refl}
@@ -51,11 +51,11 @@ module _ (port : Port) where
   read b credential interval = send port (Read (record { block = b; credential = credential; interval = interval }))
 
   -- A block filled with one byte.
-  abbrev pub writeAll : ℕ → Credential → ℕ → Sent
-  writeAll b credential byte = record {
+  abbrev pub writeAll : ℕ → Credential → ℕ → ℕ → Sent
+  writeAll b credential interval byte = record {
     port = port;
     request = record {
-      call = Write (record { block = b; credential = credential; interval = 0 });
+      call = Write (record { block = b; credential = credential; interval = interval });
       lent = lending (replicate 512 byte);
     };
   }
@@ -125,7 +125,7 @@ trialTable =
     ∷ (tick 1099511627775 ∷ tick 1 ∷ [] yields (0 ∷ 1099511627775 ∷ []) ∷ (12 ∷ []) ∷ [])
     -- T12
     ∷ (alloc Service 0 65535 2
-    ∷ writeAll Service 2 Nothing 7
+    ∷ writeAll Service 2 Nothing 0 7
     ∷ read Service 2 Nothing 0
     ∷ delete Service 0 2
     ∷ alloc Service 0 2 1
@@ -171,6 +171,13 @@ trialTable =
     ∷ read Host 1 (KeyCredential 1 2) 0
     ∷ []
     yields (0 ∷ 1 ∷ []) ∷ (0 ∷ []) ∷ (0 ∷ zeros8) ∷ (5 ∷ []) ∷ (0 ∷ zeros8) ∷ [])
+    -- the write window does not serve reading
+    ∷ (alloc Service 0 65535 1
+    ∷ writeAll Host 0 Nothing 10 0
+    ∷ read Host 1 (Reference 0) 0
+    ∷ writeAll Host 1 (Reference 0) 0 7
+    ∷ []
+    yields (0 ∷ 1 ∷ []) ∷ (0 ∷ []) ∷ (5 ∷ []) ∷ (0 ∷ []) ∷ [])
     ∷ []
 
 -- What the rules report of a row's calls.

@@ -1,2 +1,3 @@
 pub mod SameTables
 pub mod PlaySafe
+pub mod Rows

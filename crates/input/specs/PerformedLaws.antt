@@ -1,11 +1,11 @@
 -- A loop of turns performs the calls that its bytes hold.
 -- Assumes nothing.
 use Prim.Native.Nat.{ℕ, zero, suc, _+_, _-_, _<_}
-use mathlib.Core.Path.{_≡_, refl, sym, ap, _∙_, subst}
+use mathlib.Core.Path.{_≡_, refl, sym, ap, ap₂, _∙_, subst}
 use mathlib.Core.List.{List, [], _∷_, _++_, map}
 use native.Mathlib.Omega.{arith}
-use native.Mathlib.Nat.{add-zero, sub-zero}
-use lib.ListN.{length, length-append}
+use native.Mathlib.Nat.{zero-add, add-zero, sub-zero}
+use lib.ListN.{length, take, length-append}
 use Rattle.card.specs.Card.{Card}
 use Rattle.card.specs.Session.{Sent, reply, performed, replies, afterAll, Each}
 use Rattle.card.specs.SessionLaws.{perform-bytes}
@@ -108,3 +108,17 @@ module _ (m : Manner) where
     loop-performs (suc k) before c xs room h =
         subst (PerformedBy m before c xs room) (sym (unrolls k before c xs room))
         (by-turn k before c xs room (T before c xs room) (turns before c xs room) (λ a ys r l. loop-performs k (before + 1) a ys r (omega arith)))
+
+-- ---- the calls that were performed
+
+front : (f : Arrived → Sent) (made behind : List Arrived) → take (length made) (map f (made ++ behind)) ≡ map f made
+front f [] behind = refl
+front f (a ∷ made) behind = ap (λ (ss : List Sent). f a ∷ ss) (front f made behind)
+
+-- The card that is left is the one that the first of the calls leave, as many as are counted.
+pub left-by-performed : {m : Manner} {c : Card} {xs : List ℕ} {room : ℕ} {p : Play} → PerformedBy m 0 c xs room p
+    → p .after ≡ afterAll c (take (p .records) (map (sentWith (m .size (c .public .info .bytes))) (arrivals (m .wire) xs .records)))
+left-by-performed {m} {c} q =
+    let send : Arrived → Sent = sentWith (m .size (c .public .info .bytes)) in
+    q .leaves
+    ∙ ap (afterAll c) (sym (ap₂ (λ (n : ℕ) (held : List Arrived). take n (map send held)) (q .counts ∙ zero-add (length (q .made))) (q .held) ∙ front send (q .made) (q .behind)))

@@ -1,2 +1,3 @@
 pub mod CallsSafe
 pub mod CallsSecret
+pub mod Rows

@@ -1,23 +1,22 @@
 -- What a batch makes of any bytes, at either port and on any card: the calls that the bytes hold, each by the rules on the card that the one before left.
 -- Assumes nothing.
 use Prim.Native.Nat.{ℕ, suc}
-use mathlib.Core.Path.{_≡_, refl, sym, ap, ap₂, _∙_}
+use mathlib.Core.Path.{_≡_, refl}
 use mathlib.Core.Bool.{Bool, true, false, cond}
-use mathlib.Core.List.{List, [], _∷_, _++_, map}
+use mathlib.Core.List.{List, map}
 use native.Mathlib.Omega.{arith}
-use native.Mathlib.Nat.{zero-add}
 use lib.Dec.{ltb}
 use lib.ListN.{length, take, getD}
 use borrow.Author.Tests.{ltb-true}
 use Rattle.card.specs.Card.{Card}
-use Rattle.card.specs.Session.{Sent, afterAll}
+use Rattle.card.specs.Session.{afterAll}
 use Rattle.card.specs.declared.Port.{Port}
 use Rattle.card.specs.declared.Call.{Call}
 use Rattle.records.specs.Decode.{Next, ended, refused, sent, decode}
 use Rattle.input.specs.Play.{halted}
-use Rattle.input.specs.Arrivals.{Arrived, arrivals, sentWith}
+use Rattle.input.specs.Arrivals.{arrivals, sentWith}
 use Rattle.input.specs.Performed.{PerformedBy, TurnIn, noRoom, atEnd, atFault, performs}
-use Rattle.input.specs.PerformedLaws.{loop-performs}
+use Rattle.input.specs.PerformedLaws.{loop-performs, left-by-performed}
 use Rattle.input.specs.declared.Stop.the-variants.{Full}
 use Rattle.serving.specs.Serve.{lentSize, answerRoom, served, answering, serveTurnOf, serveTurn, serveWithin, serve}
 use Rattle.serving.specs.Held.{serving}
@@ -43,17 +42,7 @@ bytes-safe wire c xs room =
     loop-performs (serving wire) (λ n c xs room. serveTurn wire room c xs) (serveWithin wire) (λ n c xs room. by-next wire n c xs room (decode wire xs) refl)
     (λ k n c xs room. refl) (suc (length xs)) 0 c xs room (omega arith)
 
--- ---- the calls that a batch makes
-
-front : (f : Arrived → Sent) (made behind : List Arrived) → take (length made) (map f (made ++ behind)) ≡ map f made
-front f [] behind = refl
-front f (a ∷ made) behind = ap (λ (ss : List Sent). f a ∷ ss) (front f made behind)
-
 -- The card that a batch leaves is the one that the first of its calls leave, as many as it counts.
 pub left-by-calls : (wire : Port) (c : Card) (xs : List ℕ) (room : ℕ)
     → serve wire c xs room .after ≡ afterAll c (take (serve wire c xs room .records) (map (sentWith (lentSize (c .public .info .bytes))) (arrivals wire xs .records)))
-left-by-calls wire c xs room =
-    let q : PerformedBy (serving wire) 0 c xs room (serve wire c xs room) = bytes-safe wire c xs room in
-    let send : Arrived → Sent = sentWith (lentSize (c .public .info .bytes)) in
-    q .leaves
-    ∙ ap (afterAll c) (sym (ap₂ (λ (n : ℕ) (held : List Arrived). take n (map send held)) (q .counts ∙ zero-add (length (q .made))) (q .held) ∙ front send (q .made) (q .behind)))
+left-by-calls wire c xs room = left-by-performed (bytes-safe wire c xs room)

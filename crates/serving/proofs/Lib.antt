@@ -1,3 +1,4 @@
 pub mod BytesSafe
 pub mod BytesSecret
 pub mod BytesExample
+pub mod Rows

@@ -1,94 +1,32 @@
 -- The theorem on secrecy is not empty: two sound cards that differ in hidden blocks, and a session with done calls that frees one of them.
 -- Assumes nothing.
 use Prim.Native.Nat.{ℕ}
-use mathlib.Core.Path.{_≡_, refl, sym, ap, ap₂, subst}
-use mathlib.Core.Logic.{_⊎_, inl, ⊎-elim}
-use mathlib.Core.Bool.{Bool, true, false, _&&_, _||_, not}
+use mathlib.Core.Path.{_≡_, refl, sym, ap, subst}
+use mathlib.Core.Logic.{_⊎_, inl}
+use mathlib.Core.Bool.{Bool, true, false, _||_, not}
 use mathlib.Core.List.{List, [], _∷_}
 use native.Mathlib.Omega.{arith}
 use lib.Dec.{eqb, leb}
 use lib.ListN.{getD, replicate}
 use borrow.Author.Tests.{not-true, eqb-true}
 use Rattle.card.specs.Lists.{every, allBelow}
-use Rattle.card.specs.ListsLaws.{and-left, and-right, and-true, or-else, or-false, false-unless, absurd-test, not-cases, every-true, allBelow-true}
+use Rattle.card.specs.ListsLaws.{or-else, or-false, false-unless, absurd-test, every-true, allBelow-true}
 use Rattle.card.specs.Contents.{fill}
-use Rattle.card.specs.Card.{Card, allocated, isRoot, windowOpen, pointsTo, block}
+use Rattle.card.specs.Card.{Card, allocated, block}
 use Rattle.card.specs.Soundness.{shape, sound}
 use Rattle.card.specs.SoundCard.{SoundCard}
-use Rattle.card.specs.SoundnessLaws.{shape-true, sound-true, allocated-below}
+use Rattle.card.specs.SoundnessLaws.{shape-true, sound-true}
 use Rattle.card.specs.Session.{Request, Sent, afterAll, reports, hostSession, traits}
-use Rattle.card.specs.Reach.{shows, presents, someShows, presented, keyPresented, sealed, Reach, unsealedRoot, byKey, openWindow, pointed, Hidden, takesLast, isOne, lastTaken}
+use Rattle.card.specs.Reach.{shows, presents, someShows, presented, keyPresented, sealed, Reach, Hidden, takesLast, isOne, lastTaken}
 use Rattle.card.specs.Trials.{rules, playerCard, read, alloc, key, lending}
-use Rattle.card.specs.declared.Mode.{Mode}
-use Rattle.card.specs.declared.Mode.the-variants.{Reading, Writing}
 use Rattle.card.specs.declared.Port.the-variants.{Service}
 use Rattle.card.specs.declared.Credential.the-variants.{Reference, Key as KeyCredential}
 use Rattle.card.specs.declared.NewKey.the-variants.{Present}
 use Rattle.card.specs.declared.Call.{Call}
 use Rattle.card.specs.declared.Call.the-variants.{Read, Write, Delete, Free}
-use Rattle.card.proofs.Secrecy.Theorem.{EqualBut, HiddenOrFree, reach-allocated}
-
--- ---- a test that bounds what is within reach
-
--- The blocks that the test names satisfy the four rules of reach, so no other block is within reach.
-unfoldable pub bounds : (ℕ → ℕ → Bool) → Card → (ℕ → Bool) → Bool
-bounds K c test =
-    allBelow
-    (λ b.
-    not (allocated (c .public) b)
-    || test b
-    || every
-    (not (isRoot (c .public) b && not (sealed K c b))
-    ∷ not (keyPresented K c Reading b)
-    ∷ not (keyPresented K c Writing b)
-    ∷ not (windowOpen (c .public) Reading b)
-    ∷ not (windowOpen (c .public) Writing b)
-    ∷ allBelow (λ a. not (test a && (pointsTo (c .public) a b && not (sealed K c b)))) (c .public .info .blocks)
-    ∷ []))
-    (c .public .info .blocks)
-
-module _ (K : ℕ → ℕ → Bool) (c : Card) (test : ℕ → Bool) (h : bounds K c test ≡ true) where
-  abbrev rest : ℕ → List Bool
-  rest b =
-      not (isRoot (c .public) b && not (sealed K c b))
-      ∷ not (keyPresented K c Reading b)
-      ∷ not (keyPresented K c Writing b)
-      ∷ not (windowOpen (c .public) Reading b)
-      ∷ not (windowOpen (c .public) Writing b)
-      ∷ allBelow (λ a. not (test a && (pointsTo (c .public) a b && not (sealed K c b)))) (c .public .info .blocks)
-      ∷ []
-
-  -- An allocated block that the test does not name passes the rest.
-  passes : (b : ℕ) → allocated (c .public) b ≡ true → test b ≡ false → every (rest b) ≡ true
-  unfolding bounds
-  passes b a f =
-      or-else (not (allocated (c .public) b) || test b) (every (rest b))
-      (allBelow-true (λ b. not (allocated (c .public) b) || test b || every (rest b)) (c .public .info .blocks) h b (allocated-below (c .public) b a))
-      (or-false _ _ (ap not a) f)
-
-  named : (b : ℕ) → allocated (c .public) b ≡ true → (test b ≡ false → ⊥) → test b ≡ true
-  named b a n = ⊎-elim (λ e. e) (λ f. absurd (n f)) (not-cases (test b))
-
-  by-keys : (mode : Mode) (b : ℕ) → allocated (c .public) b ≡ true → test b ≡ false → keyPresented K c mode b ≡ false
-  by-keys Reading b a f = not-true _ (every-true (rest b) (passes b a f) .1 .0)
-  by-keys Writing b a f = not-true _ (every-true (rest b) (passes b a f) .1 .1 .0)
-
-  by-windows : (mode : Mode) (b : ℕ) → allocated (c .public) b ≡ true → test b ≡ false → windowOpen (c .public) mode b ≡ false
-  by-windows Reading b a f = not-true _ (every-true (rest b) (passes b a f) .1 .1 .1 .0)
-  by-windows Writing b a f = not-true _ (every-true (rest b) (passes b a f) .1 .1 .1 .1 .0)
-
-  reach-inside : {b : ℕ} → Reach K c b → test b ≡ true
-  reach-inside (unsealedRoot {b = b} a r s) =
-      named b a (λ f. absurd-test (and-true _ _ r (ap not s)) (not-true _ (every-true (rest b) (passes b a f) .0)))
-  reach-inside (byKey {b = b} mode a k) = named b a (λ f. absurd-test k (by-keys mode b a f))
-  reach-inside (openWindow {b = b} mode a o) = named b a (λ f. absurd-test o (by-windows mode b a f))
-  reach-inside (pointed {a = x} {b = b} g a p s) =
-      named b a
-      (λ f.
-      absurd-test (and-true _ _ (reach-inside g) (and-true _ _ p (ap not s)))
-      (not-true _
-      (allBelow-true (λ a. not (test a && (pointsTo (c .public) a b && not (sealed K c b)))) (c .public .info .blocks)
-      (every-true (rest b) (passes b a f) .1 .1 .1 .1 .1 .0) x (allocated-below (c .public) x (reach-allocated K c g)))))
+use Rattle.card.proofs.Secrecy.Theorem.{EqualBut, HiddenOrFree}
+use Rattle.card.proofs.Secrecy.Bounds.{bounds, reach-inside}
+use Rattle.card.proofs.Computed.Same.{sameList, sameList-true}
 
 -- ---- two cards
 
@@ -134,19 +72,6 @@ session =
 -- The blocks that are within reach at most: the root and block 1.
 abbrev isOpen : ℕ → Bool
 isOpen b = leb b 1
-
-sameList : List ℕ → List ℕ → Bool
-sameList [] [] = true
-sameList [] (y ∷ ys) = false
-sameList (x ∷ xs) [] = false
-sameList (x ∷ xs) (y ∷ ys) = eqb x y && sameList xs ys
-
-sameList-true : (xs ys : List ℕ) → sameList xs ys ≡ true → xs ≡ ys
-unfolding sameList
-sameList-true [] [] e = refl
-sameList-true [] (y ∷ ys) e = absurd-test {t = false} e refl
-sameList-true (x ∷ xs) [] e = absurd-test {t = false} e refl
-sameList-true (x ∷ xs) (y ∷ ys) e = ap₂ _∷_ (eqb-true x y (and-left _ _ e)) (sameList-true xs ys (and-right (eqb x y) _ e))
 
 module _ (byte : ℕ) where
   abbrev computed : List Bool

@@ -1,0 +1,195 @@
+-- One row for each mistake in the rules that a must-fail edit makes: the mistake turns it from true to false, and so its theorem.
+use Prim.Native.Nat.{ℕ}
+use mathlib.Core.Path.{_≡_, refl}
+use mathlib.Core.Bool.{Bool, true, false, _&&_}
+use mathlib.Core.List.{List, [], _∷_, _++_}
+use mathlib.Core.Option.{orElse}
+use lib.Dec.{eqb, leb}
+use lib.ListN.{replicate}
+use Rattle.card.specs.Contents.{zeros}
+use Rattle.card.specs.Card.{Card, card}
+use Rattle.card.specs.Plan.{withUsed}
+use Rattle.card.specs.Calls.{freshInfo}
+use Rattle.card.specs.Session.{Request, refusals, portOf, replies, afterAll, traits}
+use Rattle.card.specs.Reach.{shows, someShows, presents, presented, keyPresented, sealed, isOne, takesLast, lastTaken}
+use Rattle.card.specs.Trials.{rules, blankCard, playerCard, lending, read, writeAll, alloc, create, delete, free, trialTable, trialReports}
+use Rattle.card.specs.declared.Port.the-variants.{Host, Service}
+use Rattle.card.specs.declared.Mode.the-variants.{Reading}
+use Rattle.card.specs.declared.Credential.{Credential}
+use Rattle.card.specs.declared.Credential.the-variants.{Nothing, Reference, Key as KeyCredential}
+use Rattle.card.specs.declared.Call.{Call}
+use Rattle.card.specs.declared.Call.the-variants.{Read, Alloc, Delete, Renew}
+use Rattle.card.proofs.Secrecy.Bounds.{bounds}
+use Rattle.card.proofs.Computed.Same.{sameList, sameLists, replyNumbers, allLines}
+use Rattle.card.proofs.Computed.Tests.{refusalUnchangedTest, doneSoundTest, countsRightTest, pointersAscendingTest, formatSoundTest, untouchedTest, firstNumber, refusedIffTest, windowSetByTest, withContents, sameHiddenTest, secrecyTest, trialsTest}
+
+-- To compute a row, its proof unfolds this one name. A wrong rule makes use of `orElse`.
+unfoldable pub computing : Unit {0}
+unfolding orElse rules playerCard refusals portOf replies afterAll traits shows someShows presents presented keyPresented sealed isOne takesLast lastTaken trialTable trialReports bounds sameList sameLists replyNumbers allLines firstNumber
+computing = tt
+
+-- ---- cards, drawn by hand: no rule has made them
+
+-- N 16, R 1, B 512 and P 32, at second 0 with no window open.
+abbrev drawn : (used : ℕ) (flags keys counts pointers contents : List ℕ) → Card
+drawn used flags keys counts pointers contents = card (withUsed (freshInfo 16 1 512) used) flags keys counts pointers (zeros 32) contents
+
+-- The root points to blocks 1 and 2.
+abbrev twoBelow : Card
+twoBelow = drawn 2 (1 ∷ 1 ∷ 1 ∷ zeros 13) (zeros 64) (0 ∷ 1 ∷ 1 ∷ zeros 13) (1 ∷ 2 ∷ zeros 30) (zeros 8192)
+
+-- The root points to block 1, and that to block 2.
+abbrev chain : Card
+chain = drawn 2 (1 ∷ 1 ∷ 1 ∷ zeros 13) (zeros 64) (0 ∷ 1 ∷ 1 ∷ zeros 13) (1 ∷ 65538 ∷ zeros 30) (zeros 8192)
+
+-- The root points to blocks 1 and 2, and block 1 to block 2.
+abbrev twice : Card
+twice = drawn 3 (1 ∷ 1 ∷ 1 ∷ zeros 13) (zeros 64) (0 ∷ 1 ∷ 2 ∷ zeros 13) (1 ∷ 2 ∷ 65538 ∷ zeros 29) (zeros 8192)
+
+-- The root points to block 1, which has both keys.
+abbrev keyed : List ℕ → Card
+keyed contents = drawn 1 (1 ∷ 7 ∷ zeros 14) (zeros 4 ++ (1 ∷ 2 ∷ 3 ∷ 4 ∷ zeros 56)) (0 ∷ 1 ∷ zeros 14) (1 ∷ zeros 31) contents
+
+-- The fresh card with an open window in its table, and 7 in every byte.
+abbrev opened : Card
+opened = card (freshInfo 16 1 512) (1 ∷ zeros 15) (zeros 64) (zeros 16) (zeros 32) (0 ∷ 0 ∷ 10 ∷ zeros 29) (replicate 8192 7)
+
+-- One byte in every place from block 2 on.
+abbrev pub below : ℕ → List ℕ
+below byte = zeros 1024 ++ replicate 7168 byte
+
+-- The root points to block 1, that to 2 and 4, and 2 to 3. Block 1 has keys of its own, 2 and 4 have others, and 3 has none.
+abbrev pub nested : Card
+nested =
+    drawn 4
+    (1 ∷ 7 ∷ 7 ∷ 1 ∷ 7 ∷ zeros 11)
+    (zeros 4 ++ (1 ∷ 2 ∷ 3 ∷ 4 ∷ 5 ∷ 6 ∷ 7 ∷ 8 ∷ 0 ∷ 0 ∷ 0 ∷ 0 ∷ 5 ∷ 6 ∷ 7 ∷ 8 ∷ zeros 44))
+    (0 ∷ 1 ∷ 1 ∷ 1 ∷ 1 ∷ zeros 11)
+    (1 ∷ 65538 ∷ 65540 ∷ 131075 ∷ zeros 28)
+    (below 5)
+
+-- ---- host sessions on the nested card, of which the root and block 1 alone are within reach without the keys of 2 and 4
+
+abbrev asks : Call → Request
+asks call = record { call = call; lent = lending [] }
+
+abbrev reads : ℕ → Credential → ℕ → Request
+reads b credential interval = asks (Read (record { block = b; credential = credential; interval = interval }))
+
+abbrev pub atMostOne : ℕ → Bool
+atMostOne b = leb b 1
+
+-- ---- refusal-unchanged
+
+pub refused-read-empties-its-buffer : refusalUnchangedTest playerCard (read Host 5 Nothing 0) ≡ true
+unfolding computing
+refused-read-empties-its-buffer = refl
+
+pub delete-answers-a-refusal-and-deletes : refusalUnchangedTest twoBelow (delete Service 0 1) ≡ true
+unfolding computing
+delete-answers-a-refusal-and-deletes = refl
+
+-- ---- done-sound
+
+pub freed-block-keeps-its-keys : doneSoundTest (keyed (zeros 8192)) (delete Service 0 1) ≡ true
+unfolding computing
+freed-block-keeps-its-keys = refl
+
+pub root-pointed-to-at-the-service-port : doneSoundTest twoBelow (create Service 1 Nothing 0 Nothing) ≡ true
+unfolding computing
+root-pointed-to-at-the-service-port = refl
+
+-- ---- counts-right
+
+pub dropped-pointer-still-counted : countsRightTest twice (delete Service 1 2) ≡ true
+unfolding computing
+dropped-pointer-still-counted = refl
+
+pub created-pointer-counted-at-its-source : countsRightTest twoBelow (create Service 1 Nothing 2 Nothing) ≡ true
+unfolding computing
+created-pointer-counted-at-its-source = refl
+
+-- ---- pointers-ascending
+
+pub dropped-pointer-leaves-a-one : pointersAscendingTest twoBelow (delete Service 0 2) ≡ true
+unfolding computing
+dropped-pointer-leaves-a-one = refl
+
+pub created-pointer-put-last : pointersAscendingTest chain (create Service 0 Nothing 2 Nothing) ≡ true
+unfolding computing
+created-pointer-put-last = refl
+
+-- ---- format-sound
+
+pub format-leaves-the-pointers : formatSoundTest 16 1 512 twoBelow ≡ true
+unfolding computing
+format-leaves-the-pointers = refl
+
+pub format-leaves-the-windows : formatSoundTest 16 1 512 opened ≡ true
+unfolding computing
+format-leaves-the-windows = refl
+
+-- ---- untouched
+
+pub unallocated-block-written : untouchedTest playerCard (writeAll Service 5 Nothing 0 7) 5 ≡ true
+unfolding computing
+unallocated-block-written = refl
+
+pub reused-block-unzeroed : untouchedTest (withContents playerCard (replicate 8192 7)) (alloc Service 0 65535 1) 1 ≡ true
+unfolding computing
+reused-block-unzeroed = refl
+
+-- ---- refused-iff
+
+pub done-though-refused : refusedIffTest blankCard free ≡ true
+unfolding computing
+done-though-refused = refl
+
+pub last-refusal-answered : refusedIffTest playerCard (read Host 5 Nothing 86401) ≡ true
+unfolding computing
+last-refusal-answered = refl
+
+-- ---- window-set-by
+
+pub window-set-by-a-refused-read : windowSetByTest twoBelow (read Host 1 Nothing 10) Reading 1 ≡ true
+unfolding computing
+window-set-by-a-refused-read = refl
+
+pub service-read-opens-a-window : windowSetByTest playerCard (read Service 0 Nothing 10) Reading 0 ≡ true
+unfolding computing
+service-read-opens-a-window = refl
+
+-- ---- same-hidden
+
+pub reach-looks-at-contents : sameHiddenTest (λ high low. eqb high 9 && eqb low 2) (keyed (replicate 8192 9)) (zeros 8192) (λ b. eqb b 0) Reading 1 ≡ true
+unfolding computing
+reach-looks-at-contents = refl
+
+-- ---- secrecy
+
+pub any-key-opens : secrecyTest nested (below 6) atMostOne (reads 2 (KeyCredential 5 0) 0 ∷ []) ≡ true
+unfolding computing
+any-key-opens = refl
+
+pub reference-stands-in-for-a-key : secrecyTest nested (below 6) atMostOne (reads 1 (KeyCredential 1 2) 10 ∷ reads 2 (Reference 1) 0 ∷ []) ≡ true
+unfolding computing
+reference-stands-in-for-a-key = refl
+
+pub closed-parent-opens-its-children : secrecyTest nested (below 6) atMostOne (reads 3 (Reference 2) 0 ∷ []) ≡ true
+unfolding computing
+closed-parent-opens-its-children = refl
+
+pub renew-presents-no-key : secrecyTest nested (below 6) atMostOne (asks (Renew (record { mode = 0; block = 2; high = 5; low = 6; interval = 10 })) ∷ reads 3 (Reference 2) 0 ∷ []) ≡ true
+unfolding computing
+renew-presents-no-key = refl
+
+pub last-pointer-to-the-source : secrecyTest nested (below 6) atMostOne (asks (Delete (record { source = 1; credential = KeyCredential 3 4; destination = 4 })) ∷ asks (Alloc (record { reference = 1; credential = KeyCredential 3 4; hint = 4; count = 1 })) ∷ []) ≡ true
+unfolding computing
+last-pointer-to-the-source = refl
+
+-- ---- trials
+
+-- All rows of the table in one: window_open_at_its_end, root_counted_as_free, destination_tested_for_reading and write_window_serves_reading.
+pub trials-computed : trialsTest trialTable ≡ true
+unfolding computing
+trials-computed = refl

@@ -1,0 +1,308 @@
+-- For each theorem about the rules a test: what it says of given cards and calls, or a part of it, as a value that can be computed.
+-- Each test is shown to hold of everything by its theorem. So where a test is false, its theorem is false.
+use Prim.Native.Nat.{ℕ, zero, suc, _<_}
+use mathlib.Core.Path.{_≡_, refl, sym, ap, _∙_, subst}
+use mathlib.Core.Logic.{_⊎_, inl, inr, ⊎-elim}
+use mathlib.Core.Bool.{Bool, true, false, _&&_, _||_, not, cond}
+use mathlib.Core.List.{List, [], _∷_, map}
+use lib.Dec.{eqb}
+use lib.ListN.{drop}
+use borrow.Author.Tests.{eqb-false, eq-eqb, not-true}
+use Rattle.card.specs.Lists.{every, all, allBelow}
+use Rattle.card.specs.ListsLaws.{and-left, and-right, and-true, or-left, or-right, or-else, absurd-test, false-unless, not-cases, every-true, true-every, allBelow-true, true-allBelow}
+use Rattle.card.specs.Pointers.{ascending, pointersTo}
+use Rattle.card.specs.Contents.{zeros}
+use Rattle.card.specs.Card.{Card, allocated, windowEnd, count, inUse, block}
+use Rattle.card.specs.Soundness.{ranges, lengths, shape, sound}
+use Rattle.card.specs.SoundCard.{SoundCard}
+use Rattle.card.specs.SoundnessLaws.{shape-true, true-shape, sound-true, true-sound}
+use Rattle.card.specs.Plan.{Check, _⇒_, Buffers, Result}
+use Rattle.card.specs.PlanLaws.{FirstHolds, here, later, NoneHolds}
+use Rattle.card.specs.Calls.{refusalNumber, answerNumber, isDone, format}
+use Rattle.card.specs.Session.{Request, Sent, portOf, refusals, performed, replies, afterAll, hostSession}
+use Rattle.card.specs.Reach.{presented, keyPresented, byKey, Hidden, lastTaken}
+use Rattle.card.specs.Trials.{Trial, trialTable, trialReports, trials}
+use Rattle.card.specs.declared.Port.{Port}
+use Rattle.card.specs.declared.Port.the-variants.{Host, Service}
+use Rattle.card.specs.declared.Mode.{Mode}
+use Rattle.card.specs.declared.Refusal.{Refusal}
+use Rattle.card.specs.declared.Answer.{Answer}
+use Rattle.card.specs.declared.Answer.the-variants.{Refused, Done, Value}
+use Rattle.card.proofs.Guarantees.Unchanged.{Unchanged, refusal-unchanged}
+use Rattle.card.proofs.Guarantees.KeepsSound.{done-sound, counts-right, pointers-ascending}
+use Rattle.card.proofs.Guarantees.Format.{format-sound}
+use Rattle.card.proofs.Guarantees.Untouched.{LeftAlone, AllottedZeroed, untouched}
+use Rattle.card.proofs.Guarantees.RefusedIff.{refused-iff}
+use Rattle.card.proofs.Guarantees.WindowSet.{SetBy, window-set-by}
+use Rattle.card.proofs.Secrecy.Theorem.{EqualBut, HiddenOrFree, Secret, same-hidden, secrecy}
+use Rattle.card.proofs.Secrecy.Bounds.{bounds, reach-inside}
+use Rattle.card.proofs.Computed.Same.{sameList, sameList-true, true-sameList, sameLists, true-sameLists, cardNumbers, replyNumbers, allLines}
+
+-- ---- tests and statements
+
+-- The second test holds where the first does.
+abbrev pub implies : Bool → Bool → Bool
+implies a b = not a || b
+
+pub true-implies : (a b : Bool) → (a ≡ true → b ≡ true) → implies a b ≡ true
+true-implies true b f = f refl
+true-implies false b f = refl
+
+abbrev pub isSound : Card → Bool
+isSound c = shape c && sound c
+
+isSound-true : {c : Card} → isSound c ≡ true → SoundCard c
+isSound-true {c} h = record { shaped = shape-true c (and-left _ _ h); isSound = sound-true c (and-right (shape c) _ h) }
+
+true-isSound : {c : Card} → SoundCard c → isSound c ≡ true
+true-isSound s = and-true _ _ (true-shape (s .shaped)) (true-sound (s .isSound))
+
+-- ---- refusal-unchanged
+
+abbrev leftBy : Card → List ℕ → List ℕ → List (List ℕ)
+leftBy c out places = out ∷ places ∷ cardNumbers c
+
+abbrev pub refusalUnchangedTest : Card → Sent → Bool
+refusalUnchangedTest c s =
+    let r = performed c s in
+    let lent = s .request .lent in
+    implies (not (isDone (r .answer))) (sameLists (leftBy (r .after) (r .out) (r .places)) (leftBy c (lent .out) (lent .places)))
+
+unchanged-left : {c : Card} {lent : Buffers} {r : Result} → Unchanged c lent r
+    → sameLists (leftBy (r .after) (r .out) (r .places)) (leftBy c (lent .out) (lent .places)) ≡ true
+unchanged-left u = true-sameLists (λ k. leftBy (u .after k) (u .out k) (u .places k))
+
+unchanged-tested : (c : Card) (s : Sent) (a : Answer) → performed c s .answer ≡ a → refusalUnchangedTest c s ≡ true
+unchanged-tested c s (Refused r) e = or-right (not (not (isDone (performed c s .answer)))) _ (unchanged-left (refusal-unchanged (s .port) c (s .request) r e))
+unchanged-tested c s Done e = or-left _ _ (ap (λ (a : Answer). not (not (isDone a))) e)
+unchanged-tested c s (Value v) e = or-left _ _ (ap (λ (a : Answer). not (not (isDone a))) e)
+
+pub refusal-unchanged-tested : (c : Card) (s : Sent) → refusalUnchangedTest c s ≡ true
+refusal-unchanged-tested c s = unchanged-tested c s (performed c s .answer) refl
+
+-- ---- done-sound and what it gives of counts and pointers; format-sound
+
+abbrev pub doneSoundTest : Card → Sent → Bool
+doneSoundTest c s = implies (isSound c) (isSound (performed c s .after))
+
+pub done-sound-tested : (c : Card) (s : Sent) → doneSoundTest c s ≡ true
+done-sound-tested c s = true-implies (isSound c) _ (λ h. true-isSound (done-sound (s .port) c (s .request) (isSound-true h)))
+
+abbrev pub countsRightTest : Card → Sent → Bool
+countsRightTest c s =
+    let p = performed c s .after .public in
+    implies (isSound c) (allBelow (λ b. eqb (count p b) (pointersTo b (inUse p))) (p .info .blocks))
+
+pub counts-right-tested : (c : Card) (s : Sent) → countsRightTest c s ≡ true
+counts-right-tested c s =
+    true-implies (isSound c) _ (λ h. true-allBelow _ _ (λ b l. eq-eqb _ _ (counts-right (s .port) c (s .request) (isSound-true h) b l)))
+
+abbrev pub pointersAscendingTest : Card → Sent → Bool
+pointersAscendingTest c s =
+    let p = performed c s .after .public in
+    implies (isSound c) (ascending (inUse p) && all (λ w. eqb w 0) (drop (p .info .used) (p .pointers)))
+
+pub pointers-ascending-tested : (c : Card) (s : Sent) → pointersAscendingTest c s ≡ true
+pointers-ascending-tested c s =
+    true-implies (isSound c) _
+    (λ h. let r = pointers-ascending (s .port) c (s .request) (isSound-true h) in and-true _ _ (r .ascends) (r .restZero))
+
+abbrev pub formatSoundTest : ℕ → ℕ → ℕ → Card → Bool
+formatSoundTest blocks roots bytes c = implies (ranges blocks roots bytes && lengths blocks bytes c) (isSound (format blocks roots bytes c .after))
+
+pub format-sound-tested : (blocks roots bytes : ℕ) (c : Card) → formatSoundTest blocks roots bytes c ≡ true
+format-sound-tested blocks roots bytes c = true-implies (ranges blocks roots bytes && lengths blocks bytes c) _ (λ h. true-isSound (format-sound blocks roots bytes c h))
+
+-- ---- untouched
+
+abbrev pub untouchedTest : Card → Sent → ℕ → Bool
+untouchedTest c s b =
+    let d = performed c s .after in
+    implies (not (allocated (c .public) b))
+    ((not (allocated (d .public) b) && sameList (block d b) (block c b))
+    || (allocated (d .public) b && sameList (block d b) (zeros (c .public .info .bytes))))
+
+pub untouched-tested : (c : Card) (s : Sent) (b : ℕ) → untouchedTest c s b ≡ true
+untouched-tested c s b =
+    true-implies (not (allocated (c .public) b)) _
+    (λ h.
+    ⊎-elim
+    (λ (l : LeftAlone c (performed c s .after) b). or-left _ _ (and-true _ _ (ap not (l .notAllocated)) (true-sameList (l .same))))
+    (λ (z : AllottedZeroed (c .public .info .bytes) (performed c s .after) b).
+    or-right (not (allocated (performed c s .after .public) b) && sameList (block (performed c s .after) b) (block c b)) _
+    (and-true _ _ (z .isAllocated) (true-sameList (z .holdsZeros))))
+    (untouched (s .port) c (s .request) b (not-true _ h)))
+
+-- ---- refused-iff
+
+-- The number of the first condition that holds, or 0. It is worked out apart from the rules' own `first`.
+unfoldable pub firstNumber : List Check → ℕ
+firstNumber [] = 0
+firstNumber ((test ⇒ r) ∷ checks) = cond test (refusalNumber r) (firstNumber checks)
+
+abbrev pub refusedIffTest : Card → Sent → Bool
+refusedIffTest c s = eqb (answerNumber (performed c s .answer)) (firstNumber (refusals (s .port) c (s .request)))
+
+-- The first condition that holds, with its number; or that none does.
+record FirstIs (checks : List Check) : Type 0 where
+  pub refusal : Refusal
+  pub holds : FirstHolds checks refusal
+  pub number : firstNumber checks ≡ refusalNumber refusal
+
+record NoneIs (checks : List Check) : Type 0 where
+  pub none : NoneHolds checks
+  pub number : firstNumber checks ≡ 0
+
+first-or-none : (checks : List Check) → FirstIs checks ⊎ NoneIs checks
+unfolding firstNumber
+first-or-none [] = inr (record { none = tt; number = refl })
+first-or-none ((true ⇒ r) ∷ checks) = inl (record { refusal = r; holds = here refl; number = refl })
+first-or-none ((false ⇒ r) ∷ checks) =
+    ⊎-elim
+    (λ (f : FirstIs checks). inl (record { refusal = f .refusal; holds = later refl (f .holds); number = f .number }))
+    (λ (n : NoneIs checks). inr (record { none = (refl, n .none); number = n .number }))
+    (first-or-none checks)
+
+done-number : (a : Answer) → isDone a ≡ true → answerNumber a ≡ 0
+done-number (Refused r) e = absurd-test e refl
+done-number Done e = refl
+done-number (Value v) e = refl
+
+pub refused-iff-tested : (c : Card) (s : Sent) → refusedIffTest c s ≡ true
+refused-iff-tested c s =
+    ⊎-elim
+    (λ (f : FirstIs (refusals (s .port) c (s .request))).
+    eq-eqb _ _ (ap answerNumber (refused-iff (s .port) c (s .request) .refusedIff (f .refusal) .1 (f .holds)) ∙ sym (f .number)))
+    (λ (n : NoneIs (refusals (s .port) c (s .request))).
+    eq-eqb _ _ (done-number (performed c s .answer) (refused-iff (s .port) c (s .request) .doneIff .1 (n .none)) ∙ sym (n .number)))
+    (first-or-none (refusals (s .port) c (s .request)))
+
+-- ---- window-set-by
+
+abbrev isHost : Port → Bool
+isHost Host = true
+isHost Service = false
+
+-- A window that is left with another end, and not 0, was set by a done call that is judged as a host's.
+abbrev pub windowSetByTest : Card → Sent → Mode → ℕ → Bool
+windowSetByTest c s m b =
+    let r = performed c s in
+    eqb (windowEnd (r .after .public) m b) (windowEnd (c .public) m b)
+    || (eqb (windowEnd (r .after .public) m b) 0 || (isHost (portOf (s .port) (s .request .call)) && isDone (r .answer)))
+
+pub window-set-by-tested : (c : Card) (s : Sent) (m : Mode) (b : ℕ) → windowSetByTest c s m b ≡ true
+window-set-by-tested c s m b =
+    go (eqb (windowEnd (performed c s .after .public) m b) (windowEnd (c .public) m b)) (eqb (windowEnd (performed c s .after .public) m b) 0) refl refl
+  where
+    go : (same zeroed : Bool) → eqb (windowEnd (performed c s .after .public) m b) (windowEnd (c .public) m b) ≡ same
+        → eqb (windowEnd (performed c s .after .public) m b) 0 ≡ zeroed
+        → same || (zeroed || (isHost (portOf (s .port) (s .request .call)) && isDone (performed c s .answer))) ≡ true
+    go true zeroed e f = refl
+    go false true e f = refl
+    go false false e f =
+        let set : SetBy (s .port) c (s .request .call) (performed c s) m b = window-set-by (s .port) c (s .request) m b (eqb-false _ _ e) (eqb-false _ _ f) in
+        and-true _ _ (ap isHost (set .atHost)) (ap isDone (set .answer))
+
+-- ---- same-hidden
+
+abbrev pub withContents : Card → List ℕ → Card
+withContents c contents = record { public = c .public; keys = c .keys; contents = contents }
+
+-- Where the named blocks bound what is within reach on the other card, a block with a presented key on this one is named.
+abbrev pub sameHiddenTest : (ℕ → ℕ → Bool) → Card → List ℕ → (ℕ → Bool) → Mode → ℕ → Bool
+sameHiddenTest K c contents named mode b =
+    implies (bounds K (withContents c contents) named && (allocated (c .public) b && keyPresented K c mode b)) (named b)
+
+equal-contents : (c : Card) (contents : List ℕ) → EqualBut (λ b. Unit {0}) c (withContents c contents)
+equal-contents c contents = record { samePublic = refl; sameKeys = refl; sameContents = λ b l differ. absurd (differ tt) }
+
+pub same-hidden-tested : (K : ℕ → ℕ → Bool) (c : Card) (contents : List ℕ) (named : ℕ → Bool) (mode : Mode) (b : ℕ) → sameHiddenTest K c contents named mode b ≡ true
+same-hidden-tested K c contents named mode b =
+    true-implies (bounds K (withContents c contents) named && (allocated (c .public) b && keyPresented K c mode b)) _
+    (λ h.
+    let rest : allocated (c .public) b && keyPresented K c mode b ≡ true = and-right (bounds K (withContents c contents) named) _ h in
+    reach-inside K (withContents c contents) named (and-left _ _ h)
+    (same-hidden K c (withContents c contents) (equal-contents c contents) b .0 .0
+    (byKey mode (and-left _ _ rest) (and-right (allocated (c .public) b) _ rest))))
+
+-- ---- secrecy
+
+-- Two sound cards that are equal but for contents, and have equal contents in the named blocks, which bound what is within reach of the keys.
+module _ (K : ℕ → ℕ → Bool) (c : Card) (contents : List ℕ) (named : ℕ → Bool) where
+  abbrev other : Card
+  other = withContents c contents
+
+  abbrev sameNamed : ℕ → Bool
+  sameNamed b = implies (named b) (sameList (block c b) (block other b))
+
+  abbrev tests : List Bool
+  tests = isSound c ∷ isSound other ∷ bounds K c named ∷ allBelow sameNamed (c .public .info .blocks) ∷ []
+
+  abbrev pub comparable : Bool
+  comparable = every tests
+
+  module _ (h : comparable ≡ true) where
+    pub both-sound : SoundCard c × SoundCard other
+    both-sound = (isSound-true (every-true tests h .0), isSound-true (every-true tests h .1 .0))
+
+    -- A block that is not named is hidden, if it is allocated.
+    pub hidden-else : (b : ℕ) → allocated (c .public) b ≡ true → named b ≡ false → Hidden K c b
+    hidden-else b a f = record { isAllocated = a; outOfReach = λ g. absurd-test (reach-inside K c named (every-true tests h .1 .1 .0) g) f }
+
+    named-else : (b : ℕ) → (HiddenOrFree K c b → ⊥) → named b ≡ true
+    named-else b n =
+        ⊎-elim (λ e. e)
+        (λ (f : named b ≡ false). absurd (n (⊎-elim (λ a. inl (hidden-else b a f)) (λ free. inr free) (not-cases (allocated (c .public) b)))))
+        (not-cases (named b))
+
+    pub equal-else : EqualBut (HiddenOrFree K c) c other
+    equal-else = record {
+      samePublic = refl;
+      sameKeys = refl;
+      sameContents = λ b l n.
+          sameList-true _ _ (or-else (not (named b)) _ (allBelow-true sameNamed _ (every-true tests h .1 .1 .1 .0) b l) (ap not (named-else b n)));
+    }
+
+-- On two such cards: equal answers, and every allocated block that is not named keeps its contents unless its last pointer was taken.
+module _ (c : Card) (contents : List ℕ) (named : ℕ → Bool) (session : List Request) where
+  abbrev calls : List Sent
+  calls = hostSession session
+
+  abbrev keeps : ℕ → Bool
+  keeps b = implies (allocated (c .public) b && not (named b)) (lastTaken c calls b || sameList (block (afterAll c calls) b) (block c b))
+
+  abbrev pub secrecyTest : Bool
+  secrecyTest =
+      implies (comparable (presented session) c contents named)
+      (sameLists (replyNumbers (replies c calls)) (replyNumbers (replies (withContents c contents) calls)) && allBelow keeps (c .public .info .blocks))
+
+  module _ (h : comparable (presented session) c contents named ≡ true) where
+    secret : Secret (presented session) calls c (withContents c contents)
+    secret =
+        let s = both-sound (presented session) c contents named h in
+        secrecy session c (withContents c contents) (s .0) (s .1) (equal-else (presented session) c contents named h)
+
+    kept-all : (b : ℕ) → keeps b ≡ true
+    kept-all b =
+        true-implies (allocated (c .public) b && not (named b)) _
+        (λ g. kept-or-taken (lastTaken c calls b) refl
+        (hidden-else (presented session) c contents named h b (and-left _ _ g) (not-true _ (and-right (allocated (c .public) b) _ g))))
+      where
+        kept-or-taken : (t : Bool) → lastTaken c calls b ≡ t → Hidden (presented session) c b → t || sameList (block (afterAll c calls) b) (block c b) ≡ true
+        kept-or-taken true e k = refl
+        kept-or-taken false e k = true-sameList (secret .kept b k e)
+
+pub secrecy-tested : (c : Card) (contents : List ℕ) (named : ℕ → Bool) (session : List Request) → secrecyTest c contents named session ≡ true
+secrecy-tested c contents named session =
+    true-implies (comparable (presented session) c contents named) _
+    (λ h.
+    and-true _ _ (true-sameLists (ap replyNumbers (secret c contents named session h .answers)))
+    (true-allBelow (keeps c contents named session) _ (λ b l. kept-all c contents named session h b)))
+
+-- ---- trials
+
+abbrev pub trialsTest : List Trial → Bool
+trialsTest rows = sameLists (allLines (map trialReports rows)) (allLines (map (λ t. t .expected) rows))
+
+pub trials-tested : trialsTest trialTable ≡ true
+trials-tested = true-sameLists (ap allLines trials)

@@ -1,0 +1,37 @@
+-- `all-kinds` as a test, and a row for each mistake in the rules of kinds that a must-fail edit makes: the mistake turns it from true to false.
+use Prim.Native.Nat.{ℕ, _+_}
+use mathlib.Core.Path.{_≡_, refl, ap}
+use mathlib.Core.Bool.{Bool, true, false}
+use mathlib.Core.List.{List, map}
+use Rattle.card.specs.Lists.{numbersBelow}
+use Rattle.card.proofs.Computed.Same.{sameList, true-sameList}
+use Rattle.card.specs.declared.Port.{Port}
+use Rattle.card.specs.declared.Port.the-variants.{Host, Service}
+use Rattle.kinds.specs.Kinds.{row, names, kindNumber, lengthOf, among, kindOf, kindLength, bodyLength}
+use Rattle.kinds.specs.AllKinds.{expected, all-kinds}
+use Rattle.kinds.specs.declared.Length.{Length}
+use Rattle.kinds.specs.declared.Length.the-variants.{Bytes, Unknown}
+
+-- A length as a number, 0 where there is none.
+abbrev lengthNumber : Length → ℕ
+lengthNumber (Bytes n) = n + 1
+lengthNumber Unknown = 0
+
+abbrev numbers : List Length → List ℕ
+numbers lengths = map lengthNumber lengths
+
+abbrev pub allKindsTest : Port → Bool
+allKindsTest wire = sameList (numbers (map (bodyLength wire) (numbersBelow (λ kind. true) 256))) (numbers (expected wire))
+
+pub all-kinds-tested : (wire : Port) → allKindsTest wire ≡ true
+all-kinds-tested wire = true-sameList (ap numbers (all-kinds wire))
+
+-- ---- rows
+
+pub renew-at-the-service-port : allKindsTest Service ≡ true
+unfolding numbersBelow row names kindNumber lengthOf among kindOf kindLength bodyLength sameList
+renew-at-the-service-port = refl
+
+pub service-kinds-exist-at-the-host-port : allKindsTest Host ≡ true
+unfolding numbersBelow row names kindNumber lengthOf among kindOf kindLength bodyLength sameList
+service-kinds-exist-at-the-host-port = refl
