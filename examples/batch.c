@@ -60,7 +60,7 @@ static size_t serve(uint8_t port, const uint8_t *input, size_t len, size_t room)
 	uint64_t records = 0, read = 0, written = 0, unallocated = 0;
 	uint32_t stop = negvask_batch(CARD, port, input, len, answers, room, &records, &read, &written);
 
-	negvask_free(CARD, &unallocated);
+	negvask_count_free(CARD, &unallocated);
 	printf("%s: %lu records, %lu bytes of answers, first %u, stopped by %u; %lu blocks unallocated\n",
 		port == NEGVASK_HOST ? "host" : "service", (unsigned long)records, (unsigned long)written,
 		(unsigned)answers[0], (unsigned)stop, (unsigned long)unallocated);

@@ -94,7 +94,7 @@ int main(void)
 	answer = negvask_delete(CARD, NEGVASK_SERVICE, 0, NEGVASK_BYTES(nothing), places[1], &value);
 	show("service: delete the pointer to the second", answer);
 	printf("  freed: %lu\n", (unsigned long)value);
-	answer = negvask_free(CARD, &value);
+	answer = negvask_count_free(CARD, &value);
 	show("count the unallocated blocks", answer);
 	printf("  %lu of %d\n", (unsigned long)value, BLOCKS);
 	show("audit", negvask_audit(CARD));

@@ -584,7 +584,7 @@ uint32_t negvask_force(NEGVASK_TABLES, uint16_t block);
  * \param value  receives the number; unmodified when refused.
  * \return  0 or a refusal.
  */
-uint32_t negvask_free(NEGVASK_TABLES, uint64_t *value);
+uint32_t negvask_count_free(NEGVASK_TABLES, uint64_t *value);
 
 /**
  * \brief Let time pass.
