@@ -74,7 +74,7 @@ static uint32_t serve_host(void)
 
 /* ---- Stored copies. */
 
-/* What stands before the parts of a copy: its number, which grows from copy to copy, and the checksum of the parts. */
+/* What stands before the parts of a copy: its number, which grows from copy to copy, and the checksum of all. */
 struct heading {
 	uint64_t number;
 	uint64_t check;
@@ -98,22 +98,22 @@ static uint32_t crc32(uint32_t crc, const uint8_t *bytes, size_t len)
 	return crc;
 }
 
-static uint64_t checksum(void)
+static uint64_t checksum(uint64_t number)
 {
-	uint32_t crc = 0xFFFFFFFFu;
+	uint32_t crc = crc32(0xFFFFFFFFu, (const uint8_t *)&number, sizeof number);
 	int i;
 
 	for (i = 0; i < NEGVASK_PARTS; i++) {
 		struct negvask_part part = negvask_part_of(&card, i);
 		crc = crc32(crc, (const uint8_t *)part.bytes, part.len);
 	}
-	return crc;
+	return crc ^ 0xFFFFFFFFu;
 }
 
 /* Writes record and tables as they are. */
 static int write_copy(FILE *copy, uint64_t number)
 {
-	const struct heading heading = { number, checksum() };
+	const struct heading heading = { number, checksum(number) };
 	size_t missing = 1;
 	int i;
 
@@ -139,7 +139,7 @@ static uint64_t load_copy(FILE *copy)
 		struct negvask_part part = negvask_part_of(&card, i);
 		missing += part.len - fread(part.bytes, 1, part.len, copy);
 	}
-	if (missing > 0 || heading.check != checksum() || negvask_audit(NEGVASK_LEND(&card)) != NEGVASK_DONE)
+	if (missing > 0 || heading.check != checksum(heading.number) || negvask_audit(NEGVASK_LEND(&card)) != NEGVASK_DONE)
 		return 0;
 	return heading.number;
 }
@@ -175,7 +175,7 @@ static int settle(void)
 	return write_copy(evidence, 0) && load();
 }
 
-/* ---- A day of the recorder. */
+/* ---- The recorder. */
 
 static void session(void)
 {
@@ -184,11 +184,11 @@ static void session(void)
 	printf("  stopped by %u\n", (unsigned)serve_host());
 }
 
-/* What an accident leaves: tables that contradict each other, and a copy of which one byte is not right. */
+/* What an accident leaves: tables that contradict each other, and a copy with a wrong byte in its contents. */
 static void damage(FILE *copy)
 {
 	card.counts[1] = 7;
-	fseek(copy, sizeof(struct heading), SEEK_SET);
+	fseek(copy, -1, SEEK_END);
 	fputc(255, copy);
 	fflush(copy);
 }
@@ -216,5 +216,10 @@ int main(void)
 	ready = ready && settle();
 	negvask_tick(NEGVASK_LEND(&card), 0, &time);
 	printf("T %lu\n", (unsigned long)time);
+
+	/* By this record the answer to READ has no room, however often it is tried. */
+	card.info[2] = NEGVASK_BLOCK_BYTES_MAX;
+	session();
+	ready = ready && settle();
 	return ready ? 0 : 1;
 }

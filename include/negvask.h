@@ -264,8 +264,8 @@ extern "C" {
 /** The longest call record, WRITE's: an input with so many bytes does not
     end within its first record. */
 #define NEGVASK_RECORD_MAX     536
-/** The longest answer in a batch on a sound card with B of `bytes`,
-    READ's: with so much room no batch stops with 257 at its first
+/** The longest answer of a batch, READ's, on a sound card whose blocks have
+    `bytes` bytes: with so much room no batch stops with 257 at its first
     record. */
 #define NEGVASK_ANSWER_MAX(bytes)  (1 + (bytes))
 
@@ -407,7 +407,7 @@ static inline size_t negvask_put_key(uint8_t *to, uint8_t first,
 		to[1 + i] = (uint8_t)(high >> (56 - 8 * i));
 		to[9 + i] = (uint8_t)(low >> (56 - 8 * i));
 	}
-	return 17;
+	return NEGVASK_CREDENTIAL_LEN;
 }
 
 /** The credential that is nothing. */
