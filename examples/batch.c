@@ -10,20 +10,12 @@
 #include <stdio.h>
 #include "negvask.h"
 
-#define BLOCKS 16
-#define BYTES  512
+#define BLOCKS NEGVASK_BLOCKS_MIN
+#define BYTES  NEGVASK_BLOCK_BYTES_MIN
 #define PLACES 32
 
-static uint64_t info[NEGVASK_INFO_LEN];
-static uint8_t flags[BLOCKS];
-static uint64_t keys[4 * BLOCKS];
-static uint16_t counts[BLOCKS];
-static uint32_t pointers[PLACES];
-static uint64_t windows[2 * BLOCKS];
-static uint8_t contents[BLOCKS * BYTES];
-
-#define CARD info, NEGVASK_INFO_LEN, flags, BLOCKS, keys, 4 * BLOCKS, counts, BLOCKS, \
-	pointers, PLACES, windows, 2 * BLOCKS, contents, BLOCKS * BYTES
+NEGVASK_STORAGE(card, BLOCKS, BYTES, PLACES);
+#define CARD NEGVASK_LEND(&card)
 
 #define ZEROS_8  0, 0, 0, 0, 0, 0, 0, 0
 #define NOTHING  0, ZEROS_8, ZEROS_8
@@ -60,7 +52,7 @@ static size_t serve(uint8_t port, const uint8_t *input, size_t len, size_t room)
 	uint64_t records = 0, read = 0, written = 0, unallocated = 0;
 	uint32_t stop = negvask_batch(CARD, port, input, len, answers, room, &records, &read, &written);
 
-	negvask_free(CARD, &unallocated);
+	negvask_count_free(CARD, &unallocated);
 	printf("%s: %lu records, %lu bytes of answers, first %u, stopped by %u; %lu blocks unallocated\n",
 		port == NEGVASK_HOST ? "host" : "service", (unsigned long)records, (unsigned long)written,
 		(unsigned)answers[0], (unsigned)stop, (unsigned long)unallocated);
@@ -71,7 +63,7 @@ int main(void)
 {
 	size_t read;
 
-	negvask_format(CARD, BLOCKS, 1, BYTES);
+	negvask_format(CARD, BLOCKS, NEGVASK_ROOTS_MIN, BYTES);
 	serve(NEGVASK_SERVICE, allot, sizeof allot, 4096);
 	/* Room for all but the second READ that is done: the batch stops before it and goes on with the next buffer. */
 	read = serve(NEGVASK_HOST, host, sizeof host, 600);

@@ -10,20 +10,12 @@
 #include <string.h>
 #include "negvask.h"
 
-#define BLOCKS 16
-#define BYTES  512
+#define BLOCKS NEGVASK_BLOCKS_MIN
+#define BYTES  NEGVASK_BLOCK_BYTES_MIN
 #define PLACES 32
 
-static uint64_t info[NEGVASK_INFO_LEN];
-static uint8_t flags[BLOCKS];
-static uint64_t keys[4 * BLOCKS];
-static uint16_t counts[BLOCKS];
-static uint32_t pointers[PLACES];
-static uint64_t windows[2 * BLOCKS];
-static uint8_t contents[BLOCKS * BYTES];
-
-#define CARD info, NEGVASK_INFO_LEN, flags, BLOCKS, keys, 4 * BLOCKS, counts, BLOCKS, \
-	pointers, PLACES, windows, 2 * BLOCKS, contents, BLOCKS * BYTES
+NEGVASK_STORAGE(card, BLOCKS, BYTES, PLACES);
+#define CARD NEGVASK_LEND(&card)
 
 /* The two keys of the observatory. */
 #define READ_HIGH  0x0123456789ABCDEFu
@@ -39,17 +31,17 @@ static void show(const char *what, uint32_t answer)
 int main(void)
 {
 	uint16_t places[2] = { 0, 0 };
-	const negvask_credential nothing = negvask_by_nothing();
-	const negvask_credential root = negvask_by_reference(0);
-	const negvask_credential reader = negvask_by_key(READ_HIGH, READ_LOW);
-	const negvask_credential writer = negvask_by_key(WRITE_HIGH, WRITE_LOW);
-	const negvask_new_key read_key = negvask_set_key(READ_HIGH, READ_LOW);
-	const negvask_new_key write_key = negvask_set_key(WRITE_HIGH, WRITE_LOW);
+	const struct negvask_credential nothing = negvask_by_nothing();
+	const struct negvask_credential root = negvask_by_reference(0);
+	const struct negvask_credential reader = negvask_by_key(READ_HIGH, READ_LOW);
+	const struct negvask_credential writer = negvask_by_key(WRITE_HIGH, WRITE_LOW);
+	const struct negvask_new_key read_key = negvask_set_key(READ_HIGH, READ_LOW);
+	const struct negvask_new_key write_key = negvask_set_key(WRITE_HIGH, WRITE_LOW);
 	uint8_t data[BYTES] = { 0 }, out[BYTES] = { 0 };
 	uint64_t value = 0;
 	uint32_t answer;
 
-	show("format, 16 blocks, 1 root, 512 bytes", negvask_format(CARD, BLOCKS, 1, BYTES));
+	show("format, 16 blocks, 1 root, 512 bytes", negvask_format(CARD, BLOCKS, NEGVASK_ROOTS_MIN, BYTES));
 
 	/* The service port allots two blocks below the root and gives the first both keys. */
 	show("service: allot 2 blocks below root 0",
@@ -94,7 +86,7 @@ int main(void)
 	answer = negvask_delete(CARD, NEGVASK_SERVICE, 0, NEGVASK_BYTES(nothing), places[1], &value);
 	show("service: delete the pointer to the second", answer);
 	printf("  freed: %lu\n", (unsigned long)value);
-	answer = negvask_free(CARD, &value);
+	answer = negvask_count_free(CARD, &value);
 	show("count the unallocated blocks", answer);
 	printf("  %lu of %d\n", (unsigned long)value, BLOCKS);
 	show("audit", negvask_audit(CARD));

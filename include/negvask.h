@@ -1,23 +1,35 @@
 /*
  * negvask.h: the C interface of the type-safe storage card.
  *
- * The card allocates blocks, keeps the pointers between them, frees a
- * block when its last pointer goes, and opens a block only to a key, or
- * to one who lately opened a block that points to it.
+ * The card allocates blocks, keeps the pointers between them and frees a
+ * block when its last pointer goes. It opens a block to a host by the
+ * block's key; without a key, a root is open to every host, and another
+ * block by reference to one that points to it and was lately opened.
+ *
+ * docs/FIRMWARE.md says how firmware builds, links and calls it, and
+ * docs/RECORDS.md what a host sends.
  *
  * Common to all functions
  * -----------------------
  *
+ * `rt staticlib interface` makes the archive, for x86-64 Linux alone,
+ * since that is what it compiles for. Whoever links it supplies memset(),
+ * as any C library does, and nothing else; `nm -u` of the archive says so.
+ * The deepest call takes 9,552 bytes of stack below its caller, as
+ * `tests/run.sh --benchmark` prints.
+ *
  * All state is in memory provided by the caller: a record of five
  * numbers and six tables. The functions keep nothing between calls,
- * allocate nothing and use no other global state. Two calls on the same
- * card must not run at the same time.
+ * allocate nothing and use no global state.
  *
  * Lengths are counted in elements, not in bytes. A pointer must be valid
  * for its length and aligned for its type, and must not be null even
- * where the length is 0. The record, the tables and the buffers of one
- * call must not overlap. Nothing else is asked of the caller: tables
- * and operands of any content are answered, and a bad one is refused.
+ * where the length is 0. What one call is lent must not overlap, but for
+ * what it only reads: the same bytes may be two of its credentials. While
+ * a call runs nobody else may write to what it was lent, another call on
+ * the same card, a device and the host that sent the bytes included.
+ * Nothing else is asked of the caller: tables and operands of any content
+ * are answered, and a bad one is refused.
  *
  * Every function but negvask_batch() returns NEGVASK_DONE (0) or the
  * number of a refusal, and one that refuses changes nothing: no table, no
@@ -29,6 +41,20 @@
  * record, with 13, 256 or 257, it has performed all those before it, and
  * nothing of that one is done. A call that is refused within a batch
  * changes nothing but the byte of its answer.
+ *
+ * Every function but negvask_format() audits the card before it performs
+ * a call: the record and the tables whole, but of contents the length
+ * alone. negvask_batch() audits once for all its records. So a call on a
+ * sound card takes at least the time of an audit, linear in N and P, which
+ * `tests/run.sh --benchmark` prints; README.md has figures.
+ *
+ * NEGVASK_SHAPE (1) and NEGVASK_UNSOUND (2) from any function but
+ * negvask_format() say that the card is damaged, or that something else
+ * was lent in its place: no function makes such a card of a sound one.
+ * Firmware then keeps record and tables as they are, reports it to the
+ * operator, and takes up a stored copy that negvask_audit() finds sound.
+ * It never formats the card by itself, which would do away with all keys
+ * and pointers.
  *
  * The record, `info`, has exactly five numbers:
  *
@@ -51,14 +77,41 @@
  *             then of its write window, in seconds
  *   contents  N * B bytes: block b from b * B on
  *
- * A caller makes a card with negvask_format() and after that leaves
- * record and tables to these functions; it may store them and lend them
- * again later. A window is open while T is less than its end.
+ * A window is open while T is less than its end.
  *
- * Ports: NEGVASK_HOST for calls that come from a host, NEGVASK_SERVICE
- * for the maker's and operator's own. Calls at the service port skip
- * credentials and open no window; their operands are checked as a
- * host's are, and a credential passed there must still be well formed.
+ * A card as a caller keeps it
+ * ---------------------------
+ *
+ * struct negvask_card has the record, and each table's pointer and length.
+ * NEGVASK_LEND(&card) passes them as the parameters with which every
+ * function begins. NEGVASK_STORAGE() declares such a card with static
+ * storage for its tables. A caller that keeps to these, to
+ * negvask_part_of() and to NEGVASK_BYTES() stays as it is where a table
+ * is added, or an element or a credential grows.
+ *
+ * For tables in memory of the caller's own, a mapped region perhaps, each
+ * pointer and each length is set, one table behind the other:
+ *
+ *   card.counts = (void *)at;
+ *   card.counts_len = N;
+ *   at += card.counts_len * sizeof *card.counts;
+ *
+ * In the order keys, windows, pointers, counts, flags, contents each is
+ * aligned where the first one is aligned for uint64_t. The record is in
+ * the struct itself: it is copied there from such memory, and back.
+ *
+ * negvask_format() makes the card, and after that the caller leaves record
+ * and tables to these functions. It may store the bytes of each part,
+ * negvask_part_of(&card, i) for i from 0 to NEGVASK_PARTS - 1, and lend the
+ * card again when it has loaded them into parts of the same lengths.
+ *
+ * Ports
+ * -----
+ *
+ * NEGVASK_HOST is for calls that come from a host, NEGVASK_SERVICE for the
+ * maker's and operator's own. Calls at the service port skip credentials
+ * and open no window; their operands are checked as a host's are, and a
+ * credential passed there must still be well formed.
  *
  * The firmware chooses the port by the wire on which bytes arrive, never
  * by anything in the bytes. Bytes that come from a host go to
@@ -67,6 +120,9 @@
  * 13. NEGVASK_SERVICE and negvask_format() must not be reachable from a
  * host: the one opens every block without a credential, the other does
  * away with all keys and pointers.
+ *
+ * Credentials
+ * -----------
  *
  * A credential is 17 bytes, in the form that call records have:
  *
@@ -92,23 +148,17 @@
  * Worked example
  * --------------
  *
- * A card of 16 blocks with one root, 512 bytes a block and 32 pointers:
+ * A card of 16 blocks with one root, 512 bytes a block and 32 places for
+ * pointers:
  *
- *   uint64_t info[5];
- *   uint8_t flags[16];
- *   uint64_t keys[64];
- *   uint16_t counts[16];
- *   uint32_t pointers[32];
- *   uint64_t windows[32];
- *   uint8_t contents[8192];
- *   #define CARD info, 5, flags, 16, keys, 64, counts, 16, \
- *                pointers, 32, windows, 32, contents, 8192
+ *   NEGVASK_STORAGE(card, 16, 512, 32);
+ *   #define CARD NEGVASK_LEND(&card)
  *
- *   negvask_credential nothing = negvask_by_nothing();
- *   negvask_credential reader = negvask_by_key(1, 2);
- *   negvask_credential writer = negvask_by_key(3, 4);
- *   negvask_new_key read_key = negvask_set_key(1, 2);
- *   negvask_new_key write_key = negvask_set_key(3, 4);
+ *   struct negvask_credential nothing = negvask_by_nothing();
+ *   struct negvask_credential reader = negvask_by_key(1, 2);
+ *   struct negvask_credential writer = negvask_by_key(3, 4);
+ *   struct negvask_new_key read_key = negvask_set_key(1, 2);
+ *   struct negvask_new_key write_key = negvask_set_key(3, 4);
  *   uint16_t place[1];
  *   uint8_t data[512] = { 42 }, out[512];
  *   uint32_t answer;
@@ -133,7 +183,8 @@
  *   // answer == NEGVASK_NOT_OPENED
  *
  * examples/host.c is a whole program of this kind. examples/batch.c has a
- * host's wire and a service wire.
+ * host's wire and a service wire, examples/firmware.c a wire that brings
+ * bytes in pieces, and stored copies.
  */
 
 #ifndef NEGVASK_H
@@ -153,7 +204,8 @@ extern "C" {
 /** Record or tables are out of shape: a number out of its range, a table
     of another length, or M above P. */
 #define NEGVASK_SHAPE            1
-/** The tables contradict each other: the card is not sound. */
+/** The card is not sound: its tables contradict the record or each other,
+    or hold a number that none may have. */
 #define NEGVASK_UNSOUND          2
 /** A block number is not below N, or the block is not allocated. */
 #define NEGVASK_NO_BLOCK         3
@@ -188,18 +240,41 @@ extern "C" {
 /** There is no room for the next answer. */
 #define NEGVASK_FULL           257
 
+/* Limits. */
+
+/** N, the number of blocks. */
+#define NEGVASK_BLOCKS_MIN      16
+#define NEGVASK_BLOCKS_MAX    4096
+/** R, the number of roots. */
+#define NEGVASK_ROOTS_MIN        1
+#define NEGVASK_ROOTS_MAX        8
+/** B, the bytes of a block: the powers of two from and to these. */
+#define NEGVASK_BLOCK_BYTES_MIN    512
+#define NEGVASK_BLOCK_BYTES_MAX  65536
+/** P, the places of the pointer table. */
+#define NEGVASK_POINTERS_MIN     1
+#define NEGVASK_POINTERS_MAX 16384
+
+/** The number of numbers in the record. */
+#define NEGVASK_INFO_LEN         5
+
+/** The number of bytes in a credential or a new key. */
+#define NEGVASK_CREDENTIAL_LEN  17
+
+/** The longest call record, WRITE's: an input with so many bytes does not
+    end within its first record. */
+#define NEGVASK_RECORD_MAX     536
+/** The longest answer of a batch, READ's, on a sound card whose blocks have
+    `bytes` bytes: with so much room no batch stops with 257 at its first
+    record. */
+#define NEGVASK_ANSWER_MAX(bytes)  (1 + (bytes))
+
 /* Operands. */
 
 /** The port of everything that comes from a host. */
 #define NEGVASK_HOST             0
 /** The maker's and operator's port, which no host may reach. */
 #define NEGVASK_SERVICE          1
-
-/** The number of bytes in a credential or a new key. */
-#define NEGVASK_CREDENTIAL_LEN  17
-
-/** The number of numbers in the record. */
-#define NEGVASK_INFO_LEN         5
 
 /** No hint: ALLOC takes the lowest unallocated block. */
 #define NEGVASK_NO_HINT      65535
@@ -209,6 +284,8 @@ extern "C" {
 /** Modes of negvask_renew(). */
 #define NEGVASK_RENEW_READ       0
 #define NEGVASK_RENEW_WRITE      1
+
+/* The card. */
 
 /*
  * The record and the six tables, as the parameters with which every
@@ -223,25 +300,104 @@ extern "C" {
 	uint64_t *windows, size_t windows_len, \
 	uint8_t *contents, size_t contents_len
 
+/** A card as a caller keeps it: the record, and each table's pointer and
+    number of elements. */
+struct negvask_card {
+	uint64_t info[NEGVASK_INFO_LEN];
+	uint8_t *flags;
+	size_t flags_len;
+	uint64_t *keys;
+	size_t keys_len;
+	uint16_t *counts;
+	size_t counts_len;
+	uint32_t *pointers;
+	size_t pointers_len;
+	uint64_t *windows;
+	size_t windows_len;
+	uint8_t *contents;
+	size_t contents_len;
+};
+
+/** The arguments with which every call begins, by a pointer to a struct
+    negvask_card, which is evaluated for each of them. */
+#define NEGVASK_LEND(card) \
+	(card)->info, NEGVASK_INFO_LEN, \
+	(card)->flags, (card)->flags_len, \
+	(card)->keys, (card)->keys_len, \
+	(card)->counts, (card)->counts_len, \
+	(card)->pointers, (card)->pointers_len, \
+	(card)->windows, (card)->windows_len, \
+	(card)->contents, (card)->contents_len
+
+/** Declares `name`, a static struct negvask_card, with static tables for
+    `blocks` blocks of `bytes` bytes and `places` pointers, all of them
+    constants. A semicolon follows. The card is not yet formatted. */
+#define NEGVASK_STORAGE(name, blocks, bytes, places) \
+	static uint8_t name##_flags[blocks]; \
+	static uint64_t name##_keys[4 * (blocks)]; \
+	static uint16_t name##_counts[blocks]; \
+	static uint32_t name##_pointers[places]; \
+	static uint64_t name##_windows[2 * (blocks)]; \
+	static uint8_t name##_contents[(size_t)(blocks) * (bytes)]; \
+	static struct negvask_card name = { \
+		{ 0 }, \
+		name##_flags, (blocks), \
+		name##_keys, 4 * (blocks), \
+		name##_counts, (blocks), \
+		name##_pointers, (places), \
+		name##_windows, 2 * (blocks), \
+		name##_contents, (size_t)(blocks) * (bytes) \
+	}
+
+/** The parts of a card that are stored: the record and the tables. */
+#define NEGVASK_PARTS            7
+
+/** A part of a card: its bytes in memory and how many they are. */
+struct negvask_part {
+	void *bytes;
+	size_t len;
+};
+
+/** Part `i` of a card, from 0 to NEGVASK_PARTS - 1. */
+static inline struct negvask_part negvask_part_of(struct negvask_card *card,
+	int i)
+{
+	const struct negvask_part parts[NEGVASK_PARTS] = {
+		{ card->info, sizeof card->info },
+		{ card->flags, card->flags_len * sizeof *card->flags },
+		{ card->keys, card->keys_len * sizeof *card->keys },
+		{ card->counts, card->counts_len * sizeof *card->counts },
+		{ card->pointers, card->pointers_len * sizeof *card->pointers },
+		{ card->windows, card->windows_len * sizeof *card->windows },
+		{ card->contents, card->contents_len * sizeof *card->contents }
+	};
+
+	return parts[i];
+}
+
+/* Credentials and new keys. */
+
 /* A credential, as parameters: bytes and how many. */
 #define NEGVASK_CREDENTIAL \
 	const uint8_t *credential, size_t credential_len
 
-/** A credential, as a caller keeps it. */
-typedef struct {
+/** A credential, as a caller keeps it: its bytes and how many. */
+struct negvask_credential {
 	uint8_t bytes[NEGVASK_CREDENTIAL_LEN];
-} negvask_credential;
+	size_t len;
+};
 
 /** A key to be set, or none, as a caller keeps it. */
-typedef struct {
+struct negvask_new_key {
 	uint8_t bytes[NEGVASK_CREDENTIAL_LEN];
-} negvask_new_key;
+	size_t len;
+};
 
 /** The two arguments for a credential or a new key in a variable. */
-#define NEGVASK_BYTES(x)  (x).bytes, sizeof (x).bytes
+#define NEGVASK_BYTES(x)  (x).bytes, (x).len
 
-/* A first byte and a key's 16 bytes. */
-static inline void negvask_put_key(uint8_t *to, uint8_t first,
+/* Puts a first byte and a key's 16 bytes: how many bytes these are. */
+static inline size_t negvask_put_key(uint8_t *to, uint8_t first,
 	uint64_t high, uint64_t low)
 {
 	int i;
@@ -251,52 +407,57 @@ static inline void negvask_put_key(uint8_t *to, uint8_t first,
 		to[1 + i] = (uint8_t)(high >> (56 - 8 * i));
 		to[9 + i] = (uint8_t)(low >> (56 - 8 * i));
 	}
+	return NEGVASK_CREDENTIAL_LEN;
 }
 
 /** The credential that is nothing. */
-static inline negvask_credential negvask_by_nothing(void)
+static inline struct negvask_credential negvask_by_nothing(void)
 {
-	negvask_credential made;
+	struct negvask_credential made;
 
-	negvask_put_key(made.bytes, 0, 0, 0);
+	made.len = negvask_put_key(made.bytes, 0, 0, 0);
 	return made;
 }
 
 /** The credential that is a reference block. */
-static inline negvask_credential negvask_by_reference(uint16_t block)
+static inline struct negvask_credential negvask_by_reference(uint16_t block)
 {
-	negvask_credential made;
+	struct negvask_credential made;
 
-	negvask_put_key(made.bytes, 1, (uint64_t)block << 48, 0);
+	made.len = negvask_put_key(made.bytes, 1, (uint64_t)block << 48, 0);
 	return made;
 }
 
 /** The credential that is a key, by its high and low word. */
-static inline negvask_credential negvask_by_key(uint64_t high, uint64_t low)
+static inline struct negvask_credential negvask_by_key(uint64_t high,
+	uint64_t low)
 {
-	negvask_credential made;
+	struct negvask_credential made;
 
-	negvask_put_key(made.bytes, 2, high, low);
+	made.len = negvask_put_key(made.bytes, 2, high, low);
 	return made;
 }
 
 /** A new key, by its high and low word. */
-static inline negvask_new_key negvask_set_key(uint64_t high, uint64_t low)
+static inline struct negvask_new_key negvask_set_key(uint64_t high,
+	uint64_t low)
 {
-	negvask_new_key made;
+	struct negvask_new_key made;
 
-	negvask_put_key(made.bytes, 1, high, low);
+	made.len = negvask_put_key(made.bytes, 1, high, low);
 	return made;
 }
 
 /** No new key: the block is to have none. */
-static inline negvask_new_key negvask_set_no_key(void)
+static inline struct negvask_new_key negvask_set_no_key(void)
 {
-	negvask_new_key made;
+	struct negvask_new_key made;
 
-	negvask_put_key(made.bytes, 0, 0, 0);
+	made.len = negvask_put_key(made.bytes, 0, 0, 0);
 	return made;
 }
+
+/* Functions. */
 
 /**
  * \brief Format a card: the maker's call, never a host's.
@@ -313,7 +474,7 @@ static inline negvask_new_key negvask_set_no_key(void)
  *
  * Refusals:
  *   1   the record has not five numbers; `blocks`, `roots` or `bytes` is
- *       out of its range; a table's length does not fit
+ *       out of its range, or P is; a table's length does not fit
  *
  * \param blocks  N, 16 to 4,096.
  * \param roots   R, 1 to 8.
@@ -324,12 +485,12 @@ uint32_t negvask_format(NEGVASK_TABLES,
 	uint64_t blocks, uint64_t roots, uint64_t bytes);
 
 /**
- * \brief Check record and tables whole.
+ * \brief Audit record and tables whole.
  *
- * Takes time linear in N and P. Every other function but
- * negvask_format() makes the same check before it performs a call, so
- * that a caller need not make it first. Unmodified: everything. Contents
- * are not looked at, only their length.
+ * Takes time linear in N and P. Contents are not looked at, only their
+ * length. Every other function but negvask_format() makes the same audit
+ * before it performs a call, so a caller need not make it first; it does
+ * after loading a stored card. Unmodified: everything.
  *
  * Refusals, in order:
  *   1   out of shape
@@ -584,12 +745,16 @@ uint32_t negvask_force(NEGVASK_TABLES, uint16_t block);
  * \param value  receives the number; unmodified when refused.
  * \return  0 or a refusal.
  */
-uint32_t negvask_free(NEGVASK_TABLES, uint64_t *value);
+uint32_t negvask_count_free(NEGVASK_TABLES, uint64_t *value);
 
 /**
  * \brief Let time pass.
  *
- * T grows by `seconds`. Unmodified: all tables, and the record but for T.
+ * T grows by `seconds`; 0 only tells it. The firmware calls this as time
+ * passes, and any host may send TICK too: T counts seconds that a host can
+ * let pass and nobody can take back. At the end, where every further
+ * second is refused 12, no window ends by itself. Unmodified: all tables,
+ * and the record but for T.
  *
  * Refusals, in order:
  *   1   out of shape
@@ -628,9 +793,8 @@ uint32_t negvask_tick(NEGVASK_TABLES, uint64_t seconds, uint64_t *value);
  *
  * These are a host's calls at either port, and judged as a host's. At
  * NEGVASK_SERVICE there are also kinds 129 to 134, which are 1 to 6 as
- * calls at the service port; at NEGVASK_HOST these do not exist. A
- * credential is 0 and 16 zeros; 1, the block's number in 2 bytes and 14
- * zeros; or 2 and the key. A new key is 0 and 16 zeros, or 1 and the key.
+ * calls at the service port; at NEGVASK_HOST these do not exist.
+ * Credentials and new keys are described at the top of this file.
  *
  * The record's call is performed as by its function above, with `out`
  * lent to READ, `places` to ALLOC and `value` to DELETE, FREE and TICK.
@@ -665,7 +829,7 @@ uint32_t negvask_serve(NEGVASK_TABLES,
 	uint64_t *value);
 
 /**
- * \brief Perform many call records that arrived at a port, with one check
+ * \brief Perform many call records that arrived at a port, with one audit
  * of the card.
  *
  * Bytes that come from a host go here with NEGVASK_HOST, as they came, or
@@ -686,8 +850,10 @@ uint32_t negvask_serve(NEGVASK_TABLES,
  *
  * So a malformed record is 13 even where there is no room for an answer.
  * Where a batch stops with 13, 256 or 257 it has performed the records
- * before, and nothing of that record is done. After 257 a caller goes on
- * from `input + *read` with more room.
+ * before, and nothing of that record is done. The caller goes on from
+ * `input + *read`: after 256 with the bytes that follow, after 257 with
+ * `answers` emptied. After 13 the session is over, since nothing tells
+ * where the next record would start.
  *
  * Else the record is performed as by negvask_serve(), on the card that
  * the one before left, with B bytes lent to READ and 64 places to ALLOC.
@@ -701,15 +867,15 @@ uint32_t negvask_serve(NEGVASK_TABLES,
  *
  * Numbers are big-endian.
  *
- * The card is checked once and not before every record: what is answered
- * and what is left are the same. So a batch on a large card is many
- * times faster than its records one by one.
+ * The card is audited once and not before every record: what is answered
+ * and what is left are the same. So a batch of many records on a large
+ * card takes far less time than these one by one; README.md has figures.
  *
  * On a card that is out of shape or unsound, its `info` of five numbers,
  * the answer to each record is 1 or 2, and the batch goes on: it returns
  * 0 at the end of the input. B is then what `info` has, whatever that is;
  * if it is above 65,536, READ is lent nothing and asks for 1 byte of
- * room.
+ * room. So 257 may come with `*read` 0, however often a caller tries.
  *
  * Unmodified: what negvask_serve() leaves unmodified, `input`, and the
  * bytes of `answers` from `*written` on. If `port` is neither 0 nor 1, or

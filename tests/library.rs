@@ -41,7 +41,7 @@ library! {
                 read: *const u8, read_len: usize, write: *const u8, write_len: usize);
     negvask_renew(mode: u8, block: u16, key: *const u8, key_len: usize, interval: u32);
     negvask_force(block: u16);
-    negvask_free(value: *mut u64);
+    negvask_count_free(value: *mut u64);
     negvask_tick(seconds: u64, value: *mut u64);
     negvask_serve(port: u8, kind: u8, body: *const u8, body_len: usize, out: *mut u8, out_len: usize,
                   places: *mut u16, places_len: usize, value: *mut u64);
@@ -343,7 +343,7 @@ impl Tables {
                 with_tables!(negvask_renew, self, *mode, *block, key.as_ptr(), key.len(), *interval)
             }
             Direct::Force { block } => with_tables!(negvask_force, self, *block),
-            Direct::Free => with_tables!(negvask_free, self, lent.value.pointer()),
+            Direct::Free => with_tables!(negvask_count_free, self, lent.value.pointer()),
             Direct::Tick { seconds } => with_tables!(negvask_tick, self, *seconds, lent.value.pointer()),
             Direct::Audit => with_tables!(negvask_audit, self),
         }

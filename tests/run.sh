@@ -52,7 +52,7 @@ else
 	failed=1
 fi
 
-for example in host batch; do
+for example in host batch firmware; do
 	if ${CC:-cc} -std=c99 -Wall -Wextra -pedantic -Werror -O2 -I include "examples/$example.c" "$work/libnegvask.a" -o "$work/$example" &&
 		"$work/$example" > "$work/$example.out" && diff "examples/$example.expected" "$work/$example.out"; then
 		echo "example $example: passed"
@@ -61,4 +61,23 @@ for example in host batch; do
 		failed=1
 	fi
 done
+
+# The header serves C++ too.
+if ! command -v "${CXX:-c++}" > /dev/null; then
+	echo "examples as C++: skipped, there is no ${CXX:-c++}"
+elif "${CXX:-c++}" -x c++ -std=c++11 -Wall -Wextra -pedantic -Werror -fsyntax-only -I include examples/*.c; then
+	echo "examples as C++: passed"
+else
+	echo "examples as C++: FAILED"
+	failed=1
+fi
+
+# Every line of C that docs/FIRMWARE.md shows is a line of an example.
+shown=$(sed -n '/^```c$/,/^```$/p' docs/FIRMWARE.md | grep -v '^```')
+if [ -n "$shown" ] && ! grep -vxFf <(cat examples/*.c) <<< "$shown"; then
+	echo "C of docs/FIRMWARE.md: passed"
+else
+	echo "C of docs/FIRMWARE.md: FAILED"
+	failed=1
+fi
 exit $failed

@@ -335,7 +335,7 @@ pub extern "C" fn negvask_tick(
 
 // FREE: `value` the number of unallocated blocks.
 #[no_mangle]
-pub extern "C" fn negvask_free(
+pub extern "C" fn negvask_count_free(
     info: &mut [u64],
     flags: &mut [u8],
     keys: &mut [u64],

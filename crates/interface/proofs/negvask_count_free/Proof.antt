@@ -1,7 +1,7 @@
--- `interface::negvask_free` meets its contract. Assumes nothing.
+-- `interface::negvask_count_free` meets its contract. Assumes nothing.
 use borrow.Author.Needs.{needs}
-use Rattle.interface.proofs.negvask_free.Statement.{statement}
-use Rattle.interface.proofs.negvask_free.Tie as tie
+use Rattle.interface.proofs.negvask_count_free.Statement.{statement}
+use Rattle.interface.proofs.negvask_count_free.Tie as tie
 
 -- ---- places of the code
 
@@ -40,8 +40,8 @@ same-length-7 c = at-perform c .perform-without-buffers .kept .1 .1 .1 .1 .1 .1 
 returns : tie.Need-returns
 returns c = at-perform c .perform-without-buffers .ensures
 
-pub negvask-free-spec : {M : Type 1} → statement M
-negvask-free-spec =
+pub negvask-count-free-spec : {M : Type 1} → statement M
+negvask-count-free-spec =
     tie.close
     (tie.spec
     slice-aggregate-perform-without-buffers
