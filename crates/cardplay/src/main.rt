@@ -229,7 +229,8 @@ fn play_all(
     progress
 }
 
-// Formats a card of N 16, R 1 and B 512 on the lent tables, and plays standard input on it. The record is FORMAT's to make.
+// Formats a card of N 16, R 1 and B 512 on the lent tables, and plays standard input on it.
+// The tables have to be blank and of the card's lengths; what record they had before FORMAT does not matter.
 fn play_fresh(
     flags: &mut [u8],
     keys: &mut [u64],

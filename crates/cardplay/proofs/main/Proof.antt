@@ -22,6 +22,7 @@ slice-aggregate-play-fresh-5 c = search needs
 slice-aggregate-play-fresh-6 : tie.Need-slice-aggregate-play-fresh-6
 slice-aggregate-play-fresh-6 c = search needs
 
+-- The tables, as they are made, compute to those of `blankCard`.
 play-fresh-requires : tie.Need-play-fresh-requires
 play-fresh-requires c κs = refl
 
