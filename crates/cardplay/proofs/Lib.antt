@@ -5,3 +5,4 @@ pub mod DecodeLonger
 pub mod PlayLonger
 pub mod PiecesLaws
 pub mod PiecesLoop
+pub mod FreshLaws

@@ -6,8 +6,9 @@ ghost use Prim.Native.Nat.{_-_, _≤_, _<_};
 ghost use mathlib.Core.Bool.{true};
 ghost use mathlib.Core.Path.{_≡_};
 ghost use lib.ListN.{length, take, drop};
-ghost use Rattle.card.specs.Lent.{atEntry};
-ghost use Rattle.card.specs.Calls.{format};
+ghost use Rattle.card.specs.Lent.{lent, atEntry};
+ghost use Rattle.card.specs.Calls.{freshInfo};
+ghost use Rattle.card.specs.Trials.{blankCard, playerCard};
 ghost use Rattle.lines.specs.Lines.{lineRoom, lastLine};
 ghost use Rattle.lines.specs.Written.{Written};
 ghost use Rattle.input.specs.Play.{endNumber};
@@ -229,8 +230,8 @@ fn play_all(
 }
 
 // Formats a card of N 16, R 1 and B 512 on the lent tables, and plays standard input on it.
+// The tables have to be blank and of the card's lengths; what record they had before FORMAT does not matter.
 fn play_fresh(
-    info: Info,
     flags: &mut [u8],
     keys: &mut [u64],
     counts: &mut [u16],
@@ -238,10 +239,11 @@ fn play_fresh(
     windows: &mut [u64],
     contents: &mut [u8],
 ) -> Progress
-    ensures { λ r. ⌜ PlaysInPieces (format 16 1 512 (atEntry info flags keys counts pointers windows contents) .after) flags keys counts pointers windows contents r ⌝ }
+    requires { ⌜ lent (freshInfo 16 1 512) flags keys counts pointers windows contents ≡ blankCard ⌝ }
+    ensures { λ r. ⌜ PlaysInPieces playerCard flags keys counts pointers windows contents r ⌝ }
 {
     let formatted = format::format(
-        info,
+        tables::fresh(0, 0, 0),
         16,
         1,
         512,
@@ -294,9 +296,7 @@ fn main() {
     let mut pointers = [0u32; 32];
     let mut windows = [0u64; 32];
     let mut contents = [0u8; 8192];
-    let unset = tables::fresh(0, 0, 0);
     let end = play_fresh(
-        unset,
         &mut flags,
         &mut keys,
         &mut counts,

@@ -1,5 +1,6 @@
 -- `cardplay::play_fresh` meets its contract. Assumes nothing.
 use borrow.Author.Needs.{needs}
+use Rattle.cardplay.proofs.FreshLaws.{fresh-left}
 use Rattle.cardplay.proofs.PiecesLaws.{pieces-from}
 use Rattle.cardplay.proofs.play_fresh.Statement.{statement}
 use Rattle.cardplay.proofs.play_fresh.Tie as tie
@@ -8,6 +9,12 @@ use Rattle.cardplay.proofs.play_fresh.Tie as tie
 
 abbrev format-from-slice-known10 : tie.After-slice-known10 → tie.After-format
 format-from-slice-known10 c = search
+
+abbrev start-from-format : tie.After-format → tie.Start
+start-from-format c = search
+
+fresh-requires : tie.Need-fresh-requires
+fresh-requires c κs = search needs
 
 format-requires : tie.Need-format-requires
 format-requires c κs = search needs
@@ -38,12 +45,14 @@ returns c =
     let at-play-all : tie.After-play-all = search in
     let at-slice-known10 : tie.After-slice-known10 = search in
     let at-format = format-from-slice-known10 at-slice-known10 in
-    pieces-from (at-format .format .ensures .leaves) (at-play-all .play-all .ensures)
+    let start = start-from-format at-format in
+    pieces-from (fresh-left _ (start .pre) (at-format .format .ensures .leaves)) (at-play-all .play-all .ensures)
 
 pub play-fresh-spec : {M : Type 1} → statement M
 play-fresh-spec =
     tie.close
     (tie.spec
+    fresh-requires
     format-requires
     play-all-requires
     same-length
