@@ -213,12 +213,13 @@ def body_length(kind: int) -> Optional[int]:
 # ---- texts
 
 class Statement(NamedTuple):
-    """A line of a session text: its words, its bytes, and the answer it expects, if it says one."""
+    """A line of a session text: its words, its bytes, the answer it expects, if it says one, and the comments above it."""
 
     line: int
     text: str
     data: bytes
     expected: Optional[list[int]]
+    notes: tuple[str, ...] = ()
 
 
 def read_call(words: Words) -> bytes:
@@ -269,7 +270,8 @@ def read_line(number: int, line: bytes) -> Optional[Statement]:
 
 def read_text(name: str, text: bytes) -> list[Statement]:
     """The statements of a session text; a TextError says where and what was expected."""
-    statements = []
+    statements: list[Statement] = []
+    notes: list[str] = []
     for number, line in enumerate(text.split(b"\n"), 1):
         try:
             statement = read_line(number, line)
@@ -277,7 +279,10 @@ def read_text(name: str, text: bytes) -> list[Statement]:
             error.place = f"{name}:{number}"
             raise
         if statement:
-            statements.append(statement)
+            statements.append(statement._replace(notes=tuple(notes)))
+            notes = []
+        elif line.strip():
+            notes.append(line.decode().strip())
     return statements
 
 
