@@ -1,5 +1,4 @@
 -- Tests of a block that several calls share, on the card and on the lists that they look at; what a block that is there has.
--- Assumes nothing.
 use Prim.Native.Nat.{ℕ, _+_, _*_, _<_, _≤_}
 use mathlib.Core.Path.{_≡_, refl, sym, ap, _∙_}
 use mathlib.Core.Bool.{Bool, true, false, not}

@@ -1,5 +1,4 @@
 -- From the whole card to the one with empty counts and contents: it is accessible, and it opens alike.
--- Assumes nothing.
 use Prim.Native.Nat.{ℕ, _<_}
 use mathlib.Core.Path.{_≡_, refl}
 use Rattle.card.specs.Card.{Card, allocated, hasKey, windowOpen, pointsTo}

@@ -1,5 +1,4 @@
 -- The walk with the pointers to the blocks taken beside the table, and their merge into it, over plain values.
--- Assumes nothing.
 use Prim.Native.Nat.{ℕ, _+_, _≤_, _<_}
 use mathlib.Core.Path.{_≡_, refl, sym, ap, _∙_, subst}
 use mathlib.Core.Bool.{Bool, true, false, not}

@@ -1,5 +1,5 @@
 -- The tests of one pointer and of one block, in the form in which the code computes them.
--- The code joins tests to the left, `every` to the right and with `true` at the end. Assumes nothing.
+-- The code joins tests to the left, `every` to the right and with `true` at the end.
 use Prim.Native.Nat.{ℕ, _+_, _*_, _≤_, _<_}
 use mathlib.Core.Path.{_≡_, refl}
 use mathlib.Core.Bool.{Bool, true, false, _&&_, _||_, not, and-assoc, and-true}

@@ -1,5 +1,4 @@
 -- Walks that leave at the first fault: what holds on the way, at a fault and at the end.
--- Assumes nothing.
 use Prim.Native.Nat.{ℕ, _+_, _≤_, _<_, zero-le}
 use mathlib.Core.Path.{_≡_, _∙_}
 use mathlib.Core.Bool.{Bool, true, false}

@@ -1,5 +1,4 @@
 -- One call of a batch: the verdict that it leaves, how long its answer is, and what READ's buffer held before.
--- Assumes nothing.
 use Prim.Native.Nat.{ℕ, _+_, _-_, _≤_}
 use mathlib.Core.Path.{_≡_, refl, sym, ap, ap₂, _∙_, subst}
 use mathlib.Core.Logic.{_⊎_, inl, inr, ⊎-elim}

@@ -1,5 +1,4 @@
 -- One turn of a batch: what it leaves, by what was found in the input.
--- Assumes nothing.
 use Prim.Native.Nat.{ℕ, _-_, _≤_, _<_}
 use mathlib.Core.Path.{_≡_, refl, subst}
 use mathlib.Core.Bool.{Bool, true, false, cond, true≢false}

@@ -1,5 +1,4 @@
 -- A call leaves the lent buffers that it has no use for: what is right without them is right with them.
--- Assumes nothing.
 use Prim.Native.Nat.{ℕ}
 use mathlib.Core.Path.{_≡_, refl, _∙_}
 use mathlib.Core.List.{List, []}

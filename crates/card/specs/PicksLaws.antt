@@ -1,5 +1,4 @@
 -- ALLOC's picks: unallocated blocks below N, all different, and as many as asked for where enough are free.
--- Assumes nothing.
 use Prim.Native.Nat.{ℕ, zero, suc, _≤_, _<_}
 use mathlib.Core.Path.{_≡_, refl, ap, subst}
 use mathlib.Core.Logic.{⊎-elim}

@@ -1,5 +1,4 @@
 -- Laws of a call performed, by what the audit finds, and of a list of calls.
--- Assumes nothing.
 use Prim.Native.Nat.{ℕ, suc}
 use mathlib.Core.Path.{_≡_, refl, ap, _∙_}
 use mathlib.Core.List.{List, [], _∷_, _++_}

@@ -1,5 +1,4 @@
 -- The two ways between the tests of shape and soundness and the statements of SoundCard.
--- Assumes nothing.
 use Prim.Native.Nat.{ℕ, _+_, _*_, _%_, _≤_, _<_}
 use mathlib.Core.Path.{_≡_, refl, ap}
 use mathlib.Core.Bool.{Bool, true, false, _||_, not, cond}

@@ -1,5 +1,4 @@
 -- FORMAT on the program's tables, whatever the record was: done, and document 01's fresh player card is left.
--- Assumes nothing.
 use mathlib.Core.Path.{_≡_, refl, ap, _∙_}
 use mathlib.Core.List.{[]}
 use Rattle.card.specs.Card.{Card, card}

@@ -1,5 +1,4 @@
 -- Laws of an input played in pieces: each piece that is read or played takes it on, and in the end it is the play of the whole input.
--- Assumes nothing.
 use Prim.Native.Nat.{ℕ, _+_, _-_, _≤_}
 use mathlib.Core.Path.{_≡_, sym, ap, _∙_, subst}
 use mathlib.Core.Bool.{Bool, true, false}

@@ -1,5 +1,4 @@
 -- What the arms of the functions for credentials and new keys cite: the bytes from a place of a list.
--- Assumes nothing.
 use Prim.Native.Nat.{ℕ, _+_}
 use mathlib.Core.Path.{_≡_}
 use mathlib.Core.Bool.{Bool, true, false}

@@ -1,5 +1,4 @@
 -- The invariant of the walk over filler at a place: every byte passed is 0.
--- Assumes nothing.
 use Prim.Native.Nat.{ℕ, _+_, _≤_, _<_}
 use mathlib.Core.Path.{_≡_, refl, sym, _∙_}
 use mathlib.Core.Bool.{true, false}

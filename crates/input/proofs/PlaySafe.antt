@@ -1,5 +1,4 @@
 -- What a player makes of any bytes, on any card: the calls that the bytes hold, each by the rules on the card that the one before left.
--- Assumes nothing.
 use Prim.Native.Nat.{ℕ, suc, _+_, _<_}
 use mathlib.Core.Path.{_≡_, refl}
 use mathlib.Core.Bool.{Bool, true, false}

@@ -1,5 +1,4 @@
 -- Lent tables that keep their lengths: a part of the invariant of each loop over the records of an input.
--- Assumes nothing.
 use Prim.Native.Nat.{ℕ}
 use mathlib.Core.Path.{_≡_, refl}
 use mathlib.Core.List.{List}

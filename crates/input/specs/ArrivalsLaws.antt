@@ -1,5 +1,4 @@
 -- Laws of the records that bytes hold: record by record, and that those of the host port are calls of a host.
--- Assumes nothing.
 use Prim.Native.Nat.{ℕ, zero, suc, _<_}
 use mathlib.Core.Path.{_≡_, refl, ap, ap₂, _∙_}
 use mathlib.Core.List.{List, _∷_, map}

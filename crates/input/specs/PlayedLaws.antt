@@ -1,5 +1,4 @@
 -- Laws of what a play has come to: a turn by what was found in the input, and whether it went.
--- Assumes nothing.
 use Prim.Native.Nat.{ℕ, _≤_}
 use mathlib.Core.Path.{_≡_, refl, sym, ap, _∙_, subst}
 use mathlib.Core.Bool.{true, false, true≢false, false≢true}

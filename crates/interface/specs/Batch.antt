@@ -1,5 +1,4 @@
 -- What the function that serves a batch of call records leaves.
--- Assumes nothing.
 use Prim.Native.Nat.{ℕ}
 use mathlib.Core.Path.{_≡_, refl, subst}
 use mathlib.Core.List.{List}

@@ -1,5 +1,4 @@
 -- The cards that KEY, RENEW and FORCE leave.
--- Assumes nothing.
 use Prim.Native.Nat.{ℕ, _+_, _*_}
 use mathlib.Core.Path.{_≡_}
 use mathlib.Core.List.{List, [], _∷_}

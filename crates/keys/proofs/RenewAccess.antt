@@ -1,5 +1,4 @@
 -- RENEW's access test: a key opens no block without a key for the mode, so that the one test answers both of its clauses.
--- Assumes nothing.
 use Prim.Native.Nat.{ℕ}
 use mathlib.Core.Path.{_≡_, refl, sym, ap, _∙_}
 use mathlib.Core.Bool.{Bool, true, false, not, _||_, cond}

@@ -1,5 +1,4 @@
 -- Laws of the table of kinds: what the arms of a match on it cite.
--- Assumes nothing.
 use Prim.Native.Nat.{ℕ, _≤_, _<_}
 use mathlib.Core.Path.{_≡_, sym, ap, _∙_}
 use mathlib.Core.List.{List, [], _∷_}

@@ -1,5 +1,4 @@
 -- The length of the body, or none, for all 256 kinds at each port, as document 01 gives it: one table, one proof that is computed.
--- Assumes nothing.
 use mathlib.Core.Path.{_≡_, refl}
 use mathlib.Core.Bool.{true}
 use mathlib.Core.List.{List, [], _∷_, _++_, map}

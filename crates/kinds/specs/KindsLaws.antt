@@ -1,5 +1,4 @@
 -- Laws of the kinds: those of the host port are a host's, and a body is its operands and then its data.
--- Assumes nothing.
 use Prim.Native.Nat.{ℕ, _-_, _≤_}
 use mathlib.Core.Path.{_≡_}
 use mathlib.Core.Bool.{Bool, true, false, cond}

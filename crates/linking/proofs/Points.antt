@@ -1,5 +1,4 @@
 -- What the test for a pointer answers on the tables lent to it, and what two tests answer together.
--- Assumes nothing.
 use Prim.Native.Nat.{ℕ}
 use mathlib.Core.Path.{_≡_, sym, ap, _∙_}
 use mathlib.Core.Bool.{Bool, not, _||_}

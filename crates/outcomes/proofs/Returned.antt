@@ -1,5 +1,4 @@
 -- What a call on an audited card returns, by its plan.
--- Assumes nothing.
 use Prim.Native.Nat.{ℕ}
 use mathlib.Core.Path.{_≡_}
 use mathlib.Core.List.{List}

@@ -1,5 +1,4 @@
 -- One call played, and one turn of a player: the card that it leaves and the line that it writes.
--- Assumes nothing.
 use Prim.Native.Nat.{ℕ, _-_, _≤_}
 use mathlib.Core.Path.{_≡_, subst}
 use mathlib.Core.List.{List}

@@ -1,5 +1,4 @@
 -- What the decoder has found of a kind and its body, as it returns it.
--- Assumes nothing.
 use Prim.Native.Nat.{ℕ, _≤_}
 use mathlib.Core.Path.{_≡_, sym, ap, _∙_}
 use mathlib.Core.List.{List}

@@ -1,5 +1,4 @@
 -- Laws of decoding: from the values of a body's parts to what it decodes to.
--- Assumes nothing.
 use Prim.Native.Nat.{ℕ, _≤_, _<_}
 use mathlib.Core.Path.{_≡_, refl, sym, ap, _∙_, subst}
 use mathlib.Core.Logic.{⊎-elim}

@@ -1,5 +1,4 @@
 -- Decoding an encoded call, whatever follows it, gives the call, its port, its data and what follows.
--- Assumes nothing.
 use Prim.Native.Nat.{ℕ, _+_, _≤_}
 use mathlib.Core.Path.{_≡_, refl, sym, ap, _∙_}
 use mathlib.Core.Bool.{Bool, true, false, cond, false≢true}

@@ -1,5 +1,4 @@
 -- Records in bytes, and what the rules decode them to: rows of one table, shown by one proof that is computed.
--- Assumes nothing.
 use Prim.Native.Nat.{ℕ}
 use mathlib.Core.Path.{_≡_, refl}
 use mathlib.Core.List.{List, [], _∷_, _++_, map}

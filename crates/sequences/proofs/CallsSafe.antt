@@ -1,6 +1,5 @@
 -- Any sequence of C functions, at either port and on any record and tables: what is returned and left is what the calls return and leave by the rules, each on
 -- the card that the one before left.
--- Assumes nothing.
 use Prim.Native.Nat.{ℕ, _-_, _≤_}
 use mathlib.Core.Path.{_≡_, refl, sym, ap, ap₂, _∙_}
 use mathlib.Core.Bool.{Bool, true, false, cond}

@@ -1,5 +1,4 @@
 -- Demand 3 of any sequence of C functions at the host port: calls by their operands, records one by one, and batches.
--- Assumes nothing.
 use Prim.Native.Nat.{ℕ, _-_}
 use mathlib.Core.Path.{_≡_, refl, sym, ap, ap₂, _∙_, subst}
 use mathlib.Core.Bool.{Bool, true, false, cond, false≢true}

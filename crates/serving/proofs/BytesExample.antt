@@ -1,6 +1,5 @@
 -- The theorem on bytes at the host port is not empty: the two cards of the example of sessions, which differ in hidden blocks, and bytes that hold
 -- done calls, refused ones, and a DELETE that frees one of these blocks.
--- Assumes nothing.
 use Prim.Native.Nat.{ℕ, _<_}
 use mathlib.Core.Path.{_≡_, refl, sym, ap₂, _∙_}
 use mathlib.Core.Logic.{inl, inr, ⊎-elim}

@@ -1,5 +1,4 @@
 -- Demand 3 from the bytes: what a host is answered to any bytes, and what they leave, depends on no hidden block and on no unallocated one.
--- Assumes nothing.
 use Prim.Native.Nat.{ℕ, zero, suc, _+_, _-_}
 use mathlib.Core.Path.{_≡_, refl, sym, ap, ap₂, _∙_, subst}
 use mathlib.Core.Bool.{Bool, true, false, cond, true≢false}

@@ -1,5 +1,4 @@
 -- Batches, and what the rule makes of them: rows of one table, shown by one proof that is computed.
--- Assumes nothing.
 use Prim.Native.Nat.{ℕ}
 use mathlib.Core.Path.{_≡_, refl}
 use mathlib.Core.List.{List, [], _∷_, _++_, map}

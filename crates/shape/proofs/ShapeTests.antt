@@ -1,5 +1,5 @@
 -- The tests of shape in the form in which the code computes them.
--- The code joins tests to the left, `every` to the right and with `true` at the end. Assumes nothing.
+-- The code joins tests to the left, `every` to the right and with `true` at the end.
 use Prim.Native.Nat.{ℕ, _*_, _%_, _≤_, _<_}
 use mathlib.Core.Path.{_≡_, refl, sym}
 use mathlib.Core.Bool.{false, _&&_, and-assoc, and-true}

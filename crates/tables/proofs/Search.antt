@@ -1,5 +1,4 @@
 -- The binary search for a rank, whose two ends close in on it, and the look at the element that stands there.
--- Assumes nothing.
 use Prim.Native.Nat.{ℕ, _+_, _-_, _≤_, _<_}
 use mathlib.Core.Path.{_≡_, sym, _∙_, subst}
 use mathlib.Core.Bool.{Bool, false, _&&_}

@@ -1,5 +1,4 @@
 -- Laws of the unallocated blocks of a table of flags.
--- Assumes nothing.
 use Prim.Native.Nat.{ℕ, _+_}
 use mathlib.Core.Path.{_≡_, refl, _∙_}
 use mathlib.Core.Bool.{true, false, not, cond}

@@ -1,5 +1,4 @@
 -- From a sound card to what the functions on its pointers ask, and to the bound of its counts.
--- Assumes nothing.
 use Prim.Native.Nat.{ℕ, suc, _+_, _≤_, _<_}
 use mathlib.Core.Path.{_≡_}
 use mathlib.Core.Bool.{Bool, true, false, cond}

@@ -1,5 +1,4 @@
 -- Laws of the rank in an ascending list: what stands before it and from it on, and what search, insertion and removal are by it.
--- Assumes nothing.
 use Prim.Native.Nat.{ℕ, zero, suc, _+_, _*_, _≤_, _<_, compare·suc-suc}
 use mathlib.Core.Path.{_≡_, refl, sym, ap, _∙_, subst}
 use mathlib.Core.Logic.{_⊎_, ⊎-elim}

@@ -1,5 +1,4 @@
 -- `access::admits` meets its contract, one way out for each port.
--- Assumes nothing.
 use borrow.Author.Needs.{needs}
 use Rattle.access.proofs.Answers.{host-admits, service-admits}
 use Rattle.access.proofs.admits.Statement.{statement}

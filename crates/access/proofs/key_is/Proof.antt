@@ -1,5 +1,4 @@
 -- `access::key_is` meets its contract: the two words compared are those of the mode.
--- Assumes nothing.
 use native.Mathlib.Omega.{arith}
 use borrow.Author.Needs.{needs}
 use Rattle.access.proofs.Answers.{key-reading, key-writing}

@@ -1,5 +1,4 @@
 -- `access::key_opens` meets its contract: for reading either key opens, for writing the write key.
--- Assumes nothing.
 use native.Mathlib.Omega.{arith}
 use borrow.Author.Needs.{needs}
 use Rattle.access.proofs.Answers.{opens-reading, opens-writing}

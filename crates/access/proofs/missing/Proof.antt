@@ -1,5 +1,4 @@
 -- `access::missing` is the test of the definition.
--- Assumes nothing.
 use Rattle.access.proofs.Blocks.{missing-above, missing-below}
 use borrow.Author.Needs.{needs}
 use Rattle.access.proofs.missing.Statement.{statement}

@@ -1,5 +1,4 @@
 -- `access::opens` meets its contract, one way out for each credential and paragraph.
--- Assumes nothing.
 use mathlib.Core.Path.{refl}
 use native.Mathlib.Omega.{arith}
 use borrow.Author.Needs.{needs}

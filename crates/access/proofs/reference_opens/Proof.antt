@@ -1,5 +1,4 @@
 -- `access::reference_opens` meets its contract: no where the reference is outside or not allocated, else by its pointer and its window.
--- Assumes nothing.
 use mathlib.Core.List.{[]}
 use native.Mathlib.Omega.{arith}
 use Rattle.card.specs.Card.{card}

@@ -1,5 +1,4 @@
 -- `access::root_at_host` is the test of the definition.
--- Assumes nothing.
 use Rattle.access.proofs.Blocks.{root-host, root-service}
 use borrow.Author.Needs.{needs}
 use Rattle.access.proofs.root_at_host.Statement.{statement}

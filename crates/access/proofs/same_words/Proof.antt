@@ -1,5 +1,4 @@
 -- `access::same_words` meets its contract: the answer is the contract's own test.
--- Assumes nothing.
 use mathlib.Core.Path.{refl}
 use native.Mathlib.Omega.{arith}
 use Rattle.access.proofs.same_words.Statement.{statement}

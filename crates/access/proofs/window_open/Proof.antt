@@ -1,5 +1,4 @@
 -- `access::window_open` meets its contract: the end compared is that of the mode.
--- Assumes nothing.
 use native.Mathlib.Omega.{arith}
 use borrow.Author.Needs.{needs}
 use Rattle.access.proofs.Answers.{window-reading, window-writing}

@@ -1,4 +1,4 @@
--- `adapter::perform` meets its contract. Assumes nothing.
+-- `adapter::perform` meets its contract.
 use Rattle.adapter.specs.EffectsLaws.{effect-bad, effect-record, effect-called}
 use borrow.Author.Needs.{needs}
 use Rattle.adapter.proofs.perform.Statement.{statement}

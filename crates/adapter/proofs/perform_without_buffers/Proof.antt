@@ -1,4 +1,4 @@
--- `adapter::perform_without_buffers` meets its contract. Assumes nothing.
+-- `adapter::perform_without_buffers` meets its contract.
 use borrow.Author.Needs.{needs}
 use Rattle.adapter.specs.EffectsLaws.{no-out, no-places}
 use Rattle.adapter.proofs.perform_without_buffers.Statement.{statement}

@@ -1,4 +1,4 @@
--- `adapter::report` meets its contract. Assumes nothing.
+-- `adapter::report` meets its contract.
 use native.Mathlib.Omega.{arith}
 use Rattle.adapter.specs.EffectsLaws.{refusal-small}
 use borrow.Author.Needs.{needs}

@@ -1,5 +1,4 @@
 -- `allocation::alloc_check` finds what the checks of the rule find, each refusal by the tests before it.
--- Assumes nothing.
 use native.Mathlib.Omega.{arith}
 use Rattle.card.specs.Card.{card}
 use Rattle.checks.specs.CheckedLaws.{check-refused, check-passed}

@@ -1,5 +1,4 @@
 -- `allocation::high_after` is the upper end of the definition.
--- Assumes nothing.
 use Rattle.allocation.proofs.Outward.{high-stays, high-moves}
 use borrow.Author.Needs.{needs}
 use Rattle.allocation.proofs.high_after.Statement.{statement}

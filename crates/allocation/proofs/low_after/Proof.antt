@@ -1,5 +1,4 @@
 -- `allocation::low_after` is the lower end of the definition.
--- Assumes nothing.
 use Rattle.allocation.proofs.Outward.{low-moves, low-stays}
 use Rattle.allocation.proofs.low_after.Statement.{statement}
 use Rattle.allocation.proofs.low_after.Tie as tie

@@ -1,5 +1,4 @@
 -- `allocation::next` gives the nearest block that is not passed.
--- Assumes nothing.
 use mathlib.Core.Logic.{inl, inr}
 use native.Mathlib.Omega.{arith}
 use Rattle.allocation.proofs.Outward.{next-up, next-down, next-nearer}

@@ -1,5 +1,4 @@
 -- `allocation::take` leaves the tables with one block more taken.
--- Assumes nothing.
 use native.Mathlib.Omega.{arith}
 use Rattle.allocation.proofs.Taking.{block-taken}
 use borrow.Author.Needs.{needs}

@@ -1,5 +1,4 @@
 -- `allocation::take_all` takes the picks: the walk so far has taken the first of them. The measure is what is left to pass.
--- Assumes nothing.
 use Prim.Native.Nat.{_+_, _-_}
 use mathlib.Core.Path.{sym}
 use native.Mathlib.Omega.{arith}

@@ -1,5 +1,4 @@
 -- `allocation::wanted` is the wanted block of the definition.
--- Assumes nothing.
 use Rattle.allocation.proofs.Allocating.{wanted-none, wanted-hint}
 use Rattle.allocation.proofs.wanted.Statement.{statement}
 use Rattle.allocation.proofs.wanted.Tie as tie

@@ -1,4 +1,4 @@
--- `audit::audit` is the verdict of the definition. Assumes nothing.
+-- `audit::audit` is the verdict of the definition.
 use borrow.Author.Needs.{needs}
 use Rattle.card.specs.Card.{card}
 use Rattle.audit.proofs.Whole.{shaped-fit, shaped-verdict, fault-shape}

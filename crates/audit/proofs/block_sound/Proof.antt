@@ -1,4 +1,4 @@
--- `audit::block_sound` is the clauses of one block. Assumes nothing.
+-- `audit::block_sound` is the clauses of one block.
 use borrow.Author.Needs.{needs}
 use Rattle.audit.specs.Walks.{rowed}
 use Rattle.audit.proofs.BlockTests.{sound-block}

@@ -1,4 +1,4 @@
--- `audit::is_allocated` is the test of the definition. Assumes nothing.
+-- `audit::is_allocated` is the test of the definition.
 use borrow.Author.Needs.{needs}
 use Rattle.audit.specs.Walks.{pointing}
 use mathlib.Core.List.{[]}

@@ -1,4 +1,4 @@
--- `audit::walk` judges a card of the right shape. Assumes nothing.
+-- `audit::walk` judges a card of the right shape.
 use mathlib.Core.Path.{refl}
 use Rattle.audit.proofs.Whole.{fault-pointers, fault-unused, whole}
 use Rattle.audit.proofs.walk.Statement.{statement}

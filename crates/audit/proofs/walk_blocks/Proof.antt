@@ -1,4 +1,4 @@
--- `audit::walk_blocks` judges the blocks. The invariant: each block below `b` passes. Assumes nothing.
+-- `audit::walk_blocks` judges the blocks. The invariant: each block below `b` passes.
 use borrow.Author.Needs.{needs}
 use native.Mathlib.Omega.{arith}
 use Prim.Native.Nat.{_-_}

@@ -1,4 +1,4 @@
--- `audit::walk_pointers` tests the pointers in use and tallies them. The invariant is that of the walk with its tally. Assumes nothing.
+-- `audit::walk_pointers` tests the pointers in use and tallies them. The invariant is that of the walk with its tally.
 use borrow.Author.Needs.{needs}
 use native.Mathlib.Omega.{arith}
 use Prim.Native.Nat.{_-_}

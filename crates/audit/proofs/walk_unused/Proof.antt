@@ -1,4 +1,4 @@
--- `audit::walk_unused` tests the unused places. The invariant: the places from `i` on pass exactly when all of them do. Assumes nothing.
+-- `audit::walk_unused` tests the unused places. The invariant: the places from `i` on pass exactly when all of them do.
 use borrow.Author.Needs.{needs}
 use Prim.Native.Nat.{_-_}
 use mathlib.Core.Path.{refl}

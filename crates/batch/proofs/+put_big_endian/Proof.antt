@@ -1,5 +1,4 @@
 -- `batch::put_big_endian` writes a number by writing its front, and then its last byte behind it. The measure is the width.
--- Assumes nothing.
 use borrow.Author.Needs.{needs}
 use native.Mathlib.Omega.{arith}
 use Rattle.batch.proofs.AnswerBytesLaws.{big-endian-none, big-endian-room, big-endian-more}

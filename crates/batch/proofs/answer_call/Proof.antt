@@ -1,4 +1,4 @@
--- `batch::answer_call` meets its contract. Assumes nothing.
+-- `batch::answer_call` meets its contract.
 use native.Mathlib.Omega.{arith}
 use Rattle.batch.proofs.Answered.{part-within, answer-room, answered}
 use borrow.Author.Needs.{needs}

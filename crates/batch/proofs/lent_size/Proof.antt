@@ -1,4 +1,4 @@
--- `batch::lent_size` meets its contract. Assumes nothing.
+-- `batch::lent_size` meets its contract.
 use Rattle.serving.specs.Serve.{lentSize}
 use Rattle.batch.proofs.AnswerBytesLaws.{lent-whole, lent-none}
 use borrow.Author.Needs.{needs}

@@ -1,4 +1,4 @@
--- `batch::put_answer_bytes` meets its contract. Assumes nothing.
+-- `batch::put_answer_bytes` meets its contract.
 use Rattle.batch.proofs.AnswerBytesLaws.{answer-bytes-refused, done-room, answer-bytes-done, value-room, answer-bytes-value}
 use borrow.Author.Needs.{needs}
 use Rattle.batch.proofs.put_answer_bytes.Statement.{statement}

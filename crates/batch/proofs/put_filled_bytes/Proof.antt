@@ -1,4 +1,4 @@
--- `batch::put_filled_bytes` meets its contract. Assumes nothing.
+-- `batch::put_filled_bytes` meets its contract.
 use Rattle.lines.specs.Written.{written-none}
 use Rattle.batch.proofs.AnswerBytesLaws.{written-same}
 use borrow.Author.Needs.{needs}

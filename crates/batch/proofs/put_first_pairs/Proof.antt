@@ -1,4 +1,4 @@
--- `batch::put_first_pairs` meets its contract. Assumes nothing.
+-- `batch::put_first_pairs` meets its contract.
 use mathlib.Core.Path.{sym, ap}
 use lib.ListN.{length, take}
 use mathlib.Core.Path.{sym}

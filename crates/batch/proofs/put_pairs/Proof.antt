@@ -1,4 +1,4 @@
--- `batch::put_pairs` meets its contract. Assumes nothing.
+-- `batch::put_pairs` meets its contract.
 use borrow.Author.Needs.{needs}
 use native.Mathlib.Omega.{arith}
 use Prim.Native.Nat.{_-_}

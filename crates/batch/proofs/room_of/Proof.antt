@@ -1,4 +1,4 @@
--- `batch::room_of` meets its contract. Assumes nothing.
+-- `batch::room_of` meets its contract.
 use Prim.Native.Nat.{ℕ}
 use mathlib.Core.List.{List, [], _∷_}
 use mathlib.Core.Path.{_≡_, refl}

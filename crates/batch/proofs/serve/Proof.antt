@@ -1,5 +1,5 @@
 -- `batch::serve` meets its contract: the verdict is that of the card at the start and of the card at every turn, and the rule's batch is the answers written
--- and then the batch from here. The measure is the input that is left. Assumes nothing.
+-- and then the batch from here. The measure is the input that is left.
 use mathlib.Core.Path.{refl, sym, _∙_}
 use native.Mathlib.Omega.{arith}
 use Rattle.input.proofs.SameTables.{same-tables}

@@ -1,4 +1,4 @@
--- `batch::serve_turn` meets its contract. Assumes nothing.
+-- `batch::serve_turn` meets its contract.
 use native.Mathlib.Omega.{arith}
 use Rattle.input.specs.FoundLaws.{whole-within}
 use Rattle.batch.proofs.TurnServed.{nothing-served, full-served, whole-served}

@@ -1,5 +1,4 @@
 -- FORMAT on tables of the right lengths leaves a sound card, the roots' contents zeros and all other contents as they were.
--- Assumes nothing.
 use Prim.Native.Nat.{ℕ, zero, suc, _+_, _-_, _*_, _≤_, _<_}
 use mathlib.Core.Path.{_≡_, refl, sym, ap, _∙_, subst}
 use mathlib.Core.Logic.{⊎-elim}

@@ -1,5 +1,4 @@
 -- What a call leaves, by cases: the card itself where it is refused, the plan's changes of a sound card where it is done.
--- Assumes nothing.
 use mathlib.Core.Path.{_≡_, refl, sym, subst}
 use mathlib.Core.Logic.{⊎-elim}
 use mathlib.Core.Bool.{true, false}

@@ -1,5 +1,4 @@
 -- A call on a sound card leaves a sound card: one lemma for each paragraph of document 01, "Calls", then the theorem.
--- Assumes nothing.
 use Prim.Native.Nat.{ℕ, _+_, _≤_, _<_}
 use mathlib.Core.Path.{_≡_, refl, ap, _∙_}
 use mathlib.Core.Bool.{Bool, true, false, _&&_, _||_, not, cond}

@@ -1,6 +1,5 @@
 -- Changes of blocks and pointers keep soundness in pairs: a block taken and pointed to, a pointer dropped and its block freed.
 -- Between the two the card is sound but for that block, which no pointer goes to.
--- Assumes nothing.
 use Prim.Native.Nat.{ℕ, _+_, _-_, _*_, _≤_, _<_}
 use mathlib.Core.Path.{_≡_, refl, sym, ap, _∙_, subst}
 use mathlib.Core.Logic.{⊎-elim}

@@ -1,5 +1,4 @@
 -- Demand 2: a call is refused r if and only if r's condition holds and no earlier one does; it is done if and only if none holds.
--- Assumes nothing.
 use mathlib.Core.Path.{_≡_, refl, ap, _∙_}
 use mathlib.Core.Logic.{_↔_}
 use mathlib.Core.Bool.{true}

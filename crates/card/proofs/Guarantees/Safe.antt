@@ -1,5 +1,4 @@
 -- What the rules guarantee of every call, at either port and on any card, in one record.
--- Assumes nothing.
 use Prim.Native.Nat.{ℕ}
 use mathlib.Core.Path.{_≡_}
 use mathlib.Core.Bool.{false}

@@ -1,5 +1,4 @@
 -- Changes of windows, contents, time and keys keep soundness, under the conditions that a call's checks give them.
--- Assumes nothing.
 use Prim.Native.Nat.{ℕ, _+_, _*_, _≤_, _<_}
 use mathlib.Core.Path.{_≡_, refl, sym, ap, _∙_, subst}
 use mathlib.Core.Bool.{true, false, _&&_}

@@ -1,5 +1,4 @@
 -- A call touches no unallocated block's contents but those that it takes, which it leaves allocated and filled with zeros.
--- Assumes nothing.
 use Prim.Native.Nat.{ℕ, _*_, _<_}
 use mathlib.Core.Path.{_≡_, refl, sym, ap, _∙_, subst}
 use mathlib.Core.Logic.{_⊎_, inl, inr, ⊎-elim}

@@ -1,5 +1,4 @@
 -- What sets a window: a host's READ, WRITE or RENEW of the block, done, and nothing else; every other change of a window leaves 0.
--- Assumes nothing.
 use Prim.Native.Nat.{ℕ}
 use mathlib.Core.Path.{_≡_, refl, ap₂, _∙_}
 use mathlib.Core.Logic.{_⊎_, inl, inr, ⊎-elim}

@@ -1,5 +1,4 @@
 -- Demand 3 of things that perform calls and tell of them what their replies say: a function of C, a record, a batch.
--- Assumes nothing.
 use Prim.Native.Nat.{ℕ}
 use mathlib.Core.Path.{_≡_, refl, sym, ap, ap₂, _∙_}
 use mathlib.Core.Logic.{⊎-elim}

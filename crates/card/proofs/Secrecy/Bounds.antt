@@ -1,5 +1,4 @@
 -- A test that bounds what is within reach: the blocks that it names satisfy the four rules of reach, so no other block is within reach.
--- Assumes nothing.
 use Prim.Native.Nat.{ℕ}
 use mathlib.Core.Path.{_≡_, ap}
 use mathlib.Core.Logic.{⊎-elim}

@@ -1,5 +1,4 @@
 -- The theorem on secrecy is not empty: two sound cards that differ in hidden blocks, and a session with done calls that frees one of them.
--- Assumes nothing.
 use Prim.Native.Nat.{ℕ}
 use mathlib.Core.Path.{_≡_, refl, sym, ap, subst}
 use mathlib.Core.Logic.{_⊎_, inl}

@@ -1,5 +1,4 @@
 -- What a presented credential opens lies in every set that is closed under reach.
--- Assumes nothing.
 use Prim.Native.Nat.{ℕ}
 use mathlib.Core.Path.{_≡_, refl}
 use mathlib.Core.Logic.{_⊎_, ⊎-elim}

@@ -1,5 +1,4 @@
 -- Each call of a host, where it is done: it shows and writes blocks of the closed set alone.
--- Assumes nothing.
 use Prim.Native.Nat.{ℕ, _≤_, _<_}
 use mathlib.Core.Path.{_≡_, refl, sym, ap, _∙_, subst}
 use mathlib.Core.Logic.{inl, inr}

@@ -1,5 +1,4 @@
 -- Changes on two cards that agree on a set of blocks, and changes in order: what stays closed, alike and unwritten.
--- Assumes nothing.
 use Prim.Native.Nat.{ℕ, _+_, _*_, _≤_, _<_}
 use mathlib.Core.Path.{_≡_, refl, sym, ap, _∙_, subst}
 use mathlib.Core.Logic.{_⊎_, inl, inr, ⊎-elim}

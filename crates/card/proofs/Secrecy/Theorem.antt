@@ -1,5 +1,4 @@
 -- Demand 3: what a host session shows, and what it leaves, depends on no hidden block and on no unallocated one.
--- Assumes nothing.
 use Prim.Native.Nat.{ℕ, _<_}
 use mathlib.Core.Path.{_≡_, refl, sym, ap, _∙_}
 use mathlib.Core.Logic.{_↔_, _⊎_, inl, inr, ⊎-elim, Dec·not-not}

@@ -1,4 +1,4 @@
--- `cardplay::fill` meets its contract. Assumes nothing.
+-- `cardplay::fill` meets its contract.
 use borrow.Author.Needs.{needs}
 use native.Mathlib.Omega.{arith}
 use Rattle.cardplay.proofs.InputBufferLaws.{grown-is}

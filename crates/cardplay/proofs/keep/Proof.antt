@@ -1,4 +1,4 @@
--- `cardplay::keep` meets its contract. Assumes nothing.
+-- `cardplay::keep` meets its contract.
 use native.Mathlib.Omega.{arith}
 use Prim.Native.Nat.{_-_}
 use Rattle.cardplay.proofs.InputBufferLaws.{Moved, moved-none, moved-length, moved-more, moved-all}

@@ -1,4 +1,4 @@
--- `cardplay::main` meets its contract. Assumes nothing.
+-- `cardplay::main` meets its contract.
 use borrow.Author.Needs.{needs}
 use mathlib.Core.Path.{refl}
 use Rattle.cardplay.proofs.main.Statement.{statement}

@@ -1,4 +1,4 @@
--- `cardplay::play_all` meets its contract. Assumes nothing.
+-- `cardplay::play_all` meets its contract.
 use Prim.Native.Nat.{ℕ}
 use native.Mathlib.Omega.{arith}
 use mathlib.Core.Path.{sym, _∙_}

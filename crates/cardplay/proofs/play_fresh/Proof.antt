@@ -1,4 +1,4 @@
--- `cardplay::play_fresh` meets its contract. Assumes nothing.
+-- `cardplay::play_fresh` meets its contract.
 use borrow.Author.Needs.{needs}
 use Rattle.cardplay.proofs.FreshLaws.{fresh-left}
 use Rattle.cardplay.proofs.PiecesLaws.{pieces-from}

@@ -1,4 +1,4 @@
--- `cardplay::play_some` meets its contract. Assumes nothing.
+-- `cardplay::play_some` meets its contract.
 use borrow.Author.Needs.{needs}
 use mathlib.Core.Path.{sym}
 use lib.Seq.{length-take-le}

@@ -1,4 +1,4 @@
--- `cardplay::put_end` meets its contract. Assumes nothing.
+-- `cardplay::put_end` meets its contract.
 use borrow.Author.Needs.{needs}
 use Rattle.cardplay.proofs.ProgressLaws.{last-written}
 use Rattle.cardplay.proofs.put_end.Statement.{statement}

@@ -1,4 +1,4 @@
--- `cardplay::read_on` meets its contract. Assumes nothing.
+-- `cardplay::read_on` meets its contract.
 use borrow.Author.Needs.{needs}
 use mathlib.Core.Bool.{true≢false}
 use mathlib.Core.Path.{sym, _∙_}

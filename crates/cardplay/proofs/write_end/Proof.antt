@@ -1,4 +1,4 @@
--- `cardplay::write_end` meets its contract. Assumes nothing.
+-- `cardplay::write_end` meets its contract.
 use borrow.Author.Needs.{needs}
 use mathlib.Core.Path.{sym}
 use lib.Seq.{length-take-le}

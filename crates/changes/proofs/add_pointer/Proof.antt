@@ -1,5 +1,4 @@
 -- `changes::add_pointer` is the change of the card that adds a pointer.
--- Assumes nothing.
 use Rattle.changes.proofs.Changes.{added}
 use borrow.Author.Needs.{needs}
 use Rattle.changes.proofs.add_pointer.Statement.{statement}

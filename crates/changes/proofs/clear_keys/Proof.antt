@@ -1,5 +1,4 @@
 -- `changes::clear_keys` replaces the keys by absent ones.
--- Assumes nothing.
 use native.Mathlib.Omega.{arith}
 use lib.ListN.{length-set}
 use Rattle.changes.proofs.Changes.{keys-cleared}

@@ -1,5 +1,4 @@
 -- `changes::drop_pointer` is the change of the card that drops a pointer.
--- Assumes nothing.
 use Rattle.changes.proofs.Changes.{dropped}
 use borrow.Author.Needs.{needs}
 use Rattle.changes.proofs.drop_pointer.Statement.{statement}

@@ -1,5 +1,4 @@
 -- `changes::free_block` is the change of the card that frees a block.
--- Assumes nothing.
 use native.Mathlib.Omega.{arith}
 use lib.ListN.{length-set}
 use Rattle.changes.proofs.Changes.{freed}

@@ -1,4 +1,4 @@
--- `controller::perform_judged` meets its contract: each arm by one law. Assumes nothing.
+-- `controller::perform_judged` meets its contract: each arm by one law.
 use mathlib.Core.Path.{sym, _∙_}
 use Rattle.card.specs.SoundnessLaws.{verdict-sound}
 use Rattle.card.specs.Session.{request}

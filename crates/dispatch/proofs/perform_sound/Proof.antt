@@ -1,4 +1,4 @@
--- `dispatch::perform_sound` meets its contract: each arm by one law. Assumes nothing.
+-- `dispatch::perform_sound` meets its contract: each arm by one law.
 use Rattle.card.specs.BuffersLaws.{with-read, with-write, with-alloc, with-create, with-delete, with-key, with-renew, with-force, with-free, with-tick, with-audit}
 use borrow.Author.Needs.{needs}
 use Rattle.dispatch.proofs.perform_sound.Statement.{statement}

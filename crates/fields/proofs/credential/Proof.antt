@@ -1,5 +1,4 @@
 -- `fields::credential` meets its contract: an arm for each first byte.
--- Assumes nothing.
 use borrow.Author.Needs.{needs}
 use Rattle.fields.proofs.Arms.{nothing, not-nothing, reference, not-reference, key, no-credential}
 use Rattle.fields.proofs.credential.Statement.{statement}

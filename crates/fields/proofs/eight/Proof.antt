@@ -1,5 +1,4 @@
 -- `fields::eight` meets its contract: four bytes, and the next four.
--- Assumes nothing.
 use borrow.Author.Needs.{needs}
 use Rattle.fields.specs.BytesLaws.{number-eight}
 use Rattle.fields.proofs.eight.Statement.{statement}

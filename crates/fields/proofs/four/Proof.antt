@@ -1,5 +1,4 @@
 -- `fields::four` meets its contract: two bytes, and the next two.
--- Assumes nothing.
 use borrow.Author.Needs.{needs}
 use Rattle.fields.specs.BytesLaws.{number-four}
 use Rattle.fields.proofs.four.Statement.{statement}

@@ -1,5 +1,4 @@
 -- `fields::new_key` meets its contract: an arm for each first byte.
--- Assumes nothing.
 use borrow.Author.Needs.{needs}
 use Rattle.fields.proofs.Arms.{absent, not-absent, present, no-new-key}
 use Rattle.fields.proofs.new_key.Statement.{statement}

@@ -1,5 +1,4 @@
 -- `fields::two` meets its contract.
--- Assumes nothing.
 use borrow.Author.Needs.{needs}
 use Rattle.fields.specs.BytesLaws.{number-two}
 use Rattle.fields.proofs.two.Statement.{statement}

@@ -1,5 +1,4 @@
 -- `fields::zeroed` meets its contract: every byte passed is 0. The measure is what is left of the filler.
--- Assumes nothing.
 use Prim.Native.Nat.{_-_}
 use native.Mathlib.Omega.{arith}
 use Rattle.fields.proofs.Filler.{Filler, filler-start, filler-more, filler-fault, filler-whole}

@@ -1,5 +1,4 @@
 -- `flags::has_key` meets its contract: the flag of the mode is the one tested.
--- Assumes nothing.
 use borrow.Author.Needs.{needs}
 use Rattle.flags.proofs.has_key.Statement.{statement}
 use Rattle.flags.proofs.has_key.Tie as tie

@@ -1,5 +1,4 @@
 -- `format::format` is FORMAT.
--- Assumes nothing.
 use Prim.Native.Nat.{_*_}
 use native.Mathlib.Omega.{arith}
 use mathlib.Core.Path.{sym}

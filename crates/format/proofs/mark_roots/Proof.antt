@@ -1,5 +1,4 @@
 -- `format::mark_roots` writes ones in front of zeros.
--- Assumes nothing.
 use Rattle.format.proofs.Formatting.{front-count, front-marked}
 use borrow.Author.Needs.{needs}
 use Rattle.format.proofs.mark_roots.Statement.{statement}

@@ -1,4 +1,4 @@
--- `input::find` meets its contract. Assumes nothing.
+-- `input::find` meets its contract.
 use native.Mathlib.Omega.{arith}
 use Rattle.input.specs.FoundLaws.{found-ended, found-unknown, found-short, found-bad, found-whole}
 use borrow.Author.Needs.{needs}

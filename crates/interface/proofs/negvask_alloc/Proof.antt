@@ -1,4 +1,4 @@
--- `interface::negvask_alloc` meets its contract. Assumes nothing.
+-- `interface::negvask_alloc` meets its contract.
 use Rattle.adapter.specs.EffectsLaws.{no-out}
 use borrow.Author.Needs.{needs}
 use Rattle.interface.proofs.negvask_alloc.Statement.{statement}

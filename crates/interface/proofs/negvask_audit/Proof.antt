@@ -1,4 +1,4 @@
--- `interface::negvask_audit` meets its contract. Assumes nothing.
+-- `interface::negvask_audit` meets its contract.
 use borrow.Author.Needs.{needs}
 use Rattle.interface.proofs.negvask_audit.Statement.{statement}
 use Rattle.interface.proofs.negvask_audit.Tie as tie

@@ -1,4 +1,4 @@
--- `interface::negvask_batch` meets its contract. Assumes nothing.
+-- `interface::negvask_batch` meets its contract.
 use Rattle.interface.specs.Batch.{batchState, batch-nowhere, batch-refused, batch-served}
 use borrow.Author.Needs.{needs}
 use Rattle.interface.proofs.negvask_batch.Statement.{statement}

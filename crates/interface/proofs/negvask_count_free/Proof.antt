@@ -1,4 +1,4 @@
--- `interface::negvask_count_free` meets its contract. Assumes nothing.
+-- `interface::negvask_count_free` meets its contract.
 use borrow.Author.Needs.{needs}
 use Rattle.interface.proofs.negvask_count_free.Statement.{statement}
 use Rattle.interface.proofs.negvask_count_free.Tie as tie

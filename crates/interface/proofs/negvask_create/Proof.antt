@@ -1,4 +1,4 @@
--- `interface::negvask_create` meets its contract. Assumes nothing.
+-- `interface::negvask_create` meets its contract.
 use borrow.Author.Needs.{needs}
 use Rattle.interface.proofs.negvask_create.Statement.{statement}
 use Rattle.interface.proofs.negvask_create.Tie as tie

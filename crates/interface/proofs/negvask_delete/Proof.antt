@@ -1,4 +1,4 @@
--- `interface::negvask_delete` meets its contract. Assumes nothing.
+-- `interface::negvask_delete` meets its contract.
 use borrow.Author.Needs.{needs}
 use Rattle.interface.proofs.negvask_delete.Statement.{statement}
 use Rattle.interface.proofs.negvask_delete.Tie as tie

@@ -1,4 +1,4 @@
--- `interface::negvask_force` meets its contract. Assumes nothing.
+-- `interface::negvask_force` meets its contract.
 use borrow.Author.Needs.{needs}
 use Rattle.interface.proofs.negvask_force.Statement.{statement}
 use Rattle.interface.proofs.negvask_force.Tie as tie

@@ -1,4 +1,4 @@
--- `interface::negvask_format` meets its contract. Assumes nothing.
+-- `interface::negvask_format` meets its contract.
 use Rattle.adapter.specs.EffectsLaws.{format-record, formatted}
 use borrow.Author.Needs.{needs}
 use Rattle.interface.proofs.negvask_format.Statement.{statement}

@@ -1,4 +1,4 @@
--- `interface::negvask_key` meets its contract. Assumes nothing.
+-- `interface::negvask_key` meets its contract.
 use borrow.Author.Needs.{needs}
 use Rattle.interface.proofs.negvask_key.Statement.{statement}
 use Rattle.interface.proofs.negvask_key.Tie as tie

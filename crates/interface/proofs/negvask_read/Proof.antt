@@ -1,4 +1,4 @@
--- `interface::negvask_read` meets its contract. Assumes nothing.
+-- `interface::negvask_read` meets its contract.
 use Rattle.adapter.specs.EffectsLaws.{no-places}
 use borrow.Author.Needs.{needs}
 use Rattle.interface.proofs.negvask_read.Statement.{statement}

@@ -1,4 +1,4 @@
--- `interface::negvask_renew` meets its contract. Assumes nothing.
+-- `interface::negvask_renew` meets its contract.
 use borrow.Author.Needs.{needs}
 use Rattle.interface.proofs.negvask_renew.Statement.{statement}
 use Rattle.interface.proofs.negvask_renew.Tie as tie

@@ -1,4 +1,4 @@
--- `interface::negvask_serve` meets its contract. Assumes nothing.
+-- `interface::negvask_serve` meets its contract.
 use Rattle.adapter.specs.EffectsLaws.{of-record}
 use borrow.Author.Needs.{needs}
 use Rattle.interface.proofs.negvask_serve.Statement.{statement}

@@ -1,4 +1,4 @@
--- `interface::negvask_tick` meets its contract. Assumes nothing.
+-- `interface::negvask_tick` meets its contract.
 use borrow.Author.Needs.{needs}
 use Rattle.interface.proofs.negvask_tick.Statement.{statement}
 use Rattle.interface.proofs.negvask_tick.Tie as tie

@@ -1,4 +1,4 @@
--- `interface::negvask_write` meets its contract. Assumes nothing.
+-- `interface::negvask_write` meets its contract.
 use borrow.Author.Needs.{needs}
 use Rattle.interface.proofs.negvask_write.Statement.{statement}
 use Rattle.interface.proofs.negvask_write.Tie as tie

@@ -1,5 +1,4 @@
 -- `keys::key_sound` is KEY on an audited card.
--- Assumes nothing.
 use native.Mathlib.Omega.{arith}
 use mathlib.Core.Path.{refl}
 use Rattle.card.specs.declared.Mode.the-variants.{Reading, Writing}

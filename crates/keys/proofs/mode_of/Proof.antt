@@ -1,5 +1,4 @@
 -- `keys::mode_of` is the operation of the definition.
--- Assumes nothing.
 use Rattle.keys.proofs.Keys.{mode-reading, mode-writing}
 use Rattle.keys.proofs.mode_of.Statement.{statement}
 use Rattle.keys.proofs.mode_of.Tie as tie

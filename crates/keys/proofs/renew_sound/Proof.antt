@@ -1,5 +1,4 @@
 -- `keys::renew_sound` is RENEW on an audited card.
--- Assumes nothing.
 use mathlib.Core.Path.{refl}
 use Rattle.card.specs.Plan.{outAfter, placesAfter}
 use Rattle.card.specs.PlanLaws.{here, later}

@@ -1,5 +1,4 @@
 -- `keys::replace_keys` stores the four words.
--- Assumes nothing.
 use native.Mathlib.Omega.{arith}
 use lib.ListN.{length-set}
 use Rattle.keys.proofs.Keys.{keys-replaced}

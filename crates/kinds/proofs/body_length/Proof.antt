@@ -1,5 +1,4 @@
 -- `kinds::body_length` meets its contract: the length of the call that the kind names.
--- Assumes nothing.
 use borrow.Author.Needs.{needs}
 use Rattle.kinds.proofs.Table.{known-length, unknown-length}
 use Rattle.kinds.proofs.body_length.Statement.{statement}

@@ -1,4 +1,4 @@
--- `kinds::kind_of` meets its contract: below 128 a kind is the same at both ports. Assumes nothing.
+-- `kinds::kind_of` meets its contract: below 128 a kind is the same at both ports.
 use Rattle.kinds.proofs.Table.{same-below, at-wire}
 use borrow.Author.Needs.{needs}
 use Rattle.kinds.proofs.kind_of.Statement.{statement}

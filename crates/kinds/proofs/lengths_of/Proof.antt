@@ -1,4 +1,4 @@
--- `kinds::lengths_of` meets its contract: each arm is one row of the table. Assumes nothing.
+-- `kinds::lengths_of` meets its contract: each arm is one row of the table.
 use mathlib.Core.Path.{_∙_}
 use Rattle.kinds.proofs.Table.{tableRules, at-name}
 use borrow.Author.Needs.{needs}

@@ -1,5 +1,4 @@
 -- `kinds::service_kind_of` meets its contract: each arm is one kind of the table, and any other number is none.
--- Assumes nothing.
 use Rattle.card.specs.declared.Port.the-variants.{Service}
 use Rattle.kinds.proofs.Table.{tableRules, at-kind, unknown-service}
 use Rattle.kinds.proofs.service_kind_of.Statement.{statement}

@@ -1,5 +1,4 @@
 -- `lines::put_number` writes a number by writing its front, and then its last digit behind it. The measure is the number.
--- Assumes nothing.
 use borrow.Author.Needs.{needs}
 use native.Mathlib.Omega.{arith}
 use Rattle.lines.proofs.WrittenPart.{written-small, written-large, room-front, room-one}

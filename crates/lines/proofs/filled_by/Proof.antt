@@ -1,4 +1,4 @@
--- `lines::filled_by` meets its contract. Assumes nothing.
+-- `lines::filled_by` meets its contract.
 use Prim.Native.Nat.{ℕ}
 use mathlib.Core.List.{List, [], _∷_}
 use mathlib.Core.Path.{_≡_, refl}

@@ -1,4 +1,4 @@
--- `lines::put_answer` meets its contract. Assumes nothing.
+-- `lines::put_answer` meets its contract.
 use Prim.Native.Nat.{_+_, _≤_}
 use native.Mathlib.Omega.{arith}
 use lib.ListN.{length}

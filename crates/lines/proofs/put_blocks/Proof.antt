@@ -1,4 +1,4 @@
--- `lines::put_blocks` meets its contract. Assumes nothing.
+-- `lines::put_blocks` meets its contract.
 use borrow.Author.Needs.{needs}
 use Prim.Native.Nat.{_-_}
 use lib.ListN.{length}

@@ -1,4 +1,4 @@
--- `lines::put_byte` meets its contract. Assumes nothing.
+-- `lines::put_byte` meets its contract.
 use borrow.Author.Needs.{needs}
 use Rattle.lines.specs.Written.{written-one}
 use Rattle.lines.proofs.put_byte.Statement.{statement}

@@ -1,4 +1,4 @@
--- `lines::put_filled` meets its contract. Assumes nothing.
+-- `lines::put_filled` meets its contract.
 use mathlib.Core.Path.{sym}
 use native.Mathlib.Omega.{arith}
 use lib.ListN.{length-take}

@@ -1,4 +1,4 @@
--- `lines::put_first` meets its contract. Assumes nothing.
+-- `lines::put_first` meets its contract.
 use mathlib.Core.Path.{sym}
 use Prim.Native.Nat.{_≤_}
 use native.Mathlib.Omega.{arith}

@@ -1,4 +1,4 @@
--- `lines::put_spaced` meets its contract. Assumes nothing.
+-- `lines::put_spaced` meets its contract.
 use borrow.Author.Needs.{needs}
 use native.Mathlib.Omega.{arith}
 use Rattle.lines.specs.LinesLaws.{decimal-length}

@@ -1,4 +1,4 @@
--- `lines::put_text` meets its contract. Assumes nothing.
+-- `lines::put_text` meets its contract.
 use borrow.Author.Needs.{needs}
 use Prim.Native.Nat.{_-_}
 use lib.ListN.{length}

@@ -1,5 +1,4 @@
 -- `linking::create_sound` is the rule on an audited card, by what its checks find.
--- Assumes nothing.
 use mathlib.Core.Path.{refl}
 use Rattle.card.specs.Card.{card}
 use Rattle.card.specs.Session.{performSound}

@@ -1,5 +1,4 @@
 -- `linking::delete_sound` is the rule on an audited card, by what its checks find.
--- Assumes nothing.
 use mathlib.Core.Path.{refl}
 use native.Mathlib.Omega.{arith}
 use Rattle.card.specs.Card.{card}

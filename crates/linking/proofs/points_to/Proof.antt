@@ -1,5 +1,4 @@
 -- `linking::points_to` is the test of the definition.
--- Assumes nothing.
 use Rattle.card.specs.Card.{pointsTo}
 use borrow.Author.Needs.{needs}
 use Rattle.linking.proofs.points_to.Statement.{statement}

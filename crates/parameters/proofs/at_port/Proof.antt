@@ -1,4 +1,4 @@
--- `parameters::at_port` meets its contract. Assumes nothing.
+-- `parameters::at_port` meets its contract.
 use Rattle.parameters.specs.NumbersLaws.{call-bad, call-nowhere, call-at}
 use borrow.Author.Needs.{needs}
 use Rattle.parameters.proofs.at_port.Statement.{statement}

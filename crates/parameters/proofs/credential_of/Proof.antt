@@ -1,4 +1,4 @@
--- `parameters::credential_of` meets its contract. Assumes nothing.
+-- `parameters::credential_of` meets its contract.
 use borrow.Author.Tests.{eq-eqb, ne-eqb}
 use Rattle.parameters.specs.Numbers.{credentialOf}
 use borrow.Author.Needs.{needs}

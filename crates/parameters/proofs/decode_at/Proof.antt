@@ -1,4 +1,4 @@
--- `parameters::decode_at` meets its contract. Assumes nothing.
+-- `parameters::decode_at` meets its contract.
 use Rattle.records.proofs.Parsing.{parsed-bad}
 use Rattle.parameters.specs.NumbersLaws.{decodes-nowhere, decodes-at}
 use borrow.Author.Needs.{needs}

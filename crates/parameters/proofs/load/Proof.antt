@@ -1,4 +1,4 @@
--- `parameters::load` meets its contract. Assumes nothing.
+-- `parameters::load` meets its contract.
 use Rattle.parameters.specs.NumbersLaws.{loaded}
 use borrow.Author.Needs.{needs}
 use Rattle.parameters.proofs.load.Statement.{statement}

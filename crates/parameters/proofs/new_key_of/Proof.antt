@@ -1,4 +1,4 @@
--- `parameters::new_key_of` meets its contract. Assumes nothing.
+-- `parameters::new_key_of` meets its contract.
 use borrow.Author.Tests.{eq-eqb, ne-eqb}
 use Rattle.parameters.specs.Numbers.{newKeyOf}
 use borrow.Author.Needs.{needs}

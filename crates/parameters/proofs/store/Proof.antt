@@ -1,4 +1,4 @@
--- `parameters::store` meets its contract. Assumes nothing.
+-- `parameters::store` meets its contract.
 use Rattle.parameters.specs.NumbersLaws.{still-five, stored}
 use borrow.Author.Needs.{needs}
 use Rattle.parameters.proofs.store.Statement.{statement}

@@ -1,4 +1,4 @@
--- `parameters::wire_of` meets its contract. Assumes nothing.
+-- `parameters::wire_of` meets its contract.
 use borrow.Author.Tests.{ne-eqb}
 use Rattle.parameters.specs.Numbers.{wireOf}
 use Rattle.parameters.proofs.wire_of.Statement.{statement}

@@ -1,4 +1,4 @@
--- `player::play` meets its contract. Assumes nothing.
+-- `player::play` meets its contract.
 use mathlib.Core.Path.{refl, sym, _∙_}
 use native.Mathlib.Omega.{arith}
 use Prim.Native.Nat.{_-_}

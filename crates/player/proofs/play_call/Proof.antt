@@ -1,4 +1,4 @@
--- `player::play_call` meets its contract. Assumes nothing.
+-- `player::play_call` meets its contract.
 use native.Mathlib.Omega.{arith}
 use Rattle.input.specs.Play.{played}
 use Rattle.player.proofs.TurnPlayed.{call-played}

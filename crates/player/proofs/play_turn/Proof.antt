@@ -1,4 +1,4 @@
--- `player::play_turn` meets its contract. Assumes nothing.
+-- `player::play_turn` meets its contract.
 use Rattle.input.specs.Play.{playerPort}
 use Rattle.input.specs.FoundLaws.{whole-within}
 use Rattle.player.proofs.TurnPlayed.{nothing-played, whole-played}

@@ -1,5 +1,4 @@
 -- `records::alloc_with` meets its contract.
--- Assumes nothing.
 use Rattle.records.specs.Decode.{withCredential}
 use borrow.Author.Needs.{needs}
 use Rattle.records.proofs.alloc_with.Statement.{statement}

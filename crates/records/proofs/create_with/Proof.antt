@@ -1,5 +1,4 @@
 -- `records::create_with` meets its contract.
--- Assumes nothing.
 use Rattle.records.specs.Decode.{createWith}
 use borrow.Author.Needs.{needs}
 use Rattle.records.proofs.create_with.Statement.{statement}

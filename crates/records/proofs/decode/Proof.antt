@@ -1,4 +1,4 @@
--- `records::decode` meets its contract: another kind, a body cut short, or the call. Assumes nothing.
+-- `records::decode` meets its contract: another kind, a body cut short, or the call.
 use Rattle.records.specs.DecodeLaws.{cut-short, other-kind}
 use Rattle.records.proofs.Parsing.{body-is, body-room, parsed-bad, parsed-call}
 use borrow.Author.Needs.{needs}

@@ -1,5 +1,4 @@
 -- `records::decode_alloc` meets its contract.
--- Assumes nothing.
 use mathlib.Core.Path.{refl, _∙_}
 use Rattle.records.specs.DecodeLaws.{alloc}
 use borrow.Author.Needs.{needs}

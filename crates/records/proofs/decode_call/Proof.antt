@@ -1,5 +1,4 @@
 -- `records::decode_call` meets its contract: an arm for each call.
--- Assumes nothing.
 use borrow.Author.Needs.{needs}
 use Rattle.records.specs.DecodeLaws.{by-name, room, free, audit}
 use Rattle.kinds.proofs.Table.{tableRules}

@@ -1,5 +1,4 @@
 -- `records::decode_create` meets its contract.
--- Assumes nothing.
 use mathlib.Core.Path.{_∙_}
 use Rattle.records.specs.DecodeLaws.{create}
 use borrow.Author.Needs.{needs}

@@ -1,5 +1,4 @@
 -- `records::decode_delete` meets its contract.
--- Assumes nothing.
 use mathlib.Core.Path.{_∙_}
 use Rattle.records.specs.DecodeLaws.{delete}
 use borrow.Author.Needs.{needs}

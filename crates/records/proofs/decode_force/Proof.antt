@@ -1,5 +1,4 @@
 -- `records::decode_force` meets its contract.
--- Assumes nothing.
 use borrow.Author.Needs.{needs}
 use Rattle.records.specs.DecodeLaws.{force}
 use Rattle.records.proofs.decode_force.Statement.{statement}

@@ -1,5 +1,4 @@
 -- `records::decode_key` meets its contract.
--- Assumes nothing.
 use mathlib.Core.Path.{_∙_}
 use Rattle.records.specs.DecodeLaws.{key}
 use borrow.Author.Needs.{needs}

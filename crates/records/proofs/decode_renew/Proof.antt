@@ -1,5 +1,4 @@
 -- `records::decode_renew` meets its contract: a bare key.
--- Assumes nothing.
 use mathlib.Core.Path.{refl, _∙_}
 use Rattle.records.specs.DecodeLaws.{renew}
 use borrow.Author.Needs.{needs}

@@ -1,5 +1,4 @@
 -- `records::decode_tick` meets its contract.
--- Assumes nothing.
 use borrow.Author.Needs.{needs}
 use Rattle.records.specs.DecodeLaws.{tick}
 use Rattle.records.proofs.decode_tick.Statement.{statement}

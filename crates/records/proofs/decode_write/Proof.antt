@@ -1,5 +1,4 @@
 -- `records::decode_write` meets its contract.
--- Assumes nothing.
 use mathlib.Core.Path.{_∙_}
 use Rattle.records.specs.DecodeLaws.{write}
 use borrow.Author.Needs.{needs}

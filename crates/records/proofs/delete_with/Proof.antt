@@ -1,5 +1,4 @@
 -- `records::delete_with` meets its contract.
--- Assumes nothing.
 use Rattle.records.specs.Decode.{withCredential}
 use borrow.Author.Needs.{needs}
 use Rattle.records.proofs.delete_with.Statement.{statement}

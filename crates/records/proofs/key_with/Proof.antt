@@ -1,5 +1,4 @@
 -- `records::key_with` meets its contract.
--- Assumes nothing.
 use Rattle.records.specs.Decode.{keyWith}
 use borrow.Author.Needs.{needs}
 use Rattle.records.proofs.key_with.Statement.{statement}

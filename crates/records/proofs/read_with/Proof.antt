@@ -1,5 +1,4 @@
 -- `records::read_with` meets its contract.
--- Assumes nothing.
 use Rattle.records.specs.Decode.{withCredential}
 use borrow.Author.Needs.{needs}
 use Rattle.records.proofs.read_with.Statement.{statement}

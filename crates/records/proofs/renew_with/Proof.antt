@@ -1,5 +1,4 @@
 -- `records::renew_with` meets its contract: RENEW is by a key alone.
--- Assumes nothing.
 use Rattle.records.specs.Decode.{renewWith}
 use borrow.Author.Needs.{needs}
 use Rattle.records.proofs.renew_with.Statement.{statement}

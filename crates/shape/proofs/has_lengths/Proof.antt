@@ -1,4 +1,4 @@
--- `shape::has_lengths` is the rest of the shape. Assumes nothing.
+-- `shape::has_lengths` is the rest of the shape.
 use borrow.Author.Needs.{needs}
 use native.Mathlib.Omega.{arith}
 use Rattle.shape.proofs.ShapeTests.{contents-fit, in-lengths}

@@ -1,4 +1,4 @@
--- `shape::in_ranges` is the ranges of the shape. Assumes nothing.
+-- `shape::in_ranges` is the ranges of the shape.
 use borrow.Author.Needs.{needs}
 use Rattle.shape.proofs.ShapeTests.{few-bytes, in-ranges}
 use Rattle.shape.proofs.in_ranges.Statement.{statement}

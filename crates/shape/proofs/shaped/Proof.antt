@@ -1,4 +1,4 @@
--- `shape::shaped` is the shape. Assumes nothing.
+-- `shape::shaped` is the shape.
 use borrow.Author.Needs.{needs}
 use mathlib.Core.Path.{sym, _∙_}
 use Rattle.card.specs.Card.{card}

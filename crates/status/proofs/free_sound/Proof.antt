@@ -1,5 +1,4 @@
 -- `status::free_sound` is FREE on an audited card.
--- Assumes nothing.
 use Rattle.status.proofs.Ticked.{free-done}
 use borrow.Author.Needs.{needs}
 use Rattle.status.proofs.free_sound.Statement.{statement}

@@ -1,5 +1,4 @@
 -- `status::tick_sound` is TICK on an audited card.
--- Assumes nothing.
 use Rattle.status.proofs.Ticked.{tick-late, tick-done}
 use borrow.Author.Needs.{needs}
 use Rattle.status.proofs.tick_sound.Statement.{statement}

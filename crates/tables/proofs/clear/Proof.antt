@@ -1,5 +1,4 @@
 -- `tables::clear` meets its contract: the list is zeros up to `at`. The measure is what is left.
--- Assumes nothing.
 use Prim.Native.Nat.{_-_}
 use mathlib.Core.Path.{sym}
 use native.Mathlib.Omega.{arith}

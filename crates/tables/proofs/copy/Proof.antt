@@ -1,5 +1,4 @@
 -- `tables::copy` meets its contract: the list is `from` up to `i`. The measure is what is left.
--- Assumes nothing.
 use Prim.Native.Nat.{_-_}
 use native.Mathlib.Omega.{arith}
 use lib.ListN.{length}

@@ -1,5 +1,4 @@
 -- `tables::count_free` meets its contract: the count is that of the blocks passed. The measure is what is left.
--- Assumes nothing.
 use Prim.Native.Nat.{_-_}
 use mathlib.Core.Logic.{⊎-elim}
 use native.Mathlib.Omega.{arith}

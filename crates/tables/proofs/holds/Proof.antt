@@ -1,5 +1,4 @@
 -- `tables::holds` meets its contract: the pointer at the rank decides.
--- Assumes nothing.
 use native.Mathlib.Omega.{arith}
 use lib.Dec.{eqb}
 use Rattle.tables.specs.RankLaws.{contains-rank}

@@ -1,5 +1,4 @@
 -- `tables::insert` meets its contract: the pointers in use from `i` on stand one place higher. The measure is `i`.
--- Assumes nothing.
 use native.Mathlib.Omega.{arith}
 use lib.ListN.{length-set}
 use Rattle.tables.proofs.Shift.{Raised, raised-start, raised-more, inserted}

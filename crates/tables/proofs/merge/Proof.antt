@@ -1,5 +1,4 @@
 -- `tables::merge` meets its contract: what is left to do are the first `old` pointers in use and the first `new` added ones. The measure is their number.
--- Assumes nothing.
 use Prim.Native.Nat.{_+_, _-_}
 use mathlib.Core.Logic.{⊎-elim}
 use native.Mathlib.Omega.{arith}

@@ -1,5 +1,4 @@
 -- `tables::place` meets its contract: the rank lies between the two ends. The measure is their distance.
--- Assumes nothing.
 use Prim.Native.Nat.{_-_}
 use native.Mathlib.Omega.{arith}
 use Rattle.tables.proofs.Search.{Between, between-start, between-above, between-below}

@@ -1,5 +1,4 @@
 -- `tables::remove` meets its contract: the pointers behind the removed one, up to `i`, stand one place lower. The measure is what is left.
--- Assumes nothing.
 use Prim.Native.Nat.{_-_}
 use native.Mathlib.Omega.{arith}
 use lib.ListN.{length-set}

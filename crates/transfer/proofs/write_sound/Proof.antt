@@ -1,5 +1,4 @@
 -- `transfer::write_sound` is WRITE on an audited card.
--- Assumes nothing.
 use native.Mathlib.Omega.{arith}
 use mathlib.Core.Path.{refl}
 use Rattle.card.specs.Plan.{outAfter, placesAfter}

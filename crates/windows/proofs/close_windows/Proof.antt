@@ -1,5 +1,4 @@
 -- `windows::close_windows` stores two zeros.
--- Assumes nothing.
 use native.Mathlib.Omega.{arith}
 use lib.ListN.{length-set}
 use borrow.Author.Needs.{needs}

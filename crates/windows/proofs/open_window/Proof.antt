@@ -1,5 +1,4 @@
 -- `windows::open_window` is the change of the definition.
--- Assumes nothing.
 use Rattle.windows.proofs.Windows.{opened-none, opened-host, opened-service}
 use borrow.Author.Needs.{needs}
 use Rattle.windows.proofs.open_window.Statement.{statement}

@@ -1,5 +1,4 @@
 -- `windows::set_window` stores the end of the definition at the window's place.
--- Assumes nothing.
 use native.Mathlib.Omega.{arith}
 use Rattle.windows.proofs.Windows.{at-within, after-set}
 use borrow.Author.Needs.{needs}

@@ -1,5 +1,4 @@
 -- `windows::window_at` is the place of the definition.
--- Assumes nothing.
 use Rattle.windows.proofs.Windows.{at-reading, at-writing}
 use borrow.Author.Needs.{needs}
 use Rattle.windows.proofs.window_at.Statement.{statement}
