@@ -13,6 +13,7 @@ use Rattle.card.specs.PlanLaws.{judge-misshapen, judge-unsound, judge-so
 use Rattle.card.specs.Promises.{Is, is-same}
 use Rattle.card.specs.Session.{Request, Sent, Reply, plan, portOf, perform, performSound, reply, performed, replies, afterAll}
 use Rattle.card.specs.declared.Port.{Port}
+use Rattle.card.specs.declared.TickOperands.{TickOperands}
 use Rattle.card.specs.declared.Verdict.the-variants.{Misshapen, Unsound, Sound}
 use Rattle.card.specs.declared.Refusal.{Refusal}
 use Rattle.card.specs.declared.Refusal.the-variants.{Misshapen as MisshapenRefusal, Unsound as UnsoundRefusal}
@@ -58,6 +59,20 @@ perform-portOf port c q = ap (judge c (q .lent)) (go (q .call))
     go Free = refl
     go (Tick o) = refl
     go Audit = refl
+
+-- The calls that look at no port.
+pub data EitherPort : Call → Type 0 where
+  free : EitherPort Free
+  tick : (o : TickOperands) → EitherPort (Tick o)
+  audit : EitherPort Audit
+
+-- Document 01, of FREE, TICK and AUDIT: "These three serve either port alike."
+pub ports-alike : {call : Call} → EitherPort call → (port other : Port) (c : Card) (lent : Buffers)
+    → perform port c (record { call = call; lent = lent }) ≡ perform other c (record { call = call; lent = lent })
+unfolding perform plan
+ports-alike free port other c lent = refl
+ports-alike (tick o) port other c lent = refl
+ports-alike audit port other c lent = refl
 
 -- ---- a list of calls, part by part
 
