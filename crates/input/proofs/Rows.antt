@@ -64,7 +64,7 @@ unfolding rules playerCard afterAll sameList sameLists number row dataLength nam
 computing = tt
 
 -- TICK of so many seconds.
-abbrev tickBytes : ℕ → List ℕ
+abbrev pub tickBytes : ℕ → List ℕ
 tickBytes n = 10 ∷ (zeros 7 ++ (n ∷ []))
 
 pub player-keeps-the-first-card : playSafeTest playerCard (tickBytes 5 ++ tickBytes 7) 8192 ≡ true

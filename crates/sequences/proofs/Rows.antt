@@ -21,7 +21,8 @@ use Rattle.card.specs.declared.Port.the-variants.{Host, Service}
 use Rattle.input.specs.Played.{PlayedIs}
 use Rattle.input.specs.declared.Stop.the-variants.{Ended}
 use Rattle.serving.specs.Serve.{serve}
-use Rattle.serving.proofs.Rows.{batching, readBytes, byKeyBytes}
+use Rattle.serving.proofs.BytesExample.{readBytes, byKeyBytes}
+use Rattle.serving.proofs.Rows.{batching, serviceReadBytes}
 use Rattle.parameters.specs.Numbers.{wireOf}
 use Rattle.parameters.specs.declared.Wire.the-variants.{At}
 use Rattle.adapter.specs.Effects.{effect}
@@ -148,10 +149,10 @@ abbrev shown : ℕ → List Returned
 shown byte = fromBatch 0 1 24 513 (0 ∷ replicate 512 byte) ∷ []
 
 abbrev byItsKey : List Step
-byItsKey = shownBy 0 (readBytes 1 2 (byKeyBytes 5 6))
+byItsKey = shownBy 0 (readBytes 2 (byKeyBytes 5 6) 0)
 
 abbrev byService : List Step
-byService = shownBy 1 (readBytes 129 2 (zeros 17))
+byService = shownBy 1 (serviceReadBytes 2)
 
 module _ (byte : ℕ) where
   -- The one record of an input is performed, and answers with the block.
@@ -169,13 +170,13 @@ module _ (byte : ℕ) where
   pub key-called : Called (nestedWith byte) byItsKey (shown byte) (nestedWith byte)
   unfolding computing
   key-called =
-      shows-called 0 Host (readBytes 1 2 (byKeyBytes 5 6)) refl
+      shows-called 0 Host (readBytes 2 (byKeyBytes 5 6) 0) refl
       (record { stops = refl; counts = refl; leaves = refl; rests = refl; within = omega arith; writes = record { holds = refl; ends = refl } })
 
   pub service-called : Called (nestedWith byte) byService (shown byte) (nestedWith byte)
   unfolding computing
   service-called =
-      shows-called 1 Service (readBytes 129 2 (zeros 17)) refl
+      shows-called 1 Service (serviceReadBytes 2) refl
       (record { stops = refl; counts = refl; leaves = refl; rests = refl; within = omega arith; writes = record { holds = refl; ends = refl } })
 
 pub keys-of-a-batch-not-counted : callsSecretTest (nestedWith 5) (below 6) atMostOne byItsKey (shown 5) (shown 6) ≡ true

@@ -52,7 +52,7 @@ listing = tt
 abbrev keyBytes : ℕ → ℕ → List ℕ
 keyBytes high low = zeros 7 ++ (high ∷ (zeros 7 ++ (low ∷ [])))
 
-abbrev byKeyBytes : ℕ → ℕ → List ℕ
+abbrev pub byKeyBytes : ℕ → ℕ → List ℕ
 byKeyBytes high low = 2 ∷ keyBytes high low
 
 abbrev byReferenceBytes : ℕ → List ℕ
@@ -61,7 +61,7 @@ byReferenceBytes b = 1 ∷ 0 ∷ b ∷ zeros 14
 abbrev intervalBytes : ℕ → List ℕ
 intervalBytes interval = zeros 3 ++ (interval ∷ [])
 
-abbrev readBytes : ℕ → List ℕ → ℕ → List ℕ
+abbrev pub readBytes : ℕ → List ℕ → ℕ → List ℕ
 readBytes b by interval = 1 ∷ 0 ∷ b ∷ (by ++ intervalBytes interval)
 
 abbrev writeBytes : ℕ → List ℕ → ℕ → List ℕ → List ℕ

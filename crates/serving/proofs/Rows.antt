@@ -10,9 +10,9 @@ use borrow.Author.Tests.{eqb-true, eq-eqb}
 use Rattle.card.specs.ListsLaws.{and-true, or-cases, absurd-test}
 use Rattle.card.specs.Contents.{zeros}
 use Rattle.card.specs.Card.{Card}
-use Rattle.card.specs.Session.{Request, replies}
+use Rattle.card.specs.Session.{Request, afterAll}
 use Rattle.card.specs.Reach.{presents, presented}
-use Rattle.card.specs.Trials.{blankCard, playerCard}
+use Rattle.card.specs.Trials.{blankCard, playerCard, tick}
 use Rattle.card.proofs.Computed.Same.{sameList, true-sameList}
 use Rattle.card.proofs.Computed.Tests.{implies, true-implies, withContents, comparable, both-sound, equal-else}
 use Rattle.card.proofs.Computed.Rows.{computing, below, nested, atMostOne}
@@ -24,10 +24,11 @@ use Rattle.kinds.specs.Kinds.{row, dataLength, names, kindNumber, lengthOf, ope
 use Rattle.records.specs.Decode.{withCredential, decodeCall, decodeKnown, decodeBody, nameOf, dataOf, nextOf, decode}
 use Rattle.input.specs.Play.{Play, isShort, fault, goOn}
 use Rattle.input.specs.Arrivals.{arrivalsOf, arrivalsWithin, arrivals}
-use Rattle.input.proofs.Rows.{stopOrder, performedTest, performed-tested}
+use Rattle.input.proofs.Rows.{stopOrder, performedTest, performed-tested, tickBytes}
 use Rattle.serving.specs.Serve.{pairs, answerBytes, lentSize, answerRoom, served, serveTurnOf, serveTurn, serveWithin, serve}
 use Rattle.serving.specs.Held.{requestsIn, keysIn}
 use Rattle.serving.proofs.BytesSafe.{bytes-safe}
+use Rattle.serving.proofs.BytesExample.{readBytes, byKeyBytes}
 use Rattle.serving.proofs.BytesSecret.{BytesSecret, room-by-record, keys-counted, bytes-secret}
 
 -- ---- bytes-safe
@@ -102,34 +103,43 @@ unfoldable pub batching : Unit {0}
 unfolding zipWith computing number bytes zeroed credential row dataLength names kindNumber lengthOf operandsLength among kindOf kindLength bodyLength withCredential decodeCall decodeKnown decodeBody nameOf dataOf nextOf decode isShort fault goOn arrivalsOf arrivalsWithin arrivals pairs answerBytes lentSize answerRoom served serveTurnOf serveTurn serveWithin serve requestsIn keysIn
 batching = tt
 
-abbrev tickBytes : ℕ → List ℕ
-tickBytes n = 10 ∷ (zeros 7 ++ (n ∷ []))
+abbrev byNothing : List ℕ
+byNothing = zeros 17
 
--- READ of a kind and a block, interval 0.
-abbrev pub readBytes : ℕ → ℕ → List ℕ → List ℕ
-readBytes kind b by = kind ∷ 0 ∷ b ∷ (by ++ zeros 4)
-
-abbrev pub byKeyBytes : ℕ → ℕ → List ℕ
-byKeyBytes high low = 2 ∷ (zeros 7 ++ (high ∷ (zeros 7 ++ (low ∷ []))))
+-- Kind 129: READ at the service port, interval 0.
+abbrev pub serviceReadBytes : ℕ → List ℕ
+serviceReadBytes b = 129 ∷ 0 ∷ b ∷ (byNothing ++ zeros 4)
 
 pub batch-keeps-the-first-card : bytesSafeTest Host playerCard (tickBytes 5 ++ tickBytes 7) 100 ≡ true
 unfolding batching
 batch-keeps-the-first-card = refl
 
--- Kind 129 is READ at the service port, which shows a sealed block.
-pub service-record-performed : bytesSafeTest Host nested (readBytes 129 2 (zeros 17)) 600 ≡ true
+-- A READ at the service port would show a sealed block.
+pub service-record-performed : bytesSafeTest Host nested (serviceReadBytes 2) 600 ≡ true
 unfolding batching
 service-record-performed = refl
 
-pub service-record-answered : bytesSecretTest nested (below 6) atMostOne (readBytes 129 2 (zeros 17)) 600 ≡ true
+pub service-record-answered : bytesSecretTest nested (below 6) atMostOne (serviceReadBytes 2) 600 ≡ true
 unfolding batching
 service-record-answered = refl
 
-pub room-depends-on-the-answer : roomByRecordTest Host 1 playerCard blankCard (readBytes 1 0 (zeros 17)) ≡ true
+pub answer-shows-a-sealed-byte : bytesSecretTest nested (below 6) atMostOne (9 ∷ []) 100 ≡ true
+unfolding batching
+answer-shows-a-sealed-byte = refl
+
+pub room-depends-on-the-answer : roomByRecordTest Host 1 playerCard blankCard (readBytes 0 byNothing 0) ≡ true
 unfolding batching
 room-depends-on-the-answer = refl
 
+pub room-depends-on-the-clock : roomByRecordTest Host 100 playerCard (afterAll playerCard (tick 600 ∷ [])) (readBytes 0 byNothing 0) ≡ true
+unfolding batching
+room-depends-on-the-clock = refl
+
+pub key-of-the-first-record-not-counted : keysCountedTest playerCard (readBytes 0 (byKeyBytes 5 6) 0) 5 6 ≡ true
+unfolding batching
+key-of-the-first-record-not-counted = refl
+
 -- Block 1 is not allocated.
-pub key-of-a-refused-record-not-counted : keysCountedTest playerCard (readBytes 1 1 (byKeyBytes 5 6)) 5 6 ≡ true
+pub key-of-a-refused-record-not-counted : keysCountedTest playerCard (readBytes 1 (byKeyBytes 5 6) 0) 5 6 ≡ true
 unfolding batching
 key-of-a-refused-record-not-counted = refl

@@ -50,6 +50,10 @@ twice = drawn 3 (1 ∷ 1 ∷ 1 ∷ zeros 13) (zeros 64) (0 ∷ 1 ∷ 2 ∷ zeros
 abbrev keyed : List ℕ → Card
 keyed contents = drawn 1 (1 ∷ 7 ∷ zeros 14) (zeros 4 ++ (1 ∷ 2 ∷ 3 ∷ 4 ∷ zeros 56)) (0 ∷ 1 ∷ zeros 14) (1 ∷ zeros 31) contents
 
+-- The root has both keys, and there is no other block.
+abbrev keyedRoot : List ℕ → Card
+keyedRoot contents = drawn 0 (7 ∷ zeros 15) (1 ∷ 2 ∷ 3 ∷ 4 ∷ zeros 60) (zeros 16) (zeros 32) contents
+
 -- The fresh card with an open window in its table, and 7 in every byte.
 abbrev opened : Card
 opened = card (freshInfo 16 1 512) (1 ∷ zeros 15) (zeros 64) (zeros 16) (zeros 32) (0 ∷ 0 ∷ 10 ∷ zeros 29) (replicate 8192 7)
@@ -164,6 +168,11 @@ service-read-opens-a-window = refl
 pub reach-looks-at-contents : sameHiddenTest (λ high low. eqb high 9 && eqb low 2) (keyed (replicate 8192 9)) (zeros 8192) (λ b. eqb b 0) Reading 1 ≡ true
 unfolding computing
 reach-looks-at-contents = refl
+
+-- Without a key presented a root with both keys is sealed, whatever it holds.
+pub sealed-by-its-contents : sameHiddenTest (λ high low. false) (keyedRoot (replicate 8192 9)) (zeros 8192) (λ b. false) Reading 0 ≡ true
+unfolding computing
+sealed-by-its-contents = refl
 
 -- ---- secrecy
 

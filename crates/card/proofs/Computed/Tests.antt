@@ -9,10 +9,10 @@ use lib.Dec.{eqb}
 use lib.ListN.{drop}
 use borrow.Author.Tests.{eqb-false, eq-eqb, not-true}
 use Rattle.card.specs.Lists.{every, all, allBelow}
-use Rattle.card.specs.ListsLaws.{and-left, and-right, and-true, or-left, or-right, or-else, absurd-test, false-unless, not-cases, every-true, true-every, allBelow-true, true-allBelow}
+use Rattle.card.specs.ListsLaws.{and-left, and-right, and-true, or-left, or-right, or-cases, or-else, absurd-test, false-unless, not-cases, every-true, true-every, allBelow-true, true-allBelow}
 use Rattle.card.specs.Pointers.{ascending, pointersTo}
 use Rattle.card.specs.Contents.{zeros}
-use Rattle.card.specs.Card.{Card, allocated, windowEnd, count, inUse, block}
+use Rattle.card.specs.Card.{Card, allocated, isRoot, windowEnd, count, inUse, block}
 use Rattle.card.specs.Soundness.{ranges, lengths, shape, sound}
 use Rattle.card.specs.SoundCard.{SoundCard}
 use Rattle.card.specs.SoundnessLaws.{shape-true, true-shape, sound-true, true-sound}
@@ -20,7 +20,7 @@ use Rattle.card.specs.Plan.{Check, _⇒_, Buffers, Result}
 use Rattle.card.specs.PlanLaws.{FirstHolds, here, later, NoneHolds}
 use Rattle.card.specs.Calls.{refusalNumber, answerNumber, isDone, format}
 use Rattle.card.specs.Session.{Request, Sent, portOf, refusals, performed, replies, afterAll, hostSession}
-use Rattle.card.specs.Reach.{presented, keyPresented, byKey, Hidden, lastTaken}
+use Rattle.card.specs.Reach.{presented, keyPresented, sealed, Reach, unsealedRoot, byKey, Hidden, lastTaken}
 use Rattle.card.specs.Trials.{Trial, trialTable, trialReports, trials}
 use Rattle.card.specs.declared.Port.{Port}
 use Rattle.card.specs.declared.Port.the-variants.{Host, Service}
@@ -208,22 +208,32 @@ window-set-by-tested c s m b =
 abbrev pub withContents : Card → List ℕ → Card
 withContents c contents = record { public = c .public; keys = c .keys; contents = contents }
 
--- Where the named blocks bound what is within reach on the other card, a block with a presented key on this one is named.
+-- Within reach by itself: by a presented key, or as an unsealed root.
+abbrev byItself : (ℕ → ℕ → Bool) → Card → Mode → ℕ → Bool
+byItself K c mode b = allocated (c .public) b && (keyPresented K c mode b || (isRoot (c .public) b && not (sealed K c b)))
+
+byItself-reach : (K : ℕ → ℕ → Bool) (c : Card) (mode : Mode) (b : ℕ) → byItself K c mode b ≡ true → Reach K c b
+byItself-reach K c mode b h =
+    let a : allocated (c .public) b ≡ true = and-left _ _ h in
+    ⊎-elim
+    (λ (k : keyPresented K c mode b ≡ true). byKey mode a k)
+    (λ (r : isRoot (c .public) b && not (sealed K c b) ≡ true). unsealedRoot a (and-left _ _ r) (not-true _ (and-right (isRoot (c .public) b) _ r)))
+    (or-cases (keyPresented K c mode b) _ (and-right (allocated (c .public) b) _ h))
+
+-- Where the named blocks bound what is within reach on the other card, a block that is within reach by itself on this one is named.
 abbrev pub sameHiddenTest : (ℕ → ℕ → Bool) → Card → List ℕ → (ℕ → Bool) → Mode → ℕ → Bool
-sameHiddenTest K c contents named mode b =
-    implies (bounds K (withContents c contents) named && (allocated (c .public) b && keyPresented K c mode b)) (named b)
+sameHiddenTest K c contents named mode b = implies (bounds K (withContents c contents) named && byItself K c mode b) (named b)
 
 equal-contents : (c : Card) (contents : List ℕ) → EqualBut (λ b. Unit {0}) c (withContents c contents)
 equal-contents c contents = record { samePublic = refl; sameKeys = refl; sameContents = λ b l differ. absurd (differ tt) }
 
 pub same-hidden-tested : (K : ℕ → ℕ → Bool) (c : Card) (contents : List ℕ) (named : ℕ → Bool) (mode : Mode) (b : ℕ) → sameHiddenTest K c contents named mode b ≡ true
 same-hidden-tested K c contents named mode b =
-    true-implies (bounds K (withContents c contents) named && (allocated (c .public) b && keyPresented K c mode b)) _
+    true-implies (bounds K (withContents c contents) named && byItself K c mode b) _
     (λ h.
-    let rest : allocated (c .public) b && keyPresented K c mode b ≡ true = and-right (bounds K (withContents c contents) named) _ h in
     reach-inside K (withContents c contents) named (and-left _ _ h)
     (same-hidden K c (withContents c contents) (equal-contents c contents) b .0 .0
-    (byKey mode (and-left _ _ rest) (and-right (allocated (c .public) b) _ rest))))
+    (byItself-reach K c mode b (and-right (bounds K (withContents c contents) named) _ h))))
 
 -- ---- secrecy
 
