@@ -135,15 +135,15 @@
  * with their length; other bytes, or another number of them, are refused
  * 13. A credential opens block b for reading or for writing thus:
  *
- *   - if b has a key for that operation, only a key equal to it does;
- *     for reading, b's write key does too, if b has one;
- *   - if b is a root without such a key, only nothing does;
- *   - otherwise only a reference to an allocated block that points to b
- *     and whose window for the same operation is open.
+ *   - where b has a key for the operation, that key alone; for reading
+ *     b's write key too, if there is one;
+ *   - where b is a root and has no such key, nothing alone;
+ *   - elsewhere a reference alone: to an allocated block that points to
+ *     b, with its window for the operation open.
  *
  * A new key is 17 bytes too: 1 and the key's 16 bytes, or 0 and 16 zeros
- * for none. A key is 128 bits of any value, zero included.
- * negvask_set_key() and negvask_set_no_key() make the bytes.
+ * for none. A key has 128 bits, and 0 is one too. negvask_set_key() and
+ * negvask_set_no_key() make the bytes.
  *
  * Worked example
  * --------------
@@ -773,7 +773,7 @@ uint32_t negvask_tick(NEGVASK_TABLES, uint64_t seconds, uint64_t *value);
  * A record that comes from a host goes here with NEGVASK_HOST, or into
  * the input of negvask_batch() with NEGVASK_HOST, and nowhere else.
  *
- * A record is one byte of kind, then a body whose length the kind fixes;
+ * A record is one byte, its kind, and a body as long as the kind says;
  * `body` may be longer, and its further bytes are not looked at. Numbers
  * in a body are big-endian. Kinds, and the bytes of their bodies:
  *

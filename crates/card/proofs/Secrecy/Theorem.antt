@@ -46,9 +46,9 @@ HasKeys K qs = (high low : ℕ) → presented qs high low ≡ true → K high lo
 pub record Secret (K : ℕ → ℕ → Bool) (calls : List Sent) (c d : Card) : Type 0 where
   -- "the count of answers that differ is nought"
   pub answers : replies c calls ≡ replies d calls
-  -- "the two cards are still equal but for the contents of blocks that could differ at the start"
+  -- The cards are "still equal", but in blocks whose contents were free to differ.
   pub cards : EqualBut (HiddenOrStillFree K c (afterAll c calls)) (afterAll c calls) (afterAll d calls)
-  -- "On both, each hidden block ends with the contents it started with, unless a call of the list took its last pointer away."
+  -- On both, a hidden block keeps its contents unless its last pointer was taken.
   pub kept : (b : ℕ) → Hidden K c b → lastTaken c calls b ≡ false → block (afterAll c calls) b ≡ block c b
   pub keptOnOther : (b : ℕ) → Hidden K c b → lastTaken d calls b ≡ false → block (afterAll d calls) b ≡ block d b
 
