@@ -123,9 +123,9 @@ pub service-record-answered : bytesSecretTest nested (below 6) atMostOne (servic
 unfolding batching
 service-record-answered = refl
 
-pub answer-shows-a-sealed-byte : bytesSecretTest nested (below 6) atMostOne (9 ∷ []) 100 ≡ true
+pub room-depends-on-a-sealed-byte : bytesSecretTest nested (below 6) atMostOne (readBytes 0 byNothing 0) 518 ≡ true
 unfolding batching
-answer-shows-a-sealed-byte = refl
+room-depends-on-a-sealed-byte = refl
 
 pub room-depends-on-the-answer : roomByRecordTest Host 1 playerCard blankCard (readBytes 0 byNothing 0) ≡ true
 unfolding batching
