@@ -18,10 +18,10 @@ use Rattle.card.specs.declared.Mode.the-variants.{Reading}
 use Rattle.card.specs.declared.Credential.{Credential}
 use Rattle.card.specs.declared.Credential.the-variants.{Nothing, Reference, Key as KeyCredential}
 use Rattle.card.specs.declared.Call.{Call}
-use Rattle.card.specs.declared.Call.the-variants.{Read, Alloc, Delete, Renew}
+use Rattle.card.specs.declared.Call.the-variants.{Read, Alloc, Delete, Renew, Free, Tick}
 use Rattle.card.proofs.Secrecy.Bounds.{bounds}
 use Rattle.card.proofs.Computed.Same.{sameList, sameLists, replyNumbers, allLines}
-use Rattle.card.proofs.Computed.Tests.{refusalUnchangedTest, doneSoundTest, countsRightTest, pointersAscendingTest, formatSoundTest, untouchedTest, firstNumber, refusedIffTest, windowSetByTest, withContents, sameHiddenTest, secrecyTest, trialsTest}
+use Rattle.card.proofs.Computed.Tests.{refusalUnchangedTest, portsAlikeTest, doneSoundTest, countsRightTest, pointersAscendingTest, formatSoundTest, untouchedTest, firstNumber, refusedIffTest, windowSetByTest, withContents, sameHiddenTest, secrecyTest, trialsTest}
 
 -- To compute a row, its proof unfolds this one name. A wrong rule makes use of `orElse`.
 unfoldable pub computing : Unit {0}
@@ -92,6 +92,16 @@ refused-read-empties-its-buffer = refl
 pub delete-answers-a-refusal-and-deletes : refusalUnchangedTest twoBelow (delete Service 0 1) ≡ true
 unfolding computing
 delete-answers-a-refusal-and-deletes = refl
+
+-- ---- ports-alike
+
+pub service-free-answers-nothing : portsAlikeTest playerCard Free (lending []) ≡ true
+unfolding computing
+service-free-answers-nothing = refl
+
+pub service-tick-stands-still : portsAlikeTest playerCard (Tick (record { seconds = 5 })) (lending []) ≡ true
+unfolding computing
+service-tick-stands-still = refl
 
 -- ---- done-sound
 

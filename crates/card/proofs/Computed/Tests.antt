@@ -18,8 +18,9 @@ use Rattle.card.specs.SoundCard.{SoundCard}
 use Rattle.card.specs.SoundnessLaws.{shape-true, true-shape, sound-true, true-sound}
 use Rattle.card.specs.Plan.{Check, _⇒_, Buffers, Result}
 use Rattle.card.specs.PlanLaws.{FirstHolds, here, later, NoneHolds}
-use Rattle.card.specs.Calls.{refusalNumber, answerNumber, isDone, format}
-use Rattle.card.specs.Session.{Request, Sent, portOf, refusals, performed, replies, afterAll, hostSession}
+use Rattle.card.specs.Calls.{refusalNumber, answerNumber, answerValues, isDone, format}
+use Rattle.card.specs.Session.{Request, Sent, portOf, refusals, perform, performed, replies, afterAll, hostSession}
+use Rattle.card.specs.SessionLaws.{EitherPort, ports-alike}
 use Rattle.card.specs.Reach.{presented, keyPresented, sealed, Reach, unsealedRoot, byKey, Hidden, lastTaken}
 use Rattle.card.specs.Trials.{Trial, trialTable, trialReports, trials}
 use Rattle.card.specs.declared.Port.{Port}
@@ -28,6 +29,7 @@ use Rattle.card.specs.declared.Mode.{Mode}
 use Rattle.card.specs.declared.Refusal.{Refusal}
 use Rattle.card.specs.declared.Answer.{Answer}
 use Rattle.card.specs.declared.Answer.the-variants.{Refused, Done, Value}
+use Rattle.card.specs.declared.Call.{Call}
 use Rattle.card.proofs.Guarantees.Unchanged.{Unchanged, refusal-unchanged}
 use Rattle.card.proofs.Guarantees.KeepsSound.{done-sound, counts-right, pointers-ascending}
 use Rattle.card.proofs.Guarantees.Format.{format-sound}
@@ -79,6 +81,22 @@ unchanged-tested c s (Value v) e = or-left _ _ (ap (λ (a : Answer). not (not (i
 
 pub refusal-unchanged-tested : (c : Card) (s : Sent) → refusalUnchangedTest c s ≡ true
 refusal-unchanged-tested c s = unchanged-tested c s (performed c s .answer) refl
+
+-- ---- ports-alike
+
+-- What a call answers and leaves at a port.
+abbrev answeredAt : Port → Card → Call → Buffers → List (List ℕ)
+answeredAt port c call lent =
+    let r = perform port c (record { call = call; lent = lent }) in
+    (answerNumber (r .answer) ∷ answerValues (r .answer)) ∷ leftBy (r .after) (r .out) (r .places)
+
+abbrev pub portsAlikeTest : Card → Call → Buffers → Bool
+portsAlikeTest c call lent = sameLists (answeredAt Host c call lent) (answeredAt Service c call lent)
+
+pub ports-alike-tested : {call : Call} → EitherPort call → (c : Card) (lent : Buffers) → portsAlikeTest c call lent ≡ true
+ports-alike-tested either c lent =
+    true-sameLists
+    (ap (λ (r : Result). (answerNumber (r .answer) ∷ answerValues (r .answer)) ∷ leftBy (r .after) (r .out) (r .places)) (ports-alike either Host Service c lent))
 
 -- ---- done-sound and what it gives of counts and pointers; format-sound
 
