@@ -12,8 +12,7 @@ use Rattle.card.specs.ListsLaws.{or-false-left, or-false-right, and-true, absur
 use Rattle.card.specs.Card.{Card, card, freeBlocks}
 use Rattle.card.specs.SoundCard.{SoundCard}
 use Rattle.card.specs.Access.{admits}
-use Rattle.card.specs.Plan.{outAfter, placesAfter}
-use Rattle.card.specs.PlanLaws.{here, later}
+use Rattle.card.specs.Plan.{here, later, outAfter, placesAfter}
 use Rattle.card.specs.Calls.{missing, rootAtHost, noHint, wanted, picks, allocPlan}
 use Rattle.card.specs.Promises.{Is}
 use Rattle.card.specs.Session.{Request, request, plan, performSound}

@@ -1,7 +1,8 @@
 -- A call as checks in order and then changes in order: the two parts of each paragraph of document 01, "Calls".
 -- The checks and the changes are made from the public part of the card and from the answers of the access test alone.
 use Prim.Native.Nat.{ℕ, _+_, _-_}
-use mathlib.Core.Bool.{Bool, not, cond}
+use mathlib.Core.Path.{_≡_}
+use mathlib.Core.Bool.{Bool, true, false, not, cond}
 use mathlib.Core.List.{List, [], _∷_, _++_}
 use mathlib.Core.Option.{Option, none, some}
 use lib.ListN.{drop, set}
@@ -30,6 +31,16 @@ pub data Check : Type 0 where
 unfoldable pub first : List Check → Option Refusal
 first [] = none
 first ((test ⇒ r) ∷ checks) = cond test (some r) (first checks)
+
+-- The refusal's condition holds, and no condition before it.
+pub data FirstHolds : List Check → Refusal → Type 0 where
+  here : {t : Bool} {r : Refusal} {checks : List Check} → t ≡ true → FirstHolds ((t ⇒ r) ∷ checks) r
+  later : {t : Bool} {r s : Refusal} {checks : List Check} → t ≡ false → FirstHolds checks r → FirstHolds ((t ⇒ s) ∷ checks) r
+
+-- No condition holds.
+abbrev pub NoneHolds : List Check → Type 0
+NoneHolds [] = Unit {0}
+NoneHolds ((t ⇒ r) ∷ checks) = (t ≡ false) × NoneHolds checks
 
 -- Document 01, "Every call but FORMAT first refuses 1 (shape), then 2 (unsound)."
 unfoldable pub audited : Card → List Check → List Check

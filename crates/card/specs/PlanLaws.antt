@@ -7,21 +7,11 @@ use Rattle.card.specs.Card.{Card}
 use Rattle.card.specs.Soundness.{shape, sound}
 use Rattle.card.specs.SoundCard.{SoundCard}
 use Rattle.card.specs.SoundnessLaws.{true-shape, true-sound}
-use Rattle.card.specs.Plan.{Check, _⇒_, first, audited, Plan, Buffers, refused, done, settle, judge, judgeSound}
+use Rattle.card.specs.Plan.{Check, _⇒_, first, FirstHolds, here, later, NoneHolds, audited, Plan, Buffers, refused, done, settle, judge, judgeSound}
 use Rattle.card.specs.declared.Refusal.{Refusal}
 use Rattle.card.specs.declared.Refusal.the-variants.{Misshapen, Unsound}
 
 -- ---- the first check that holds
-
--- The refusal's condition holds, and no condition before it.
-pub data FirstHolds : List Check → Refusal → Type 0 where
-  here : {t : Bool} {r : Refusal} {checks : List Check} → t ≡ true → FirstHolds ((t ⇒ r) ∷ checks) r
-  later : {t : Bool} {r s : Refusal} {checks : List Check} → t ≡ false → FirstHolds checks r → FirstHolds ((t ⇒ s) ∷ checks) r
-
--- No condition holds.
-abbrev pub NoneHolds : List Check → Type 0
-NoneHolds [] = Unit {0}
-NoneHolds ((t ⇒ r) ∷ checks) = (t ≡ false) × NoneHolds checks
 
 pub holds-first : {checks : List Check} {r : Refusal} → FirstHolds checks r → first checks ≡ some r
 unfolding first

@@ -3,8 +3,8 @@ use Prim.Native.Nat.{ℕ}
 use mathlib.Core.Path.{_≡_, refl, sym, ap, _∙_}
 use mathlib.Core.List.{List}
 use Rattle.card.specs.Card.{Card}
-use Rattle.card.specs.Plan.{Plan, Buffers, Result, outAfter, placesAfter, changes, judgeSound}
-use Rattle.card.specs.PlanLaws.{FirstHolds, NoneHolds, refused-by, done-by}
+use Rattle.card.specs.Plan.{FirstHolds, NoneHolds, Plan, Buffers, Result, outAfter, placesAfter, changes, judgeSound}
+use Rattle.card.specs.PlanLaws.{refused-by, done-by}
 use Rattle.card.specs.declared.Refusal.{Refusal}
 use Rattle.card.specs.declared.Answer.{Answer}
 use Rattle.card.specs.declared.Answer.the-variants.{Refused}

@@ -14,6 +14,7 @@ use Rattle.card.specs.declared.Port.the-variants.{Host}
 use Rattle.card.specs.declared.Mode.the-variants.{Reading, Writing}
 use Rattle.card.specs.declared.Credential.{Credential}
 use Rattle.card.specs.declared.Credential.the-variants.{Key as KeyCredential}
+use Rattle.card.specs.declared.TickOperands.{TickOperands}
 use Rattle.card.specs.declared.Answer.{Answer}
 use Rattle.card.specs.declared.Call.{Call}
 use Rattle.card.specs.declared.Call.the-variants.{Read, Write, Alloc, Create, Delete, Key, Renew, Force, Free, Tick, Audit}
@@ -55,6 +56,12 @@ portOf port (Force o) = Host
 portOf port Free = port
 portOf port (Tick o) = port
 portOf port Audit = port
+
+-- "FREE", "TICK", "AUDIT": the calls that look at no port.
+pub data EitherPort : Call → Type 0 where
+  free : EitherPort Free
+  tick : (o : TickOperands) → EitherPort (Tick o)
+  audit : EitherPort Audit
 
 -- All that a request can be refused for, in order: the shape and the soundness of the card, then what its paragraph names.
 unfoldable pub refusals : Port → Card → Request → List Check

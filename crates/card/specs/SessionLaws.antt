@@ -11,9 +11,8 @@ use Rattle.card.specs.SoundnessLaws.{verdict-misshapen, verdict-unsound,
 use Rattle.card.specs.Plan.{first, audited, Change, setWindow, setBlock, setKeys, takeBlock, freeBlock, addPointer, dropPointer, setTime, changePublic, change, changes, Plan, Buffers, settle, judge}
 use Rattle.card.specs.PlanLaws.{judge-misshapen, judge-unsound, judge-sound}
 use Rattle.card.specs.Promises.{Is, is-same}
-use Rattle.card.specs.Session.{Request, Sent, Reply, plan, portOf, perform, performSound, reply, performed, replies, afterAll}
+use Rattle.card.specs.Session.{Request, Sent, Reply, plan, portOf, EitherPort, free, tick, audit, perform, performSound, reply, performed, replies, afterAll}
 use Rattle.card.specs.declared.Port.{Port}
-use Rattle.card.specs.declared.TickOperands.{TickOperands}
 use Rattle.card.specs.declared.Verdict.the-variants.{Misshapen, Unsound, Sound}
 use Rattle.card.specs.declared.Refusal.{Refusal}
 use Rattle.card.specs.declared.Refusal.the-variants.{Misshapen as MisshapenRefusal, Unsound as UnsoundRefusal}
@@ -59,12 +58,6 @@ perform-portOf port c q = ap (judge c (q .lent)) (go (q .call))
     go Free = refl
     go (Tick o) = refl
     go Audit = refl
-
--- The calls that look at no port.
-pub data EitherPort : Call → Type 0 where
-  free : EitherPort Free
-  tick : (o : TickOperands) → EitherPort (Tick o)
-  audit : EitherPort Audit
 
 -- Document 01, of FREE, TICK and AUDIT: "These three serve either port alike."
 pub ports-alike : {call : Call} → EitherPort call → (port other : Port) (c : Card) (lent : Buffers)

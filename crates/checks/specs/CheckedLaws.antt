@@ -4,8 +4,8 @@ use mathlib.Core.Path.{_≡_, refl, sym, ap, _∙_}
 use mathlib.Core.Option.{Option, none, some}
 use native.Mathlib.Omega.{arith}
 use Rattle.card.specs.Card.{Card}
-use Rattle.card.specs.Plan.{first}
-use Rattle.card.specs.PlanLaws.{FirstHolds, NoneHolds, holds-first, none-first, first-holds, first-none}
+use Rattle.card.specs.Plan.{first, FirstHolds, NoneHolds}
+use Rattle.card.specs.PlanLaws.{holds-first, none-first, first-holds, first-none}
 use Rattle.card.specs.Session.{Request, plan}
 use Rattle.card.specs.declared.Port.{Port}
 use Rattle.card.specs.declared.Refusal.{Refusal}

@@ -13,8 +13,7 @@ use Rattle.card.specs.Card.{Card, card, isRoot}
 use Rattle.card.specs.SoundCard.{SoundCard}
 use Rattle.card.specs.SoundnessLaws.{allocated-below}
 use Rattle.card.specs.Access.{admits}
-use Rattle.card.specs.Plan.{addPointer, change, changes, outAfter, placesAfter}
-use Rattle.card.specs.PlanLaws.{here, later}
+use Rattle.card.specs.Plan.{here, later, addPointer, change, changes, outAfter, placesAfter}
 use Rattle.card.specs.Calls.{missing, rootAtHost, createPlan}
 use Rattle.card.specs.Promises.{Is}
 use Rattle.card.specs.Session.{Request, request, plan, performSound}

@@ -15,8 +15,7 @@ use Rattle.card.specs.Card.{Card, card, inUse, pointsTo, hasPointers}
 use Rattle.card.specs.SoundCard.{SoundCard}
 use Rattle.card.specs.SoundnessLaws.{allocated-below}
 use Rattle.card.specs.Access.{admits}
-use Rattle.card.specs.Plan.{dropPointer, freeBlock, change, changes, outAfter, placesAfter}
-use Rattle.card.specs.PlanLaws.{here, later}
+use Rattle.card.specs.Plan.{here, later, dropPointer, freeBlock, change, changes, outAfter, placesAfter}
 use Rattle.card.specs.Calls.{missing, rootAtHost, deletePlan}
 use Rattle.card.specs.Promises.{Is, is-done}
 use Rattle.card.specs.Session.{Request, request, plan, performSound}

@@ -84,17 +84,21 @@ unfoldable computing : Unit {0}
 unfolding batching wireOf effect BatchIs sentOf sentAt callsOf callsIn callReturns batchReturns returnsOf returnsIn requestOf requestsOf requestsBy keysBy
 computing = tt
 
+-- The tables of a card, with a record of so many pointers at a second.
+abbrev memoryOf : ℕ → ℕ → Card → Memory
+memoryOf used time c = record {
+  info = 16 ∷ 1 ∷ 512 ∷ used ∷ time ∷ [];
+  flags = c .public .flags;
+  keys = c .keys;
+  counts = c .public .counts;
+  pointers = c .public .pointers;
+  windows = c .public .windows;
+  contents = c .contents;
+}
+
 -- The player's card at a second.
 abbrev player : ℕ → Memory
-player time = record {
-  info = 16 ∷ 1 ∷ 512 ∷ 0 ∷ time ∷ [];
-  flags = playerCard .public .flags;
-  keys = playerCard .keys;
-  counts = playerCard .public .counts;
-  pointers = playerCard .public .pointers;
-  windows = playerCard .public .windows;
-  contents = playerCard .contents;
-}
+player time = memoryOf 0 time playerCard
 
 abbrev ticks : List Step
 ticks = calls (tick 5 0) ∷ (calls (tick 7 0) ∷ [])
@@ -131,15 +135,7 @@ wrong-port-reports-no-records = refl
 
 -- The nested card with one byte in every place from block 2 on.
 abbrev nestedWith : ℕ → Memory
-nestedWith byte = record {
-  info = 16 ∷ 1 ∷ 512 ∷ 4 ∷ 0 ∷ [];
-  flags = nested .public .flags;
-  keys = nested .keys;
-  counts = nested .public .counts;
-  pointers = nested .public .pointers;
-  windows = nested .public .windows;
-  contents = below byte;
-}
+nestedWith byte = memoryOf 4 0 (withContents nested (below byte))
 
 -- A batch that shows block 2, by its key or at the service port.
 abbrev shownBy : ℕ → List ℕ → List Step

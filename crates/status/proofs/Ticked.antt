@@ -8,8 +8,7 @@ use borrow.Author.Tests.{le-leb, lt-leb}
 use Rattle.card.specs.Card.{Card}
 use Rattle.card.specs.Soundness.{timeLimit}
 use Rattle.card.specs.SoundCard.{SoundCard}
-use Rattle.card.specs.Plan.{withTime, changes, change, changePublic, changeKeys, changeContents, outAfter, placesAfter}
-use Rattle.card.specs.PlanLaws.{here}
+use Rattle.card.specs.Plan.{here, withTime, changes, change, changePublic, changeKeys, changeContents, outAfter, placesAfter}
 use Rattle.card.specs.Promises.{Is, is-done}
 use Rattle.card.specs.Calls.{freePlan, tickPlan}
 use Rattle.card.specs.Session.{plan, performSound, request}

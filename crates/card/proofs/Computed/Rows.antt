@@ -17,9 +17,9 @@ use Rattle.card.specs.declared.Port.the-variants.{Host, Service}
 use Rattle.card.specs.declared.Mode.the-variants.{Reading}
 use Rattle.card.specs.declared.Credential.{Credential}
 use Rattle.card.specs.declared.Credential.the-variants.{Nothing, Reference, Key as KeyCredential}
-use Rattle.card.specs.declared.Call.{Call}
-use Rattle.card.specs.declared.Call.the-variants.{Read, Alloc, Delete, Renew, Free, Tick}
+use Rattle.card.specs.declared.Call.the-variants.{Alloc, Delete, Renew, Free, Tick}
 use Rattle.card.proofs.Secrecy.Bounds.{bounds}
+use Rattle.card.proofs.Secrecy.Example.{hosted}
 use Rattle.card.proofs.Computed.Same.{sameList, sameLists, replyNumbers, allLines}
 use Rattle.card.proofs.Computed.Tests.{refusalUnchangedTest, portsAlikeTest, doneSoundTest, countsRightTest, pointersAscendingTest, formatSoundTest, untouchedTest, firstNumber, refusedIffTest, windowSetByTest, withContents, sameHiddenTest, secrecyTest, trialsTest}
 
@@ -74,11 +74,8 @@ nested =
 
 -- ---- host sessions on the nested card, of which the root and block 1 alone are within reach without the keys of 2 and 4
 
-abbrev asks : Call → Request
-asks call = record { call = call; lent = lending [] }
-
 abbrev reads : ℕ → Credential → ℕ → Request
-reads b credential interval = asks (Read (record { block = b; credential = credential; interval = interval }))
+reads b credential interval = read Host b credential interval .request
 
 abbrev pub atMostOne : ℕ → Bool
 atMostOne b = leb b 1
@@ -198,11 +195,11 @@ pub closed-parent-opens-its-children : secrecyTest nested (below 6) atMostOne (r
 unfolding computing
 closed-parent-opens-its-children = refl
 
-pub renew-presents-no-key : secrecyTest nested (below 6) atMostOne (asks (Renew (record { mode = 0; block = 2; high = 5; low = 6; interval = 10 })) ∷ reads 3 (Reference 2) 0 ∷ []) ≡ true
+pub renew-presents-no-key : secrecyTest nested (below 6) atMostOne (hosted (Renew (record { mode = 0; block = 2; high = 5; low = 6; interval = 10 })) ∷ reads 3 (Reference 2) 0 ∷ []) ≡ true
 unfolding computing
 renew-presents-no-key = refl
 
-pub last-pointer-to-the-source : secrecyTest nested (below 6) atMostOne (asks (Delete (record { source = 1; credential = KeyCredential 3 4; destination = 4 })) ∷ asks (Alloc (record { reference = 1; credential = KeyCredential 3 4; hint = 4; count = 1 })) ∷ []) ≡ true
+pub last-pointer-to-the-source : secrecyTest nested (below 6) atMostOne (hosted (Delete (record { source = 1; credential = KeyCredential 3 4; destination = 4 })) ∷ hosted (Alloc (record { reference = 1; credential = KeyCredential 3 4; hint = 4; count = 1 })) ∷ []) ≡ true
 unfolding computing
 last-pointer-to-the-source = refl
 

@@ -16,11 +16,10 @@ use Rattle.card.specs.Card.{Card, allocated, isRoot, windowEnd, count, i
 use Rattle.card.specs.Soundness.{ranges, lengths, shape, sound}
 use Rattle.card.specs.SoundCard.{SoundCard}
 use Rattle.card.specs.SoundnessLaws.{shape-true, true-shape, sound-true, true-sound}
-use Rattle.card.specs.Plan.{Check, _⇒_, Buffers, Result}
-use Rattle.card.specs.PlanLaws.{FirstHolds, here, later, NoneHolds}
+use Rattle.card.specs.Plan.{Check, _⇒_, FirstHolds, here, later, NoneHolds, Buffers, Result}
 use Rattle.card.specs.Calls.{refusalNumber, answerNumber, answerValues, isDone, format}
-use Rattle.card.specs.Session.{Request, Sent, portOf, refusals, perform, performed, replies, afterAll, hostSession}
-use Rattle.card.specs.SessionLaws.{EitherPort, ports-alike}
+use Rattle.card.specs.Session.{Request, Sent, portOf, EitherPort, refusals, perform, performed, replies, afterAll, hostSession}
+use Rattle.card.specs.SessionLaws.{ports-alike}
 use Rattle.card.specs.Reach.{presented, keyPresented, sealed, Reach, unsealedRoot, byKey, Hidden, lastTaken}
 use Rattle.card.specs.Trials.{Trial, trialTable, trialReports, trials}
 use Rattle.card.specs.declared.Port.{Port}

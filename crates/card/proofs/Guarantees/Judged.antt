@@ -8,8 +8,8 @@ use Rattle.card.specs.Card.{Card}
 use Rattle.card.specs.Soundness.{shape, sound}
 use Rattle.card.specs.SoundCard.{SoundCard}
 use Rattle.card.specs.SoundnessLaws.{shape-true, sound-true}
-use Rattle.card.specs.Plan.{first, changes, Plan, Buffers, Result, refused, settle, judge, judgeSound}
-use Rattle.card.specs.PlanLaws.{NoneHolds, first-none, judge-misshapen, judge-unsound, judge-sound}
+use Rattle.card.specs.Plan.{first, NoneHolds, changes, Plan, Buffers, Result, refused, settle, judge, judgeSound}
+use Rattle.card.specs.PlanLaws.{first-none, judge-misshapen, judge-unsound, judge-sound}
 use Rattle.card.specs.declared.Refusal.{Refusal}
 
 module _ (P : Result → Type 0) (c : Card) (lent : Buffers) (plan : Plan) (kept : (r : Refusal) → P (refused c lent r)) where

@@ -5,8 +5,8 @@ use mathlib.Core.Bool.{true}
 use mathlib.Core.Option.{Option, none, some}
 use Rattle.card.specs.ListsLaws.{absurd-test}
 use Rattle.card.specs.Card.{Card}
-use Rattle.card.specs.Plan.{first, Result, refused, done, settle, judge}
-use Rattle.card.specs.PlanLaws.{FirstHolds, NoneHolds, holds-first, first-holds, none-first, first-none}
+use Rattle.card.specs.Plan.{first, FirstHolds, NoneHolds, Result, refused, done, settle, judge}
+use Rattle.card.specs.PlanLaws.{holds-first, first-holds, none-first, first-none}
 use Rattle.card.specs.Calls.{isDone}
 use Rattle.card.specs.Session.{Request, plan, refusals, perform}
 use Rattle.card.specs.declared.Port.{Port}

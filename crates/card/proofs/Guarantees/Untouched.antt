@@ -15,8 +15,7 @@ use Rattle.card.specs.ContentsLaws.{fill-length, part-fill-same, part-fi
 use Rattle.card.specs.Card.{Public, Card, allocatedFlag, allocated, freeBlocks, count, block}
 use Rattle.card.specs.SoundCard.{SoundCard}
 use Rattle.card.specs.SoundnessLaws.{allocated-below, flag-allocated}
-use Rattle.card.specs.Plan.{setWindow, setBlock, takeBlock, freeBlock, addPointer, dropPointer, withFlags, changePublic, changeContents, change, changes, Buffers}
-use Rattle.card.specs.PlanLaws.{NoneHolds}
+use Rattle.card.specs.Plan.{NoneHolds, setWindow, setBlock, takeBlock, freeBlock, addPointer, dropPointer, withFlags, changePublic, changeContents, change, changes, Buffers}
 use Rattle.card.specs.Calls.{windowAfter, opensWindow, wanted, picks, takeAll, readPlan, writePlan, allocPlan, createPlan, deletePlan, keyPlan, renewPlan, forcePlan, freePlan, tickPlan, auditPlan}
 use Rattle.card.specs.Session.{Request, plan, perform}
 use Rattle.card.specs.declared.Port.{Port}

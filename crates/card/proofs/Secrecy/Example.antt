@@ -52,7 +52,7 @@ cardWith byte = record {
 
 -- ---- a session
 
-abbrev hosted : Call → Request
+abbrev pub hosted : Call → Request
 hosted call = record { call = call; lent = lending [] }
 
 -- Block 1 is read and written by its keys, block 3 is asked for in vain, and a DELETE frees block 2.

@@ -18,8 +18,7 @@ use Rattle.card.specs.Soundness.{pointerRight}
 use Rattle.card.specs.SoundCard.{SoundCard}
 use Rattle.card.specs.SoundnessLaws.{pointerRight-true, allocated-below}
 use Rattle.card.specs.Access.{opens, admits}
-use Rattle.card.specs.Plan.{setWindow, setBlock, setKeys, takeBlock, freeBlock, addPointer, dropPointer, changePublic, change, Shown, nothing, blockPart, numbers, Plan, Buffers}
-use Rattle.card.specs.PlanLaws.{NoneHolds}
+use Rattle.card.specs.Plan.{NoneHolds, setWindow, setBlock, setKeys, takeBlock, freeBlock, addPointer, dropPointer, changePublic, change, Shown, nothing, blockPart, numbers, Plan, Buffers}
 use Rattle.card.specs.Calls.{windowAfter, opensWindow, modeOf, wanted, picks, takeAll, readPlan, writePlan, allocPlan, createPlan, deletePlan, keyPlan, renewPlan, forcePlan, freePlan, tickPlan, auditPlan}
 use Rattle.card.specs.Session.{plan, traits}
 use Rattle.card.specs.Reach.{shows, presents, someShows}

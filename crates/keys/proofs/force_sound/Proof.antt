@@ -1,7 +1,6 @@
 -- `keys::force_sound` is FORCE on an audited card.
 use mathlib.Core.Path.{refl}
-use Rattle.card.specs.Plan.{outAfter, placesAfter}
-use Rattle.card.specs.PlanLaws.{here}
+use Rattle.card.specs.Plan.{here, outAfter, placesAfter}
 use Rattle.card.specs.Calls.{forcePlan}
 use Rattle.card.specs.Session.{plan, performSound}
 use Rattle.outcomes.proofs.Returned.{refuses, finishes}

@@ -2,8 +2,7 @@
 use native.Mathlib.Omega.{arith}
 use mathlib.Core.Path.{refl}
 use Rattle.card.specs.declared.Mode.the-variants.{Reading, Writing}
-use Rattle.card.specs.Plan.{outAfter, placesAfter}
-use Rattle.card.specs.PlanLaws.{here, later}
+use Rattle.card.specs.Plan.{here, later, outAfter, placesAfter}
 use Rattle.card.specs.Calls.{keyPlan}
 use Rattle.card.specs.Session.{plan, performSound}
 use Rattle.outcomes.proofs.Returned.{refuses, finishes}

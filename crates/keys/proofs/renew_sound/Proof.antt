@@ -1,7 +1,6 @@
 -- `keys::renew_sound` is RENEW on an audited card.
 use mathlib.Core.Path.{refl}
-use Rattle.card.specs.Plan.{outAfter, placesAfter}
-use Rattle.card.specs.PlanLaws.{here, later}
+use Rattle.card.specs.Plan.{here, later, outAfter, placesAfter}
 use Rattle.card.specs.Calls.{renewPlan}
 use Rattle.card.specs.Session.{plan, performSound}
 use Rattle.outcomes.proofs.Returned.{refuses, finishes}

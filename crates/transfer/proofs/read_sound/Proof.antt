@@ -1,8 +1,7 @@
 -- `transfer::read_sound` is READ on an audited card.
 use native.Mathlib.Omega.{arith}
 use mathlib.Core.Path.{refl}
-use Rattle.card.specs.Plan.{outAfter, placesAfter}
-use Rattle.card.specs.PlanLaws.{here, later}
+use Rattle.card.specs.Plan.{here, later, outAfter, placesAfter}
 use Rattle.card.specs.Calls.{readPlan}
 use Rattle.card.specs.Session.{plan, performSound}
 use Rattle.outcomes.proofs.Returned.{refuses, finishes}

@@ -1,8 +1,7 @@
 -- `transfer::write_sound` is WRITE on an audited card.
 use native.Mathlib.Omega.{arith}
 use mathlib.Core.Path.{refl}
-use Rattle.card.specs.Plan.{outAfter, placesAfter}
-use Rattle.card.specs.PlanLaws.{here, later}
+use Rattle.card.specs.Plan.{here, later, outAfter, placesAfter}
 use Rattle.card.specs.Calls.{writePlan}
 use Rattle.card.specs.Session.{plan, performSound}
 use Rattle.outcomes.proofs.Returned.{refuses, finishes}
