@@ -7,7 +7,7 @@ use Rattle.card.specs.Card.{Card}
 use Rattle.card.specs.Plan.{Shown, nothing, blockPart, numbers, Plan, Buffers, first, outAfter, placesAfter, settle, judgeSound, changes}
 use Rattle.card.specs.PlanLaws.{done-by}
 use Rattle.card.specs.Promises.{Is, is-same}
-use Rattle.card.specs.Calls.{readPlan, writePlan, allocPlan, createPlan, deletePlan, keyPlan, renewPlan, forcePlan, freePlan, tickPlan, auditPlan}
+use Rattle.card.specs.Calls.{readPlan, writePlan, allocPlan, allocContigPlan, createPlan, deletePlan, keyPlan, renewPlan, forcePlan, freePlan, tickPlan, auditPlan}
 use Rattle.card.specs.Session.{request, plan, performSound}
 use Rattle.card.specs.declared.Port.{Port}
 use Rattle.card.specs.declared.Refusal.{Refusal}
@@ -23,7 +23,7 @@ use Rattle.card.specs.declared.RenewOperands.{RenewOperands}
 use Rattle.card.specs.declared.ForceOperands.{ForceOperands}
 use Rattle.card.specs.declared.TickOperands.{TickOperands}
 use Rattle.card.specs.declared.Call.{Call}
-use Rattle.card.specs.declared.Call.the-variants.{Read, Write, Alloc, Create, Delete, Key, Renew, Force, Free, Tick, Audit}
+use Rattle.card.specs.declared.Call.the-variants.{Read, Write, Alloc, AllocContig, Create, Delete, Key, Renew, Force, Free, Tick, Audit}
 
 abbrev buffers : List ℕ → List ℕ → List ℕ → Buffers
 buffers input out places = record { input = input; out = out; places = places }
@@ -83,6 +83,11 @@ module _ (port : Port) (c : Card) (input out places : List ℕ) (call : Call) {a
       → Is (performSound port c (request call input out places)) answer after out filled
   unfolding performSound plan allocPlan
   with-alloc e h = rw e (shows-numbers c _ _ refl input out places h)
+
+  pub with-alloc-contig : {o : AllocOperands} {filled : List ℕ} → call ≡ AllocContig o → Is (performSound port c (request (AllocContig o) [] [] places)) answer after [] filled
+      → Is (performSound port c (request call input out places)) answer after out filled
+  unfolding performSound plan allocContigPlan
+  with-alloc-contig e h = rw e (shows-numbers c _ _ refl input out places h)
 
   pub with-create : {o : CreateOperands} → call ≡ Create o → Is (performSound port c (request (Create o) [] [] [])) answer after [] []
       → Is (performSound port c (request call input out places)) answer after out places

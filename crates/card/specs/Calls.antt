@@ -1,9 +1,10 @@
--- Document 01, "Calls": each paragraph as its refusals in order, then what is answered, shown and changed.
+-- Document 01, "Calls", and the requests of document 02: each paragraph as its refusals in order, then what is answered, shown and changed.
 use Prim.Native.Nat.{ℕ, zero, suc, _+_, _-_, _*_}
 use mathlib.Core.Bool.{Bool, true, false, _&&_, _||_, not, cond}
 use mathlib.Core.List.{List, [], _∷_, _++_}
 use lib.Dec.{eqb, ltb, leb}
 use lib.ListN.{length, replicate}
+use Rattle.card.specs.Lists.{allBelow, numbersBelow, numbersFrom}
 use Rattle.card.specs.Pointers.{remove}
 use Rattle.card.specs.Contents.{zeros, overwrite}
 use Rattle.card.specs.Card.{Public, Card, card, allocated, hasKey, isRoot, freeBlocks, longestInterval, count, pointsTo, hasPointers}
@@ -25,13 +26,13 @@ use Rattle.card.specs.declared.RenewOperands.{RenewOperands}
 use Rattle.card.specs.declared.ForceOperands.{ForceOperands}
 use Rattle.card.specs.declared.TickOperands.{TickOperands}
 use Rattle.card.specs.declared.Refusal.{Refusal}
-use Rattle.card.specs.declared.Refusal.the-variants.{Misshapen, Unsound, NotAllocated, BadOperand, NotOpened, IsRoot, PointerExists, NoPointer, HasPointers, TooFewBlocks, TooFewPlaces, TimeEnds, BadRecord}
+use Rattle.card.specs.declared.Refusal.the-variants.{Misshapen, Unsound, NotAllocated, BadOperand, NotOpened, IsRoot, PointerExists, NoPointer, HasPointers, TooFewBlocks, TooFewPlaces, TimeEnds, BadRecord, NoRun}
 use Rattle.card.specs.declared.Answer.{Answer}
 use Rattle.card.specs.declared.Answer.the-variants.{Refused, Done, Value}
 
 -- ---- the numbers of refusals and answers
 
--- Document 01's number of a refusal.
+-- The number of a refusal: 1 to 13 of document 01, 14 of the request 2026-01.
 abbrev pub refusalNumber : Refusal → ℕ
 refusalNumber Misshapen = 1
 refusalNumber Unsound = 2
@@ -46,6 +47,7 @@ refusalNumber TooFewBlocks = 10
 refusalNumber TooFewPlaces = 11
 refusalNumber TimeEnds = 12
 refusalNumber BadRecord = 13
+refusalNumber NoRun = 14
 
 -- An answer's number, 0 for done.
 abbrev pub answerNumber : Answer → ℕ
@@ -184,6 +186,45 @@ allocPlan port p opened o places =
           ∷ (rootAtHost port p (o .reference) ⇒ IsRoot)
           ∷ (not opened ⇒ NotOpened)
           ∷ (ltb (length (freeBlocks p)) (o .count) ⇒ TooFewBlocks)
+          ∷ (ltb (length (p .pointers)) (p .info .used + o .count) ⇒ TooFewPlaces)
+          ∷ [];
+      answer = Done;
+      shown = numbers taken;
+      steps = takeAll (o .reference) taken;
+    }
+
+-- ---- ALLOC_CONTIG, the request 2026-01
+
+-- A run is any `count` unallocated blocks that adjoin, also inside a longer stretch: here those from `first` on.
+unfoldable pub isRun : Public → ℕ → ℕ → Bool
+isRun p count first = allBelow (λ i. ltb (first + i) (p .info .blocks) && not (allocated p (first + i))) count
+
+-- The first blocks of the runs, ascending.
+unfoldable pub runStarts : Public → ℕ → List ℕ
+runStarts p count = numbersBelow (isRun p count) (p .info .blocks)
+
+-- "The run is the one whose first block is nearest the hint, the lower on a tie." "Its numbers are given ascending."
+unfoldable pub nearestRun : ℕ → ℕ → List ℕ → List ℕ
+nearestRun want count [] = []
+nearestRun want count (x ∷ xs) = numbersFrom (nearest want x xs) count
+
+-- "body and checks as ALLOC", and 14 "after 10, before 11": "enough blocks are free but no count of them adjoin".
+unfoldable pub allocContigPlan : Port → Public → Bool → AllocOperands → ℕ → Plan
+allocContigPlan port p opened o places =
+    let starts = runStarts p (o .count) in
+    let taken = nearestRun (wanted (o .hint)) (o .count) starts in
+    record {
+      checks =
+          (eqb (o .count) 0
+          || ltb 64 (o .count)
+          || (not (ltb (o .hint) (p .info .blocks)) && not (eqb (o .hint) noHint))
+          || ltb places (o .count)
+          ⇒ BadOperand)
+          ∷ (missing p (o .reference) ⇒ NotAllocated)
+          ∷ (rootAtHost port p (o .reference) ⇒ IsRoot)
+          ∷ (not opened ⇒ NotOpened)
+          ∷ (ltb (length (freeBlocks p)) (o .count) ⇒ TooFewBlocks)
+          ∷ (eqb (length starts) 0 ⇒ NoRun)
           ∷ (ltb (length (p .pointers)) (p .info .used + o .count) ⇒ TooFewPlaces)
           ∷ [];
       answer = Done;

@@ -13,7 +13,9 @@ pub mod Plan
 pub mod ChangesLaws
 pub mod PlanLaws
 pub mod Calls
+pub mod NearestLaws
 pub mod PicksLaws
+pub mod RunsLaws
 pub mod Promises
 pub mod Lent
 pub mod Session

@@ -1,4 +1,4 @@
--- Tests over a list, and over the numbers below a bound.
+-- Tests over a list, and over the numbers below a bound; numbers in a row.
 use Prim.Native.Nat.{ℕ, zero, suc}
 use mathlib.Core.Bool.{Bool, true, false, _&&_, _||_, cond}
 use mathlib.Core.List.{List, [], _∷_, _++_}
@@ -25,3 +25,8 @@ allBelow p (suc n) = p n && allBelow p n
 unfoldable pub numbersBelow : (ℕ → Bool) → ℕ → List ℕ
 numbersBelow p zero = []
 numbersBelow p (suc n) = numbersBelow p n ++ cond (p n) (n ∷ []) []
+
+-- So many numbers in a row from `first` on, ascending.
+unfoldable pub numbersFrom : ℕ → ℕ → List ℕ
+numbersFrom first zero = []
+numbersFrom first (suc n) = first ∷ numbersFrom (suc first) n

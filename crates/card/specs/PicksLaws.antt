@@ -104,7 +104,7 @@ nearest-all q want best (x ∷ xs) e h =
     go true = all-head q x xs h
     go false = e
 
-nearest-there : (want best : ℕ) (xs : List ℕ) → contains (nearest want best xs) (best ∷ xs) ≡ true
+pub nearest-there : (want best : ℕ) (xs : List ℕ) → contains (nearest want best xs) (best ∷ xs) ≡ true
 unfolding nearest contains any
 nearest-there want best [] = or-left (eqb best best) false (eq-eqb best best refl)
 nearest-there want best (x ∷ xs) = go (ltb (distance want x) (distance want best)) (nearest-there want (cond (ltb (distance want x) (distance want best)) x best) xs)

@@ -164,14 +164,14 @@ pub data Shown : Type 0 where
   blockPart : ℕ → Shown
   numbers : List ℕ → Shown
 
--- One paragraph of document 01, "Calls": its refusals in order, then what is answered, shown and changed.
+-- One paragraph of document 01, "Calls", or a call of a request: its refusals in order, then what is answered, shown and changed.
 pub record Plan : Type 0 where
   pub checks : List Check
   pub answer : Answer
   pub shown : Shown
   pub steps : List Change
 
--- The buffers that are lent with a call, and what they hold: the bytes that WRITE takes, READ's bytes and ALLOC's places.
+-- The buffers that are lent with a call, and what they hold: the bytes that WRITE takes, READ's bytes, and the places of ALLOC and ALLOC_CONTIG.
 pub record Buffers : Type 0 where
   pub input : List ℕ
   pub out : List ℕ

@@ -8,7 +8,7 @@ use lib.ListN.{length, take}
 use Rattle.card.specs.Card.{Card}
 use Rattle.card.specs.Access.{admits, opens}
 use Rattle.card.specs.Plan.{Check, audited, Plan, Buffers, Result, judge, judgeSound}
-use Rattle.card.specs.Calls.{answerNumber, answerValues, modeOf, readPlan, writePlan, allocPlan, createPlan, deletePlan, keyPlan, renewPlan, forcePlan, freePlan, tickPlan, auditPlan}
+use Rattle.card.specs.Calls.{answerNumber, answerValues, modeOf, readPlan, writePlan, allocPlan, allocContigPlan, createPlan, deletePlan, keyPlan, renewPlan, forcePlan, freePlan, tickPlan, auditPlan}
 use Rattle.card.specs.declared.Port.{Port}
 use Rattle.card.specs.declared.Port.the-variants.{Host}
 use Rattle.card.specs.declared.Mode.the-variants.{Reading, Writing}
@@ -17,18 +17,20 @@ use Rattle.card.specs.declared.Credential.the-variants.{Key as KeyCreden
 use Rattle.card.specs.declared.TickOperands.{TickOperands}
 use Rattle.card.specs.declared.Answer.{Answer}
 use Rattle.card.specs.declared.Call.{Call}
-use Rattle.card.specs.declared.Call.the-variants.{Read, Write, Alloc, Create, Delete, Key, Renew, Force, Free, Tick, Audit}
+use Rattle.card.specs.declared.Call.the-variants.{Read, Write, Alloc, AllocContig, Create, Delete, Key, Renew, Force, Free, Tick, Audit}
 
 -- A call with its operands and its lent buffers with what they hold.
 pub record Request : Type 0 where
   pub call : Call
   pub lent : Buffers
 
--- The call's paragraph of document 01, at a port and on a card: the access test is asked here and nowhere else.
+-- The call's paragraph, at a port and on a card: the access test is asked here and nowhere else.
 unfoldable pub plan : Port → Card → Call → Buffers → Plan
 plan port c (Read o) lent = readPlan port (c .public) (admits port c Reading (o .block) (o .credential)) o (length (lent .out))
 plan port c (Write o) lent = writePlan port (c .public) (admits port c Writing (o .block) (o .credential)) o (lent .input)
 plan port c (Alloc o) lent = allocPlan port (c .public) (admits port c Writing (o .reference) (o .credential)) o (length (lent .places))
+plan port c (AllocContig o) lent =
+    allocContigPlan port (c .public) (admits port c Writing (o .reference) (o .credential)) o (length (lent .places))
 plan port c (Create o) lent =
     createPlan port (c .public)
     (admits port c Writing (o .source) (o .credential))
@@ -48,6 +50,7 @@ unfoldable pub portOf : Port → Call → Port
 portOf port (Read o) = port
 portOf port (Write o) = port
 portOf port (Alloc o) = port
+portOf port (AllocContig o) = port
 portOf port (Create o) = port
 portOf port (Delete o) = port
 portOf port (Key o) = port
@@ -74,7 +77,7 @@ perform port c q = judge c (q .lent) (plan port c (q .call) (q .lent))
 unfoldable pub performSound : Port → Card → Request → Result
 performSound port c q = judgeSound c (q .lent) (plan port c (q .call) (q .lent))
 
--- A call with the bytes for WRITE, READ's buffer and ALLOC's places that are lent with it.
+-- A call with the bytes for WRITE, READ's buffer and the places of ALLOC and ALLOC_CONTIG that are lent with it.
 abbrev pub request : Call → List ℕ → List ℕ → List ℕ → Request
 request call input out places = record { call = call; lent = record { input = input; out = out; places = places } }
 
@@ -138,11 +141,12 @@ pub record Traits : Type 0 where
 abbrev pub plain : List Credential → Traits
 plain credentials = record { credentials = credentials; values = λ r. []; takesPointerTo = none }
 
--- A row for each call. A player reports READ's first 8 bytes and ALLOC's numbers.
+-- A row for each call. A player reports READ's first 8 bytes and the numbers of ALLOC and ALLOC_CONTIG.
 unfoldable pub traits : Call → Traits
 traits (Read o) = record { credentials = o .credential ∷ []; values = λ r. take 8 (r .out); takesPointerTo = none }
 traits (Write o) = plain (o .credential ∷ [])
 traits (Alloc o) = record { credentials = o .credential ∷ []; values = λ r. take (o .count) (r .places); takesPointerTo = none }
+traits (AllocContig o) = record { credentials = o .credential ∷ []; values = λ r. take (o .count) (r .places); takesPointerTo = none }
 traits (Create o) = plain (o .credential ∷ o .second ∷ [])
 traits (Delete o) = record { credentials = o .credential ∷ []; values = λ r. []; takesPointerTo = some (o .destination) }
 traits (Key o) = plain (o .credential ∷ [])

@@ -19,7 +19,7 @@ use Rattle.card.specs.declared.Refusal.the-variants.{Misshapen as Missha
 use Rattle.card.specs.declared.Answer.{Answer}
 use Rattle.card.specs.declared.Answer.the-variants.{Refused}
 use Rattle.card.specs.declared.Call.{Call}
-use Rattle.card.specs.declared.Call.the-variants.{Read, Write, Alloc, Create, Delete, Key, Renew, Force, Free, Tick, Audit}
+use Rattle.card.specs.declared.Call.the-variants.{Read, Write, Alloc, AllocContig, Create, Delete, Key, Renew, Force, Free, Tick, Audit}
 
 module _ (port : Port) (c : Card) (q : Request) where
   pub is-misshapen : verdict c ≡ Misshapen → Is (perform port c q) (Refused MisshapenRefusal) c (q .lent .out) (q .lent .places)
@@ -50,6 +50,7 @@ perform-portOf port c q = ap (judge c (q .lent)) (go (q .call))
     go (Read o) = refl
     go (Write o) = refl
     go (Alloc o) = refl
+    go (AllocContig o) = refl
     go (Create o) = refl
     go (Delete o) = refl
     go (Key o) = refl

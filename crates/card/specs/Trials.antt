@@ -4,14 +4,14 @@ use Prim.Native.Nat.{ℕ, zero}
 use mathlib.Core.Path.{_≡_, refl}
 use mathlib.Core.List.{List, [], _∷_, map}
 use lib.ListN.{replicate}
-use Rattle.card.specs.Lists.{every, all, any, allBelow, numbersBelow}
+use Rattle.card.specs.Lists.{every, all, any, allBelow, numbersBelow, numbersFrom}
 use Rattle.card.specs.Pointers.{ascending, contains, pointsFrom, pointersTo, insert, remove}
 use Rattle.card.specs.Contents.{overwrite, part, fill, zeros}
 use Rattle.card.specs.Card.{Card, card, allocated, hasKey, freeBlocks, windowOpen, pointsTo, hasPointers}
 use Rattle.card.specs.Soundness.{ranges, lengths, shape, flagsBelow8, rootAllocated, keyZero, unallocatedEmpty, absentKeyZero, countRight, pointedTo, windowInTime, pointerRight, sound}
 use Rattle.card.specs.Access.{keyIs, keyOpens, opensKeyed, opensRoot, opensPointed, opens, admits}
 use Rattle.card.specs.Plan.{first, audited, changePublic, changeKeys, changeContents, change, changes, outAfter, placesAfter, settle, judge, Buffers}
-use Rattle.card.specs.Calls.{rootAtHost, windowAfter, opensWindow, freshInfo, formatResult, format, readPlan, writePlan, wanted, nearest, picks, takeAll, allocPlan, createPlan, deletePlan, keyPlan, modeOf, renewPlan, forcePlan, freePlan, tickPlan, auditPlan}
+use Rattle.card.specs.Calls.{rootAtHost, windowAfter, opensWindow, freshInfo, formatResult, format, readPlan, writePlan, wanted, nearest, picks, takeAll, allocPlan, isRun, runStarts, nearestRun, allocContigPlan, createPlan, deletePlan, keyPlan, modeOf, renewPlan, forcePlan, freePlan, tickPlan, auditPlan}
 use Rattle.card.specs.Session.{Sent, plan, perform, reported, reports, traits}
 use Rattle.card.specs.declared.Port.{Port}
 use Rattle.card.specs.declared.Port.the-variants.{Host, Service}
@@ -20,11 +20,11 @@ use Rattle.card.specs.declared.Credential.the-variants.{Nothing, Referen
 use Rattle.card.specs.declared.NewKey.{NewKey}
 use Rattle.card.specs.declared.NewKey.the-variants.{Absent, Present}
 use Rattle.card.specs.declared.Call.{Call}
-use Rattle.card.specs.declared.Call.the-variants.{Read, Write, Alloc, Create, Delete, Key, Free, Tick}
+use Rattle.card.specs.declared.Call.the-variants.{Read, Write, Alloc, AllocContig, Create, Delete, Key, Free, Tick}
 
 -- To compute by the rules, a proof unfolds this one name.
 unfoldable pub rules : Unit {0}
-unfolding every all any allBelow numbersBelow ascending contains pointsFrom pointersTo insert remove overwrite part fill allocated hasKey freeBlocks windowOpen pointsTo hasPointers ranges lengths shape flagsBelow8 rootAllocated keyZero unallocatedEmpty absentKeyZero countRight pointedTo windowInTime pointerRight sound keyIs keyOpens opensKeyed opensRoot opensPointed opens admits first audited changePublic changeKeys changeContents change changes outAfter placesAfter settle judge rootAtHost windowAfter opensWindow formatResult format readPlan writePlan wanted nearest picks takeAll allocPlan createPlan deletePlan keyPlan modeOf renewPlan forcePlan freePlan tickPlan auditPlan plan perform reported reports traits
+unfolding every all any allBelow numbersBelow numbersFrom ascending contains pointsFrom pointersTo insert remove overwrite part fill allocated hasKey freeBlocks windowOpen pointsTo hasPointers ranges lengths shape flagsBelow8 rootAllocated keyZero unallocatedEmpty absentKeyZero countRight pointedTo windowInTime pointerRight sound keyIs keyOpens opensKeyed opensRoot opensPointed opens admits first audited changePublic changeKeys changeContents change changes outAfter placesAfter settle judge rootAtHost windowAfter opensWindow formatResult format readPlan writePlan wanted nearest picks takeAll allocPlan isRun runStarts nearestRun allocContigPlan createPlan deletePlan keyPlan modeOf renewPlan forcePlan freePlan tickPlan auditPlan plan perform reported reports traits
 rules = tt
 
 -- ---- the player's card
@@ -39,7 +39,7 @@ playerCard = format 16 1 512 blankCard .after
 
 -- ---- calls, as short as the trials have them
 
--- The player lends READ 512 bytes and ALLOC 64 places. They hold 255 beforehand, so that what a call leaves is seen.
+-- The player lends READ 512 bytes, and ALLOC and ALLOC_CONTIG 64 places. They hold 255 beforehand, so that what a call leaves is seen.
 abbrev pub lending : List ℕ → Buffers
 lending input = record { input = input; out = replicate 512 255; places = replicate 64 255 }
 
@@ -62,6 +62,9 @@ module _ (port : Port) where
 
   abbrev pub alloc : ℕ → ℕ → ℕ → Sent
   alloc reference hint count = send port (Alloc (record { reference = reference; credential = Nothing; hint = hint; count = count }))
+
+  abbrev pub allocContig : ℕ → ℕ → ℕ → Sent
+  allocContig reference hint count = send port (AllocContig (record { reference = reference; credential = Nothing; hint = hint; count = count }))
 
   abbrev pub create : ℕ → Credential → ℕ → Credential → Sent
   create a credential b second = send port (Create (record { source = a; credential = credential; destination = b; second = second }))

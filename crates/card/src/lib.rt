@@ -1,5 +1,5 @@
 // The types of the storage card: its record, credentials, calls, refusals and answers.
-// What they mean is defined in specs/, after document 01.
+// What they mean is defined in specs/, after document 01 and the requests of document 02.
 
 // The limits of document 01.
 
@@ -14,7 +14,7 @@ pub const TIME_LIMIT: u64 = 1099511627776;
 // The longest interval, in seconds.
 pub const LONGEST_INTERVAL: u32 = 86400;
 
-// The hint of an ALLOC without one, and the most blocks that one ALLOC takes.
+// The hint of an ALLOC or ALLOC_CONTIG without one, and the most blocks that one of them takes.
 pub const NO_HINT: u16 = 65535;
 
 pub const MOST_BLOCKS: u8 = 64;
@@ -66,6 +66,7 @@ pub struct WriteOperands {
     pub interval: u32,
 }
 
+// Of ALLOC and of ALLOC_CONTIG.
 pub struct AllocOperands {
     pub reference: u16,
     pub credential: Credential,
@@ -116,6 +117,7 @@ pub enum Call {
     Read(ReadOperands),
     Write(WriteOperands),
     Alloc(AllocOperands),
+    AllocContig(AllocOperands),
     Create(CreateOperands),
     Delete(DeleteOperands),
     Key(KeyOperands),
@@ -126,7 +128,7 @@ pub enum Call {
     Audit,
 }
 
-// Why a call is refused, in the order of document 01's numbers 1 to 13.
+// Why a call is refused, in the order of the numbers: 1 to 13 of document 01, 14 of the request 2026-01.
 pub enum Refusal {
     Misshapen,
     Unsound,
@@ -141,10 +143,11 @@ pub enum Refusal {
     TooFewPlaces,
     TimeEnds,
     BadRecord,
+    NoRun,
 }
 
 // What a call answers: a refusal, done with no result, or done with one number.
-// The bytes of READ and the numbers of ALLOC are in the lent buffers.
+// The bytes of READ and the numbers of ALLOC and ALLOC_CONTIG are in the lent buffers.
 pub enum Answer {
     Refused(Refusal),
     Done,

@@ -15,7 +15,7 @@ use Rattle.card.specs.Soundness.{timeLimit}
 use Rattle.card.specs.SoundCard.{SoundCard}
 use Rattle.card.specs.SoundnessLaws.{allocated-below}
 use Rattle.card.specs.Plan.{NoneHolds, setWindow, takeBlock, freeBlock, addPointer, dropPointer, withFlags, changePublic, change, changes, Buffers, Result, settle}
-use Rattle.card.specs.Calls.{missing, windowAfter, opensWindow, wanted, picks, takeAll, closeWindows, modeOf, readPlan, writePlan, allocPlan, createPlan, deletePlan, keyPlan, renewPlan, forcePlan, freePlan, tickPlan, auditPlan}
+use Rattle.card.specs.Calls.{missing, windowAfter, opensWindow, wanted, picks, takeAll, closeWindows, modeOf, readPlan, writePlan, allocPlan, runStarts, nearestRun, allocContigPlan, createPlan, deletePlan, keyPlan, renewPlan, forcePlan, freePlan, tickPlan, auditPlan}
 use Rattle.card.specs.Session.{Request, plan, perform}
 use Rattle.card.specs.declared.Port.{Port}
 use Rattle.card.specs.declared.Port.the-variants.{Host, Service}
@@ -33,12 +33,13 @@ use Rattle.card.specs.declared.TickOperands.{TickOperands}
 use Rattle.card.specs.declared.Refusal.{Refusal}
 use Rattle.card.specs.declared.Answer.the-variants.{Refused}
 use Rattle.card.specs.declared.Call.{Call}
-use Rattle.card.specs.declared.Call.the-variants.{Read, Write, Alloc, Create, Delete, Key, Renew, Force, Free, Tick, Audit}
+use Rattle.card.specs.declared.Call.the-variants.{Read, Write, Alloc, AllocContig, Create, Delete, Key, Renew, Force, Free, Tick, Audit}
 use Rattle.card.specs.ChangesLaws.{keyedFlag, keyedFlag-allocated}
 use Rattle.card.proofs.Guarantees.Steps.{allocated-set, allocated-other, unallocated-flag, setWindow-sound, setBlock-sound, setKeys-sound, setTime-sound}
 use Rattle.card.specs.ChangesLaws.{inserted-length}
 use Rattle.card.proofs.Guarantees.PointerSteps.{sound-but, addPointer-sound, takeAdd-sound, dropOne-sound, dropLast-sound}
 use Rattle.card.specs.PicksLaws.{Without, distinct-head, distinct-tail, Takeable, picks-takeable, picks-length}
+use Rattle.card.specs.RunsLaws.{run-takeable, run-length}
 use Rattle.card.proofs.Guarantees.Judged.{judge-cases, judge-after}
 
 -- A block that passes the check "allocated" is allocated.
@@ -184,6 +185,16 @@ alloc-sound port c opened o places s h =
     (picks-takeable p (wanted (o .hint)) (o .count))
     (omega (arith, picks-length (wanted (o .hint)) (o .count) (freeBlocks p) enough))
 
+contig-sound : (port : Port) (c : Card) (opened : Bool) (o : AllocOperands) (places : ℕ) → SoundCard c
+    → NoneHolds (allocContigPlan port (c .public) opened o places .checks) → SoundCard (changes c (allocContigPlan port (c .public) opened o places .steps))
+unfolding allocContigPlan
+contig-sound port c opened o places s h =
+    let p : Public = c .public in
+    let room : p .info .used + o .count ≤ length (p .pointers) = ltb-false _ _ (h .1 .1 .1 .1 .1 .1 .0) in
+    takeAll-sound (o .reference) (nearestRun (wanted (o .hint)) (o .count) (runStarts p (o .count))) s (not-missing _ _ (h .1 .0))
+    (run-takeable p (o .count) (wanted (o .hint)))
+    (omega (arith, run-length p (o .count) (wanted (o .hint)) (eqb-false _ _ (h .1 .1 .1 .1 .1 .0))))
+
 -- ---- every call
 
 call-sound : (port : Port) (c : Card) (call : Call) (lent : Buffers) → SoundCard c → NoneHolds (plan port c call lent .checks)
@@ -192,6 +203,7 @@ unfolding plan freePlan auditPlan changes
 call-sound port c (Read o) lent = read-sound port c _ o _
 call-sound port c (Write o) lent = write-sound port c _ o _
 call-sound port c (Alloc o) lent = alloc-sound port c _ o _
+call-sound port c (AllocContig o) lent = contig-sound port c _ o _
 call-sound port c (Create o) lent = create-sound port c _ _ o
 call-sound port c (Delete o) lent = delete-sound port c _ o
 call-sound port c (Key o) lent = key-sound port c _ o

@@ -16,7 +16,7 @@ use Rattle.card.specs.Card.{Public, Card, allocatedFlag, allocated, free
 use Rattle.card.specs.SoundCard.{SoundCard}
 use Rattle.card.specs.SoundnessLaws.{allocated-below, flag-allocated}
 use Rattle.card.specs.Plan.{NoneHolds, setWindow, setBlock, takeBlock, freeBlock, addPointer, dropPointer, withFlags, changePublic, changeContents, change, changes, Buffers}
-use Rattle.card.specs.Calls.{windowAfter, opensWindow, wanted, picks, takeAll, readPlan, writePlan, allocPlan, createPlan, deletePlan, keyPlan, renewPlan, forcePlan, freePlan, tickPlan, auditPlan}
+use Rattle.card.specs.Calls.{windowAfter, opensWindow, wanted, picks, takeAll, readPlan, writePlan, allocPlan, allocContigPlan, createPlan, deletePlan, keyPlan, renewPlan, forcePlan, freePlan, tickPlan, auditPlan}
 use Rattle.card.specs.Session.{Request, plan, perform}
 use Rattle.card.specs.declared.Port.{Port}
 use Rattle.card.specs.declared.Port.the-variants.{Host, Service}
@@ -27,10 +27,11 @@ use Rattle.card.specs.declared.DeleteOperands.{DeleteOperands}
 use Rattle.card.specs.declared.AllocOperands.{AllocOperands}
 use Rattle.card.specs.declared.KeyOperands.{KeyOperands}
 use Rattle.card.specs.declared.Call.{Call}
-use Rattle.card.specs.declared.Call.the-variants.{Read, Write, Alloc, Create, Delete, Key, Renew, Force, Free, Tick, Audit}
+use Rattle.card.specs.declared.Call.the-variants.{Read, Write, Alloc, AllocContig, Create, Delete, Key, Renew, Force, Free, Tick, Audit}
 use Rattle.card.specs.ChangesLaws.{keyedFlag}
 use Rattle.card.proofs.Guarantees.Steps.{block-within, allocated-other}
-use Rattle.card.specs.PicksLaws.{picks-takeable}
+use Rattle.card.specs.PicksLaws.{Takeable, picks-takeable}
+use Rattle.card.specs.RunsLaws.{run-takeable}
 use Rattle.card.proofs.Guarantees.KeepsSound.{not-missing}
 use Rattle.card.proofs.Guarantees.Judged.{judge-after}
 
@@ -186,23 +187,20 @@ module _ (reference b : ℕ) where
       (takeAll-untouched bs next nextFits rest (still-free c reference x fits below b other ∙ free)))
       (same-or-other b x)
 
-alloc-untouched : (port : Port) (c : Card) (opened : Bool) (o : AllocOperands) (places b : ℕ) → allocated (c .public) b ≡ false → SoundCard c
-    → Untouched c (changes c (allocPlan port (c .public) opened o places .steps)) b
-unfolding allocPlan
-alloc-untouched port c opened o places b free s =
-    takeAll-untouched (o .reference) b (picks (wanted (o .hint)) (o .count) (freeBlocks (c .public))) c
-    (record { flags = s .shaped .hasLengths .flags; contents = s .shaped .hasLengths .contents })
-    (picks-takeable (c .public) (wanted (o .hint)) (o .count) .below)
-    free
+allotted-untouched : (c : Card) (reference : ℕ) (bs : List ℕ) (b : ℕ) → allocated (c .public) b ≡ false → SoundCard c → Takeable (c .public) bs
+    → Untouched c (changes c (takeAll reference bs)) b
+allotted-untouched c reference bs b free s t =
+    takeAll-untouched reference b bs c (record { flags = s .shaped .hasLengths .flags; contents = s .shaped .hasLengths .contents }) (t .below) free
 
 -- ---- every call
 
 call-untouched : (port : Port) (c : Card) (call : Call) (lent : Buffers) (b : ℕ) → allocated (c .public) b ≡ false → SoundCard c
     → NoneHolds (plan port c call lent .checks) → Untouched c (changes c (plan port c call lent .steps)) b
-unfolding plan readPlan createPlan renewPlan forcePlan freePlan tickPlan auditPlan changes change changePublic changeContents allocated
+unfolding plan readPlan allocPlan allocContigPlan createPlan renewPlan forcePlan freePlan tickPlan auditPlan changes change changePublic changeContents allocated
 call-untouched port c (Read o) lent b free s h = inl (opensWindow-left port c (c .public) Reading (o .block) (o .interval) b free)
 call-untouched port c (Write o) lent b free s h = inl (write-left port c _ o (lent .input) b free s h)
-call-untouched port c (Alloc o) lent b free s h = alloc-untouched port c _ o _ b free s
+call-untouched port c (Alloc o) lent b free s h = allotted-untouched c (o .reference) _ b free s (picks-takeable (c .public) (wanted (o .hint)) (o .count))
+call-untouched port c (AllocContig o) lent b free s h = allotted-untouched c (o .reference) _ b free s (run-takeable (c .public) (o .count) (wanted (o .hint)))
 call-untouched port c (Create o) lent b free s h = inl (record { notAllocated = free; same = refl })
 call-untouched port c (Delete o) lent b free s h = inl (delete-left port c _ o b free h)
 call-untouched port c (Key o) lent b free s h = inl (key-left port c _ o b free h)

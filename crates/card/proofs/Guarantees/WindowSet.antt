@@ -10,7 +10,7 @@ use lib.ListN.{set}
 use Rattle.card.specs.Card.{Public, Card, freeBlocks, windowAt, windowEnd, count}
 use Rattle.card.specs.Plan.{first, audited, Change, setWindow, setBlock, setKeys, takeBlock, freeBlock, addPointer, dropPointer, setTime, withFlags, withWindow, freedFlag, changePublic, change, changes, Buffers, Result, done, settle, judge}
 use Rattle.card.specs.ChangesLaws.{getD-set-either, getD-set-changed, windowAt-block, windowAt-mode}
-use Rattle.card.specs.Calls.{windowAfter, opensWindow, wanted, picks, takeAll, modeOf, readPlan, writePlan, allocPlan, createPlan, deletePlan, keyPlan, renewPlan, forcePlan, freePlan, tickPlan, auditPlan}
+use Rattle.card.specs.Calls.{windowAfter, opensWindow, wanted, picks, takeAll, modeOf, readPlan, writePlan, allocPlan, runStarts, nearestRun, allocContigPlan, createPlan, deletePlan, keyPlan, renewPlan, forcePlan, freePlan, tickPlan, auditPlan}
 use Rattle.card.specs.Session.{Request, plan, portOf, perform}
 use Rattle.card.specs.declared.Port.{Port}
 use Rattle.card.specs.declared.Port.the-variants.{Host, Service}
@@ -22,7 +22,7 @@ use Rattle.card.specs.declared.RenewOperands.{RenewOperands}
 use Rattle.card.specs.declared.Refusal.{Refusal}
 use Rattle.card.specs.declared.Answer.the-variants.{Done}
 use Rattle.card.specs.declared.Call.{Call}
-use Rattle.card.specs.declared.Call.the-variants.{Read, Write, Alloc, Create, Delete, Key, Renew, Force, Free, Tick, Audit}
+use Rattle.card.specs.declared.Call.the-variants.{Read, Write, Alloc, AllocContig, Create, Delete, Key, Renew, Force, Free, Tick, Audit}
 
 -- ---- the statement
 
@@ -141,7 +141,7 @@ opensWindow-set Service c mode a interval m b s = absurd (s .changed refl)
 
 plan-set : (port : Port) (c : Card) (call : Call) (lent : Buffers) (m : Mode) (b : ℕ)
     → SetFrom (c .public) (changes c (plan port c call lent .steps) .public) m b → SetBy port c call (done c lent (plan port c call lent)) m b
-unfolding plan portOf readPlan writePlan allocPlan createPlan deletePlan keyPlan renewPlan forcePlan freePlan tickPlan auditPlan changes change changePublic
+unfolding plan portOf readPlan writePlan allocPlan allocContigPlan createPlan deletePlan keyPlan renewPlan forcePlan freePlan tickPlan auditPlan changes change changePublic
 plan-set port c (Read o) lent m b s =
     let r = opensWindow-set port c Reading (o .block) (o .interval) m b s in
     record { atHost = r .0; answer = refl; interval = o .interval; sets = byRead (r .1 .sameMode) (r .1 .sameBlock); end = r .1 .end }
@@ -150,6 +150,8 @@ plan-set port c (Write o) lent m b s =
     record { atHost = r .0; answer = refl; interval = o .interval; sets = byWrite (r .1 .sameMode) (r .1 .sameBlock); end = r .1 .end }
 plan-set port c (Alloc o) lent m b s =
     never-set m b c (plan port c (Alloc o) lent .steps) (takes-close (o .reference) (picks (wanted (o .hint)) (o .count) (freeBlocks (c .public)))) s
+plan-set port c (AllocContig o) lent m b s =
+    never-set m b c (plan port c (AllocContig o) lent .steps) (takes-close (o .reference) (nearestRun (wanted (o .hint)) (o .count) (runStarts (c .public) (o .count)))) s
 plan-set port c (Create o) lent m b s = never-set m b c (plan port c (Create o) lent .steps) (tt, tt) s
 plan-set port c (Delete o) lent m b s = never-set m b c (plan port c (Delete o) lent .steps) (tt, go (eqb (count (c .public) (o .destination)) 1)) s
   where

@@ -19,7 +19,7 @@ use Rattle.card.specs.SoundCard.{SoundCard}
 use Rattle.card.specs.SoundnessLaws.{pointerRight-true, allocated-below}
 use Rattle.card.specs.Access.{opens, admits}
 use Rattle.card.specs.Plan.{NoneHolds, setWindow, setBlock, setKeys, takeBlock, freeBlock, addPointer, dropPointer, changePublic, change, Shown, nothing, blockPart, numbers, Plan, Buffers}
-use Rattle.card.specs.Calls.{windowAfter, opensWindow, modeOf, wanted, picks, takeAll, readPlan, writePlan, allocPlan, createPlan, deletePlan, keyPlan, renewPlan, forcePlan, freePlan, tickPlan, auditPlan}
+use Rattle.card.specs.Calls.{windowAfter, opensWindow, modeOf, wanted, picks, takeAll, readPlan, writePlan, allocPlan, runStarts, nearestRun, allocContigPlan, createPlan, deletePlan, keyPlan, renewPlan, forcePlan, freePlan, tickPlan, auditPlan}
 use Rattle.card.specs.Session.{plan, traits}
 use Rattle.card.specs.Reach.{shows, presents, someShows}
 use Rattle.card.specs.declared.Port.the-variants.{Host}
@@ -36,8 +36,9 @@ use Rattle.card.specs.declared.RenewOperands.{RenewOperands}
 use Rattle.card.specs.declared.ForceOperands.{ForceOperands}
 use Rattle.card.specs.declared.TickOperands.{TickOperands}
 use Rattle.card.specs.declared.Call.{Call}
-use Rattle.card.specs.declared.Call.the-variants.{Read, Write, Alloc, Create, Delete, Key, Renew, Force, Free, Tick, Audit}
-use Rattle.card.specs.PicksLaws.{Without, Distinct, none, more, picks-takeable}
+use Rattle.card.specs.declared.Call.the-variants.{Read, Write, Alloc, AllocContig, Create, Delete, Key, Renew, Force, Free, Tick, Audit}
+use Rattle.card.specs.PicksLaws.{Without, Distinct, none, more, Takeable, picks-takeable}
+use Rattle.card.specs.RunsLaws.{run-takeable}
 use Rattle.card.proofs.Secrecy.Closed.{Closed, Regular, Grown, inUse-added, used-added}
 use Rattle.card.proofs.Secrecy.StepsAlike.{AllowedAll}
 use Rattle.card.proofs.Secrecy.Opened.{AllPresented, opened-within}
@@ -183,17 +184,19 @@ module _ (K : ℕ → ℕ → Bool) (G : ℕ → Type 0) (c : Card) (s : SoundCa
             ((g, below (o .block) (n .1 .0), eqb-true _ _ (not-false _ (or-false-left _ _ (n .0)))), window-allowed (Grown G (setBlock (o .block) (lent .input))) (c .public) (c .public) Writing (o .block) (o .interval) (inl g));
       }
 
+  -- Blocks that can be taken may be taken and pointed to.
+  allotted : (reference : ℕ) → not (allocated (c .public) reference) ≡ false → {bs : List ℕ} → Takeable (c .public) bs → AllowedAll G (c .public) (takeAll reference bs)
+  allotted reference a {bs} t =
+      takeAll-allowed G (c .public) reference bs (s .shaped .inRanges .blocksHigh) (s .shaped .usedHigh)
+      (ready s reference (not-false _ a) bs (t .below) (t .free) (t .distinct))
+
   safe-alloc : (o : AllocOperands) (lent : Buffers) → NoneHolds (plan Host c (Alloc o) lent .checks) → Safe G c (plan Host c (Alloc o) lent)
   unfolding plan allocPlan
-  safe-alloc o lent n =
-      let t = picks-takeable (c .public) (wanted (o .hint)) (o .count) in
-      record {
-        shownIn = tt;
-        allowed =
-            takeAll-allowed G (c .public) (o .reference) (picks (wanted (o .hint)) (o .count) (freeBlocks (c .public)))
-            (s .shaped .inRanges .blocksHigh) (s .shaped .usedHigh)
-            (ready s (o .reference) (not-false _ (n .1 .0)) (picks (wanted (o .hint)) (o .count) (freeBlocks (c .public))) (t .below) (t .free) (t .distinct));
-      }
+  safe-alloc o lent n = record { shownIn = tt; allowed = allotted (o .reference) (n .1 .0) (picks-takeable (c .public) (wanted (o .hint)) (o .count)) }
+
+  safe-contig : (o : AllocOperands) (lent : Buffers) → NoneHolds (plan Host c (AllocContig o) lent .checks) → Safe G c (plan Host c (AllocContig o) lent)
+  unfolding plan allocContigPlan
+  safe-contig o lent n = record { shownIn = tt; allowed = allotted (o .reference) (n .1 .0) (run-takeable (c .public) (o .count) (wanted (o .hint))) }
 
   safe-create : (o : CreateOperands) (lent : Buffers) → CallPresents K (Create o) → NoneHolds (plan Host c (Create o) lent .checks) → Safe G c (plan Host c (Create o) lent)
   unfolding plan createPlan presents someShows traits
@@ -253,6 +256,7 @@ module _ (K : ℕ → ℕ → Bool) (G : ℕ → Type 0) (c : Card) (s : SoundCa
   safe (Read o) lent k n = safe-read o lent k n
   safe (Write o) lent k n = safe-write o lent k n
   safe (Alloc o) lent k n = safe-alloc o lent n
+  safe (AllocContig o) lent k n = safe-contig o lent n
   safe (Create o) lent k n = safe-create o lent k n
   safe (Delete o) lent k n = safe-delete o lent n
   safe (Key o) lent k n = safe-key o lent k n

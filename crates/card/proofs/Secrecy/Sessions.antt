@@ -14,7 +14,7 @@ use Rattle.card.specs.SoundCard.{SoundCard}
 use Rattle.card.specs.Access.{opens, admits}
 use Rattle.card.specs.Plan.{setWindow, freeBlock, first, Shown, nothing, blockPart, numbers, Plan, Buffers, Result, refused, done, outAfter, settle, judgeSound}
 use Rattle.card.specs.PlanLaws.{first-none, judge-sound}
-use Rattle.card.specs.Calls.{opensWindow, windowAfter, modeOf, wanted, picks, takeAll, readPlan, writePlan, allocPlan, createPlan, deletePlan, keyPlan, renewPlan, forcePlan, freePlan, tickPlan, auditPlan}
+use Rattle.card.specs.Calls.{opensWindow, windowAfter, modeOf, wanted, picks, takeAll, readPlan, writePlan, allocPlan, runStarts, nearestRun, allocContigPlan, createPlan, deletePlan, keyPlan, renewPlan, forcePlan, freePlan, tickPlan, auditPlan}
 use Rattle.card.specs.Session.{Request, plan, perform, reply, replies, afterAll, hostSession, traits}
 use Rattle.card.specs.Reach.{shows, presents, someShows, presented, takesLast, isOne, lastTaken}
 use Rattle.card.specs.declared.Port.the-variants.{Host}
@@ -24,7 +24,7 @@ use Rattle.card.specs.declared.Credential.{Credential}
 use Rattle.card.specs.declared.Credential.the-variants.{Key as KeyCredential}
 use Rattle.card.specs.declared.Refusal.{Refusal}
 use Rattle.card.specs.declared.Call.{Call}
-use Rattle.card.specs.declared.Call.the-variants.{Read, Write, Alloc, Create, Delete, Key, Renew, Force, Free, Tick, Audit}
+use Rattle.card.specs.declared.Call.the-variants.{Read, Write, Alloc, AllocContig, Create, Delete, Key, Renew, Force, Free, Tick, Audit}
 use Rattle.card.proofs.Secrecy.Closed.{Closed}
 use Rattle.card.proofs.Secrecy.StepsAlike.{Alike, Kept, GrownAll, grows, closed-changes, alike-changes, covered, FreesNone, KeptApart, apart-changes}
 use Rattle.card.proofs.Secrecy.Opened.{AllPresented}
@@ -61,6 +61,8 @@ module _ (K : ℕ → ℕ → Bool) (L : Public → List ℕ → List ℕ → Ty
       ap₂ (λ (p : Public) (t : Bool). writePlan Host p t o (lent .input)) (alike .samePublic) (same-opens Writing (o .block) (o .credential) k)
   plan-same (Alloc o) lent k =
       ap₂ (λ (p : Public) (t : Bool). allocPlan Host p t o (length (lent .places))) (alike .samePublic) (same-opens Writing (o .reference) (o .credential) k)
+  plan-same (AllocContig o) lent k =
+      ap₂ (λ (p : Public) (t : Bool). allocContigPlan Host p t o (length (lent .places))) (alike .samePublic) (same-opens Writing (o .reference) (o .credential) k)
   plan-same (Create o) lent k =
       let source = same-opens Writing (o .source) (o .credential) (λ high low h. k high low (or-left _ _ h)) in
       let destination = same-opens Writing (o .destination) (o .second) (λ high low h. k high low (or-right (shows (o .credential) high low) _ h)) in
@@ -168,7 +170,7 @@ takes-free-none reference (b ∷ bs) x = (λ f. f, (λ f. f, takes-free-none ref
 
 -- A call that does not take the block's last pointer away frees it by no change.
 frees-none : (c : Card) (call : Call) (lent : Buffers) (x : ℕ) → takesLast call (plan Host c call lent .answer) x ≡ false → FreesNone (plan Host c call lent .steps) x
-unfolding plan takesLast isOne readPlan writePlan allocPlan createPlan deletePlan keyPlan renewPlan forcePlan freePlan tickPlan auditPlan opensWindow traits
+unfolding plan takesLast isOne readPlan writePlan allocPlan allocContigPlan createPlan deletePlan keyPlan renewPlan forcePlan freePlan tickPlan auditPlan opensWindow traits
 frees-none c (Read o) lent x e = go (eqb (o .interval) 0)
   where
     go : (t : Bool) → FreesNone (cond t [] (setWindow Reading (o .block) (windowAfter (c .public) Reading (o .block) (o .interval)) ∷ [])) x
@@ -180,6 +182,7 @@ frees-none c (Write o) lent x e = (λ f. f, go (eqb (o .interval) 0))
     go true = tt
     go false = (λ f. f, tt)
 frees-none c (Alloc o) lent x e = takes-free-none (o .reference) (picks (wanted (o .hint)) (o .count) (freeBlocks (c .public))) x
+frees-none c (AllocContig o) lent x e = takes-free-none (o .reference) (nearestRun (wanted (o .hint)) (o .count) (runStarts (c .public) (o .count))) x
 frees-none c (Create o) lent x e = (λ f. f, tt)
 frees-none c (Delete o) lent x e = (λ f. f, go (eqb (count (c .public) (o .destination)) 1) e)
   where
