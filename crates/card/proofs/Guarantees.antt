@@ -9,4 +9,5 @@ pub mod Unchanged
 pub mod Untouched
 pub mod Safe
 pub mod RefusedIff
+pub mod Runs
 pub mod WindowSet

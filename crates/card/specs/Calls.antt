@@ -211,6 +211,7 @@ nearestRun want count (x ∷ xs) = numbersFrom (nearest want x xs) count
 -- "body and checks as ALLOC", and 14 "after 10, before 11": "enough blocks are free but no count of them adjoin".
 unfoldable pub allocContigPlan : Port → Public → Bool → AllocOperands → ℕ → Plan
 allocContigPlan port p opened o places =
+    let free = length (freeBlocks p) in
     let starts = runStarts p (o .count) in
     let taken = nearestRun (wanted (o .hint)) (o .count) starts in
     record {
@@ -223,7 +224,7 @@ allocContigPlan port p opened o places =
           ∷ (missing p (o .reference) ⇒ NotAllocated)
           ∷ (rootAtHost port p (o .reference) ⇒ IsRoot)
           ∷ (not opened ⇒ NotOpened)
-          ∷ (ltb (length (freeBlocks p)) (o .count) ⇒ TooFewBlocks)
+          ∷ (ltb free (o .count) ⇒ TooFewBlocks)
           ∷ (eqb (length starts) 0 ⇒ NoRun)
           ∷ (ltb (length (p .pointers)) (p .info .used + o .count) ⇒ TooFewPlaces)
           ∷ [];

@@ -1,5 +1,5 @@
 -- Document 01, "Marked trials" T1 to T12, its example of ten records as calls, and its mistakes to exclude, each in a row of its own or one of these:
--- rows of one table, shown of the rules by one proof that is computed.
+-- rows of one table, shown of the rules by one proof that is computed. Behind them rows of the requests.
 use Prim.Native.Nat.{ℕ, zero}
 use mathlib.Core.Path.{_≡_, refl}
 use mathlib.Core.List.{List, [], _∷_, map}
@@ -181,6 +181,16 @@ trialTable =
     ∷ writeAll Host 1 (Reference 0) 0 7
     ∷ []
     yields (0 ∷ 1 ∷ []) ∷ (0 ∷ []) ∷ (5 ∷ []) ∷ (0 ∷ []) ∷ [])
+    -- 2026-01: nearest is measured at the run's first block
+    ∷ (allocContig Service 0 8 3 ∷ [] yields (0 ∷ 8 ∷ 9 ∷ 10 ∷ []) ∷ [])
+    ∷ (allocContig Service 0 15 2 ∷ [] yields (0 ∷ 14 ∷ 15 ∷ []) ∷ [])
+    -- 2026-01: with block 8 taken 14 are free, of which 7 adjoin at most; without a hint the lowest run
+    ∷ (alloc Service 0 8 1
+    ∷ allocContig Service 0 65535 15
+    ∷ allocContig Service 0 65535 8
+    ∷ allocContig Service 0 65535 7
+    ∷ []
+    yields (0 ∷ 8 ∷ []) ∷ (10 ∷ []) ∷ (14 ∷ []) ∷ (0 ∷ 1 ∷ 2 ∷ 3 ∷ 4 ∷ 5 ∷ 6 ∷ 7 ∷ []) ∷ [])
     ∷ []
 
 -- What the rules report of a row's calls.

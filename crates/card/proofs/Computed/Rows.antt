@@ -17,15 +17,16 @@ use Rattle.card.specs.declared.Port.the-variants.{Host, Service}
 use Rattle.card.specs.declared.Mode.the-variants.{Reading}
 use Rattle.card.specs.declared.Credential.{Credential}
 use Rattle.card.specs.declared.Credential.the-variants.{Nothing, Reference, Key as KeyCredential}
+use Rattle.card.specs.declared.AllocOperands.{AllocOperands}
 use Rattle.card.specs.declared.Call.the-variants.{Alloc, Delete, Renew, Free, Tick}
 use Rattle.card.proofs.Secrecy.Bounds.{bounds}
 use Rattle.card.proofs.Secrecy.Example.{hosted}
 use Rattle.card.proofs.Computed.Same.{sameList, sameLists, replyNumbers, allLines}
-use Rattle.card.proofs.Computed.Tests.{refusalUnchangedTest, portsAlikeTest, doneSoundTest, countsRightTest, pointersAscendingTest, formatSoundTest, untouchedTest, firstNumber, refusedIffTest, windowSetByTest, withContents, sameHiddenTest, secrecyTest, trialsTest}
+use Rattle.card.proofs.Computed.Tests.{refusalUnchangedTest, portsAlikeTest, doneSoundTest, countsRightTest, pointersAscendingTest, formatSoundTest, untouchedTest, firstNumber, refusedIffTest, noneHold, runFoundTest, runAdjoinsTest, runNearestTest, windowSetByTest, withContents, sameHiddenTest, secrecyTest, trialsTest}
 
 -- To compute a row, its proof unfolds this one name. A wrong rule makes use of `orElse`.
 unfoldable pub computing : Unit {0}
-unfolding orElse rules playerCard refusals portOf replies afterAll traits shows someShows presents presented keyPresented sealed isOne takesLast lastTaken trialTable trialReports bounds sameList sameLists replyNumbers allLines firstNumber
+unfolding orElse rules playerCard refusals portOf replies afterAll traits shows someShows presents presented keyPresented sealed isOne takesLast lastTaken trialTable trialReports bounds sameList sameLists replyNumbers allLines firstNumber noneHold
 computing = tt
 
 -- ---- cards, drawn by hand: no rule has made them
@@ -45,6 +46,20 @@ chain = drawn 2 (1 ∷ 1 ∷ 1 ∷ zeros 13) (zeros 64) (0 ∷ 1 ∷ 1 ∷ zeros
 -- The root points to blocks 1 and 2, and block 1 to block 2.
 abbrev twice : Card
 twice = drawn 3 (1 ∷ 1 ∷ 1 ∷ zeros 13) (zeros 64) (0 ∷ 1 ∷ 2 ∷ zeros 13) (1 ∷ 2 ∷ 65538 ∷ zeros 29) (zeros 8192)
+
+-- The root points to block 2 alone, so that block 1 is free between two that are not.
+abbrev gapped : Card
+gapped = drawn 1 (1 ∷ 0 ∷ 1 ∷ zeros 13) (zeros 64) (0 ∷ 0 ∷ 1 ∷ zeros 13) (2 ∷ zeros 31) (zeros 8192)
+
+-- The root points to all blocks but 5 to 7 and 12 to 15, and there are so many places left for pointers.
+abbrev apart : ℕ → Card
+apart left =
+    drawn 8
+    (1 ∷ 1 ∷ 1 ∷ 1 ∷ 1 ∷ 0 ∷ 0 ∷ 0 ∷ 1 ∷ 1 ∷ 1 ∷ 1 ∷ zeros 4)
+    (zeros 64)
+    (0 ∷ 1 ∷ 1 ∷ 1 ∷ 1 ∷ 0 ∷ 0 ∷ 0 ∷ 1 ∷ 1 ∷ 1 ∷ 1 ∷ zeros 4)
+    (1 ∷ 2 ∷ 3 ∷ 4 ∷ 8 ∷ 9 ∷ 10 ∷ 11 ∷ zeros left)
+    (zeros 8192)
 
 -- The root points to block 1, which has both keys.
 abbrev keyed : List ℕ → Card
@@ -159,6 +174,43 @@ done-though-refused = refl
 pub last-refusal-answered : refusedIffTest playerCard (read Host 5 Nothing 86401) ≡ true
 unfolding computing
 last-refusal-answered = refl
+
+-- ---- run-found, run-adjoins and run-nearest: a run below the root, by its hint and count
+
+abbrev below0 : ℕ → ℕ → AllocOperands
+below0 hint count = record { reference = 0; credential = Nothing; hint = hint; count = count }
+
+pub run-in-the-first-stretch-alone : runFoundTest Service gapped (below0 65535 3) (lending []) ≡ true
+unfolding computing
+run-in-the-first-stretch-alone = refl
+
+pub fourteen-before-ten : runFoundTest Service playerCard (below0 65535 16) (lending []) ≡ true
+unfolding computing
+fourteen-before-ten = refl
+
+pub eleven-before-fourteen : runFoundTest Service (apart 0) (below0 65535 5) (lending []) ≡ true
+unfolding computing
+eleven-before-fourteen = refl
+
+pub allocated-block-in-the-middle : runAdjoinsTest Service gapped (below0 65535 3) (lending []) ≡ true
+unfolding computing
+allocated-block-in-the-middle = refl
+
+pub run-past-the-last-block : runAdjoinsTest Service playerCard (below0 15 2) (lending []) ≡ true
+unfolding computing
+run-past-the-last-block = refl
+
+pub run-given-descending : runAdjoinsTest Service playerCard (below0 8 3) (lending []) ≡ true
+unfolding computing
+run-given-descending = refl
+
+pub nearest-block-for-the-first : runNearestTest Service (apart 24) (below0 9 3) (lending []) 12 ≡ true
+unfolding computing
+nearest-block-for-the-first = refl
+
+pub hint-passed-over : runNearestTest Service playerCard (below0 8 3) (lending []) 8 ≡ true
+unfolding computing
+hint-passed-over = refl
 
 -- ---- window-set-by
 

@@ -1,23 +1,25 @@
 -- For each theorem about the rules a test: what it says of given cards and calls, or a part of it, as a value that can be computed.
 -- Each test is shown to hold of everything by its theorem. So where a test is false, its theorem is false.
-use Prim.Native.Nat.{ℕ, zero, suc, _<_}
+use Prim.Native.Nat.{ℕ, zero, suc, _+_, _<_}
 use mathlib.Core.Path.{_≡_, refl, sym, ap, _∙_, subst}
 use mathlib.Core.Logic.{_⊎_, inl, inr, ⊎-elim}
 use mathlib.Core.Bool.{Bool, true, false, _&&_, _||_, not, cond}
 use mathlib.Core.List.{List, [], _∷_, map}
-use lib.Dec.{eqb}
-use lib.ListN.{drop}
-use borrow.Author.Tests.{eqb-false, eq-eqb, not-true}
+use lib.Dec.{eqb, ltb, leb}
+use lib.ListN.{length, take, drop, getD}
+use native.Mathlib.Omega.{arith}
+use borrow.Author.Tests.{lt-ltb, ltb-true, le-leb, leb-true, eqb-true, eqb-false, eq-eqb, not-true}
 use Rattle.card.specs.Lists.{every, all, allBelow}
 use Rattle.card.specs.ListsLaws.{and-left, and-right, and-true, or-left, or-right, or-cases, or-else, absurd-test, false-unless, not-cases, every-true, true-every, allBelow-true, true-allBelow}
 use Rattle.card.specs.Pointers.{ascending, pointersTo}
 use Rattle.card.specs.Contents.{zeros}
-use Rattle.card.specs.Card.{Card, allocated, isRoot, windowEnd, count, inUse, block}
+use Rattle.card.specs.Card.{Card, allocated, isRoot, freeBlocks, windowEnd, count, inUse, block}
 use Rattle.card.specs.Soundness.{ranges, lengths, shape, sound}
 use Rattle.card.specs.SoundCard.{SoundCard}
 use Rattle.card.specs.SoundnessLaws.{shape-true, true-shape, sound-true, true-sound}
 use Rattle.card.specs.Plan.{Check, _⇒_, FirstHolds, here, later, NoneHolds, Buffers, Result}
-use Rattle.card.specs.Calls.{refusalNumber, answerNumber, answerValues, isDone, format}
+use Rattle.card.specs.Calls.{refusalNumber, answerNumber, answerValues, isDone, format, noHint, distance, isRun}
+use Rattle.card.specs.RunsLaws.{run-blocks, blocks-run}
 use Rattle.card.specs.Session.{Request, Sent, portOf, EitherPort, refusals, perform, performed, replies, afterAll, hostSession}
 use Rattle.card.specs.SessionLaws.{ports-alike}
 use Rattle.card.specs.Reach.{presented, keyPresented, sealed, Reach, unsealedRoot, byKey, Hidden, lastTaken}
@@ -28,12 +30,15 @@ use Rattle.card.specs.declared.Mode.{Mode}
 use Rattle.card.specs.declared.Refusal.{Refusal}
 use Rattle.card.specs.declared.Answer.{Answer}
 use Rattle.card.specs.declared.Answer.the-variants.{Refused, Done, Value}
+use Rattle.card.specs.declared.Refusal.the-variants.{Misshapen, Unsound, NotAllocated, BadOperand, NotOpened, IsRoot, PointerExists, NoPointer, HasPointers, TooFewBlocks, TooFewPlaces, TimeEnds, BadRecord, NoRun}
 use Rattle.card.specs.declared.Call.{Call}
+use Rattle.card.specs.declared.AllocOperands.{AllocOperands}
 use Rattle.card.proofs.Guarantees.Unchanged.{Unchanged, refusal-unchanged}
 use Rattle.card.proofs.Guarantees.KeepsSound.{done-sound, counts-right, pointers-ascending}
 use Rattle.card.proofs.Guarantees.Format.{format-sound}
 use Rattle.card.proofs.Guarantees.Untouched.{LeftAlone, AllottedZeroed, untouched}
 use Rattle.card.proofs.Guarantees.RefusedIff.{refused-iff}
+use Rattle.card.proofs.Guarantees.Runs.{Run, contig, RunFound, RunAdjoins, RunNearest, some-blocks, run-found, run-adjoins, run-nearest}
 use Rattle.card.proofs.Guarantees.WindowSet.{SetBy, window-set-by}
 use Rattle.card.proofs.Secrecy.Theorem.{EqualBut, HiddenOrFree, Secret, same-hidden, secrecy}
 use Rattle.card.proofs.Secrecy.Bounds.{bounds, reach-inside}
@@ -193,6 +198,138 @@ refused-iff-tested c s =
     (λ (n : NoneIs (refusals (s .port) c (s .request))).
     eq-eqb _ _ (done-number (performed c s .answer) (refused-iff (s .port) c (s .request) .doneIff .1 (n .none)) ∙ sym (n .number)))
     (first-or-none (refusals (s .port) c (s .request)))
+
+-- ---- run-found, run-adjoins and run-nearest
+
+-- No condition of the list holds.
+unfoldable pub noneHold : List Check → Bool
+noneHold [] = true
+noneHold ((test ⇒ r) ∷ checks) = not test && noneHold checks
+
+noneHold-true : (checks : List Check) → noneHold checks ≡ true → NoneHolds checks
+unfolding noneHold
+noneHold-true [] h = tt
+noneHold-true ((test ⇒ r) ∷ checks) h = (not-true _ (and-left _ _ h), noneHold-true checks (and-right (not test) _ h))
+
+true-noneHold : (checks : List Check) → NoneHolds checks → noneHold checks ≡ true
+unfolding noneHold
+true-noneHold [] h = refl
+true-noneHold ((test ⇒ r) ∷ checks) h = and-true _ _ (ap not (h .0)) (true-noneHold checks (h .1))
+
+-- So many blocks from `first` on are below N and unallocated. It is worked out apart from the rules' own runs.
+abbrev adjoining : Card → ℕ → ℕ → Bool
+adjoining c count first = allBelow (λ i. ltb (first + i) (c .public .info .blocks) && not (allocated (c .public) (first + i))) count
+
+adjoining-run : (c : Card) (count first : ℕ) → adjoining c count first ≡ true → Run (c .public) count first
+unfolding isRun
+adjoining-run c count first h = run-blocks (c .public) count h
+
+run-adjoining : (c : Card) (count first : ℕ) → Run (c .public) count first → adjoining c count first ≡ true
+unfolding isRun
+run-adjoining c count first h = blocks-run (c .public) count h
+
+refusal-14 : (r : Refusal) → refusalNumber r ≡ 14 → r ≡ NoRun
+refusal-14 Misshapen e = absurd (omega (arith, e))
+refusal-14 Unsound e = absurd (omega (arith, e))
+refusal-14 NotAllocated e = absurd (omega (arith, e))
+refusal-14 BadOperand e = absurd (omega (arith, e))
+refusal-14 NotOpened e = absurd (omega (arith, e))
+refusal-14 IsRoot e = absurd (omega (arith, e))
+refusal-14 PointerExists e = absurd (omega (arith, e))
+refusal-14 NoPointer e = absurd (omega (arith, e))
+refusal-14 HasPointers e = absurd (omega (arith, e))
+refusal-14 TooFewBlocks e = absurd (omega (arith, e))
+refusal-14 TooFewPlaces e = absurd (omega (arith, e))
+refusal-14 TimeEnds e = absurd (omega (arith, e))
+refusal-14 BadRecord e = absurd (omega (arith, e))
+refusal-14 NoRun e = refl
+
+answer-14 : (a : Answer) → answerNumber a ≡ 14 → a ≡ Refused NoRun
+answer-14 (Refused r) e = ap Refused (refusal-14 r e)
+answer-14 Done e = absurd (omega (arith, e))
+answer-14 (Value v) e = absurd (omega (arith, e))
+
+module _ (port : Port) (c : Card) (o : AllocOperands) (lent : Buffers) where
+  abbrev made : Result
+  made = perform port c (contig o lent)
+
+  abbrev noRunTest : Bool
+  noRunTest =
+      noneHold (take 6 (refusals port c (contig o lent)))
+      && (leb (o .count) (length (freeBlocks (c .public))) && allBelow (λ first. not (adjoining c (o .count) first)) (c .public .info .blocks))
+
+  abbrev pub runFoundTest : Bool
+  runFoundTest = implies (eqb (answerNumber (made .answer)) 14) noRunTest && implies noRunTest (eqb (answerNumber (made .answer)) 14)
+
+  -- The numbers given, from the first of them.
+  abbrev given : ℕ → ℕ
+  given i = getD (made .places) i 0
+
+  abbrev pub runAdjoinsTest : Bool
+  runAdjoinsTest = implies (isDone (made .answer)) (adjoining c (o .count) (given 0) && allBelow (λ i. eqb (given i) (given 0 + i)) (o .count))
+
+  abbrev nearerTest : ℕ → Bool
+  nearerTest other =
+      implies (not (eqb (o .hint) noHint))
+      (leb (distance (o .hint) (given 0)) (distance (o .hint) other) && implies (ltb other (given 0)) (ltb (distance (o .hint) (given 0)) (distance (o .hint) other)))
+      && implies (eqb (o .hint) noHint) (leb (given 0) other)
+
+  abbrev pub runNearestTest : ℕ → Bool
+  runNearestTest other = implies (isDone (made .answer) && adjoining c (o .count) other) (nearerTest other)
+
+  none-adjoins : made .answer ≡ Refused NoRun → noRunTest ≡ true
+  none-adjoins e =
+      let f = run-found port c o lent .refusedIff .0 e in
+      and-true _ _ (true-noneHold _ (f .0))
+      (and-true _ _ (le-leb _ _ (f .1 .0))
+      (true-allBelow (λ first. not (adjoining c (o .count) first)) _
+      (λ first l. ap not (false-unless _ (λ a. f .1 .1 first (adjoining-run c (o .count) first a))))))
+
+  adjoins-none : noRunTest ≡ true → made .answer ≡ Refused NoRun
+  adjoins-none h =
+      let early : NoneHolds (take 6 (refusals port c (contig o lent))) = noneHold-true _ (and-left _ _ h) in
+      let rest : leb (o .count) (length (freeBlocks (c .public))) && allBelow (λ first. not (adjoining c (o .count) first)) (c .public .info .blocks) ≡ true =
+      and-right (noneHold (take 6 (refusals port c (contig o lent)))) _ h in
+      run-found port c o lent .refusedIff .1
+      (
+        early,
+        (
+          leb-true _ _ (and-left _ _ rest),
+          λ first run.
+              absurd-test (run-adjoining c (o .count) first run)
+              (not-true _
+              (allBelow-true (λ first. not (adjoining c (o .count) first)) (c .public .info .blocks)
+              (and-right (leb (o .count) (length (freeBlocks (c .public)))) _ rest)
+              first
+              (run first (omega arith) (omega (arith, some-blocks port c o lent early)) .0))),
+        ),
+      )
+
+pub run-found-tested : (port : Port) (c : Card) (o : AllocOperands) (lent : Buffers) → runFoundTest port c o lent ≡ true
+run-found-tested port c o lent =
+    let a = perform port c (contig o lent) .answer in
+    and-true _ _
+    (true-implies (eqb (answerNumber a) 14) _ (λ h. none-adjoins port c o lent (answer-14 a (eqb-true _ _ h))))
+    (true-implies (noRunTest port c o lent) _ (λ h. eq-eqb _ _ (ap answerNumber (adjoins-none port c o lent h))))
+
+pub run-adjoins-tested : (port : Port) (c : Card) (o : AllocOperands) (lent : Buffers) → runAdjoinsTest port c o lent ≡ true
+run-adjoins-tested port c o lent =
+    true-implies (isDone (perform port c (contig o lent) .answer)) _
+    (λ d.
+    let r = run-adjoins port c o lent d in
+    and-true _ _ (run-adjoining c (o .count) _ (r .wereFree)) (true-allBelow (λ i. eqb (given port c o lent i) (given port c o lent 0 + i)) _ (λ i l. eq-eqb _ _ (r .adjoin i l))))
+
+pub run-nearest-tested : (port : Port) (c : Card) (o : AllocOperands) (lent : Buffers) (other : ℕ) → runNearestTest port c o lent other ≡ true
+run-nearest-tested port c o lent other =
+    true-implies (isDone (perform port c (contig o lent) .answer) && adjoining c (o .count) other) _
+    (λ h.
+    let r = run-nearest port c o lent (and-left _ _ h) other (adjoining-run c (o .count) other (and-right (isDone (perform port c (contig o lent) .answer)) _ h)) in
+    and-true _ _
+    (true-implies (not (eqb (o .hint) noHint)) _
+    (λ n.
+    let near = r .hinted (eqb-false _ _ (not-true _ n)) in
+    and-true _ _ (le-leb _ _ (near .0)) (true-implies (ltb other (given port c o lent 0)) _ (λ l. lt-ltb _ _ (near .1 (ltb-true _ _ l))))))
+    (true-implies (eqb (o .hint) noHint) _ (λ e. le-leb _ _ (r .unhinted (eqb-true _ _ e)))))
 
 -- ---- window-set-by
 
