@@ -6,12 +6,11 @@ use mathlib.Core.Bool.{Bool, true, false, _&&_, _||_, not}
 use mathlib.Core.List.{List, [], _∷_}
 use native.Mathlib.Omega.{arith}
 use lib.Dec.{eqb, ltb}
-use lib.ListN.{length, take, drop}
+use lib.ListN.{length, take, drop, length-take}
 use lib.Seq.{take-at}
 use borrow.Author.Tests.{lt-ltb, le-ltb, eq-eqb, ne-eqb, ltb-true, ltb-false, not-false}
 use Rattle.card.specs.ListsLaws.{or-false-left, or-false-right, and-true, absurd-test, not-cases}
 use Rattle.card.specs.Contents.{overwrite}
-use Rattle.card.specs.ContentsLaws.{overwrite-length}
 use Rattle.card.specs.Card.{Card, card, freeBlocks}
 use Rattle.card.specs.SoundCard.{SoundCard}
 use Rattle.card.specs.Access.{admits}
@@ -185,13 +184,11 @@ module _ (port : Port) (c : Card) (o : AllocOperands) (places : List ℕ) where
         unfolding overwrite
         first-places = rw shown-chosen (take-at chosen (drop (0 + length chosen) places) (o .count) chosen-long)
 
-        pub places-there : o .count ≤ length left
-        places-there =
-            rw shown-chosen
-            (omega (arith, in-range .1 .1, overwrite-length places 0 chosen (omega (arith, in-range .1 .1, chosen-long)), chosen-long))
-
         pub numbers-long : o .count ≡ length (take (o .count) left)
         numbers-long = sym (ap (λ (xs : List ℕ). length xs) first-places ∙ chosen-long)
+
+        pub places-there : o .count ≤ length left
+        places-there = omega (arith, numbers-long, length-take (o .count) left)
 
         -- What taking them asks.
         pub can-take-all : CanTakeAll c (o .reference) (take (o .count) left)

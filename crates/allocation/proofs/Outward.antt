@@ -77,30 +77,16 @@ module _ (end b : ℕ) where
   unfolding highAfter
   high-moves l = rw (le-ltb b end l)
 
--- The new ends are around the wanted block still.
-around : {want blocks low high b : ℕ} → NextBlock want blocks low high b → low ≤ want → want ≤ high → high ≤ blocks
-    → (lowAfter low b ≤ want) × ((want ≤ highAfter high b) × (highAfter high b ≤ blocks))
-unfolding lowAfter highAfter
-around {low = low} {high} {b} n l h w =
-    ⊎-elim
-    (λ (e : b + 1 ≡ low). rw (lt-ltb b low (omega arith), lt-ltb b high (omega arith)) (omega arith, (omega arith, omega arith)))
-    (λ (e : b ≡ high). rw (le-ltb b low (omega arith), le-ltb b high (omega arith)) (omega arith, (omega arith, omega (arith, n .below))))
-    (n .beside)
+-- One end moves, to pass the next block.
+data Moves (low high b l h : ℕ) : Type 0 where
+  down : b + 1 ≡ low → l ≡ b → h ≡ high → Moves low high b l h
+  up : b ≡ high → l ≡ low → h ≡ b + 1 → Moves low high b l h
 
--- One block fewer is left to pass.
-fewer : {want blocks low high b : ℕ} → NextBlock want blocks low high b → low ≤ want → want ≤ high → high ≤ blocks
-    → {l h : ℕ} → l ≡ lowAfter low b → h ≡ highAfter high b → l + (blocks - h) < low + (blocks - high)
-unfolding lowAfter highAfter
-fewer {low = low} {high} {b} n o u w {l} {h} d e =
+moves : {want blocks low high b : ℕ} → NextBlock want blocks low high b → low ≤ high → {l h : ℕ} → l ≡ lowAfter low b → h ≡ highAfter high b → Moves low high b l h
+moves {low = low} {high} {b} n o d e =
     ⊎-elim
-    (λ (q : b + 1 ≡ low).
-    let down : l ≡ b = rw (lt-ltb b low (omega arith)) at d in
-    let up : h ≡ high = rw (lt-ltb b high (omega arith)) at e in
-    omega arith)
-    (λ (q : b ≡ high).
-    let down : l ≡ low = rw (le-ltb b low (omega arith)) at d in
-    let up : h ≡ b + 1 = rw (le-ltb b high (omega arith)) at e in
-    omega (arith, n .below))
+    (λ (q : b + 1 ≡ low). down q (d ∙ sym (low-moves low b (omega arith))) (e ∙ sym (high-stays high b (omega arith))))
+    (λ (q : b ≡ high). up q (d ∙ sym (low-stays low b (omega arith))) (e ∙ sym (high-moves high b (omega arith))))
     (n .beside)
 
 -- ---- the blocks that are not passed
@@ -118,32 +104,31 @@ unfolding outside
 true-outside low high y (inl l) = or-left (ltb y low) _ (lt-ltb y low l)
 true-outside low high y (inr l) = or-right (ltb y low) _ (le-leb high y l)
 
-module _ {want blocks low high b : ℕ} (n : NextBlock want blocks low high b) (l : low ≤ high) where
-  outside-next : outside low high b ≡ true
-  outside-next = true-outside low high b (⊎-elim (λ (e : b + 1 ≡ low). inl (omega arith)) (λ (e : b ≡ high). inr (omega arith)) (n .beside))
+module _ {low high b l h : ℕ} (o : low ≤ high) where
+  outside-next : Moves low high b l h → outside low high b ≡ true
+  outside-next (down q d e) = true-outside low high b (inl (omega arith))
+  outside-next (up q d e) = true-outside low high b (inr (omega arith))
 
   -- The next block is passed, and no other.
-  outside-passed : outside (lowAfter low b) (highAfter high b) b ≡ false
-  unfolding outside lowAfter highAfter
-  outside-passed =
-      ⊎-elim
-      (λ (e : b + 1 ≡ low). rw (lt-ltb b low (omega arith), lt-ltb b high (omega arith)) (or-false _ _ (le-ltb b b (omega arith)) (lt-leb high b (omega arith))))
-      (λ (e : b ≡ high). rw (le-ltb b low (omega arith), le-ltb b high (omega arith)) (or-false _ _ (le-ltb b low (omega arith)) (lt-leb (b + 1) b (omega arith))))
-      (n .beside)
+  outside-passed : Moves low high b l h → outside l h b ≡ false
+  unfolding outside
+  outside-passed (down q d e) = or-false _ _ (le-ltb b l (omega arith)) (lt-leb h b (omega arith))
+  outside-passed (up q d e) = or-false _ _ (le-ltb b l (omega arith)) (lt-leb h b (omega arith))
 
-  outside-other : (y : ℕ) → (y ≡ b → ⊥) → outside low high y ≡ outside (lowAfter low b) (highAfter high b) y
-  unfolding outside lowAfter highAfter
-  outside-other y other =
-      ⊎-elim
-      (λ (e : b + 1 ≡ low).
-      rw (lt-ltb b low (omega arith), lt-ltb b high (omega arith))
-      (ap (λ (t : Bool). t || leb high y)
-      (same-test (ltb y low) (ltb y b) (λ t. lt-ltb y b (omega (arith, ltb-true y low t))) (λ t. lt-ltb y low (omega (arith, ltb-true y b t))))))
-      (λ (e : b ≡ high).
-      rw (le-ltb b low (omega arith), le-ltb b high (omega arith))
-      (ap (λ (t : Bool). ltb y low || t)
-      (same-test (leb high y) (leb (b + 1) y) (λ t. le-leb (b + 1) y (omega (arith, leb-true high y t))) (λ t. le-leb high y (omega (arith, leb-true (b + 1) y t))))))
-      (n .beside)
+  outside-other : Moves low high b l h → (y : ℕ) → (y ≡ b → ⊥) → outside low high y ≡ outside l h y
+  outside-other m y other = same-test _ _ (λ t. true-outside l h y (to m (outside-true low high y t))) (λ t. true-outside low high y (from m (outside-true l h y t)))
+    where
+      to : Moves low high b l h → (y < low) ⊎ (high ≤ y) → (y < l) ⊎ (h ≤ y)
+      to (down q d e) (inl t) = inl (omega arith)
+      to (down q d e) (inr t) = inr (omega arith)
+      to (up q d e) (inl t) = inl (omega arith)
+      to (up q d e) (inr t) = inr (omega arith)
+
+      from : Moves low high b l h → (y < l) ⊎ (h ≤ y) → (y < low) ⊎ (high ≤ y)
+      from (down q d e) (inl t) = inl (omega arith)
+      from (down q d e) (inr t) = inr (omega arith)
+      from (up q d e) (inl t) = inl (omega arith)
+      from (up q d e) (inr t) = inr (omega arith)
 
 -- The unallocated ones of them, ascending.
 abbrev waits : List ℕ → ℕ → ℕ → ℕ → Bool
@@ -227,82 +212,85 @@ module _ {flags : List ℕ} {want count : ℕ} {places₀ places : List ℕ} {lo
     pub next-narrow : b < 4096
     next-narrow = omega (arith, n .below, w .ready .blocksHigh)
 
-    pub picked-fewer : {l h : ℕ} → l ≡ lowAfter low b → h ≡ highAfter high b → l + (length flags - h) < low + (length flags - high)
-    picked-fewer d e = fewer n (w .lowest) (w .highest) (w .within) d e
+    module _ {l h : ℕ} (d : l ≡ lowAfter low b) (e : h ≡ highAfter high b) where
+      ordered : low ≤ high
+      ordered = omega (arith, w .lowest, w .highest)
 
-    ordered : low ≤ high
-    ordered = omega (arith, w .lowest, w .highest)
+      moved : Moves low high b l h
+      moved = moves n ordered d e
 
-    waits-other : (y : ℕ) → (y ≡ b → ⊥) → waits flags low high y ≡ waits flags (lowAfter low b) (highAfter high b) y
-    waits-other y other = ap (λ (t : Bool). not (allocatedFlag (getD flags y 0)) && t) (outside-other n ordered y other)
+      -- One block fewer is left to pass.
+      pub picked-fewer : l + (length flags - h) < low + (length flags - high)
+      picked-fewer = go moved
+        where
+          go : Moves low high b l h → l + (length flags - h) < low + (length flags - high)
+          go (down q d e) = omega (arith, w .lowest, w .highest, w .within)
+          go (up q d e) = omega (arith, w .lowest, w .highest, n .below)
 
-    -- An allocated block is passed.
-    module _ {held : Bool} (told : held ≡ allocatedFlag (getD flags b 0)) (h : not held ≡ false) where
-      waiting-same : waiting flags low high ≡ waiting flags (lowAfter low b) (highAfter high b)
+      around : (l ≤ want) × ((want ≤ h) × (h ≤ length flags))
+      around = go moved
+        where
+          go : Moves low high b l h → (l ≤ want) × ((want ≤ h) × (h ≤ length flags))
+          go (down q d e) = (omega (arith, w .lowest), (omega (arith, w .highest), omega (arith, w .within)))
+          go (up q d e) = (omega (arith, w .lowest), (omega (arith, w .highest), omega (arith, n .below)))
+
+      waits-other : (y : ℕ) → (y ≡ b → ⊥) → waits flags low high y ≡ waits flags l h y
+      waits-other y other = ap (λ (t : Bool). not (allocatedFlag (getD flags y 0)) && t) (outside-other ordered moved y other)
+
+      -- The walk goes on, with what is left to pick and where.
+      goes-on : {left : List ℕ} {k : ℕ} → k ≤ count → length left ≡ length places → count - k ≤ length (waiting flags l h)
+          → overwrite left k (picks want (count - k) (waiting flags l h)) ≡ overwrite places taken (picks want (count - taken) (waiting flags low high))
+          → Picked flags want count places₀ left l h k
+      goes-on most long enough whole = record {
+        ready = w .ready;
+        most = most;
+        lowest = around .0;
+        highest = around .1 .0;
+        within = around .1 .1;
+        enough = enough;
+        whole = whole ∙ w .whole;
+        samePlaces = long ∙ w .samePlaces;
+      }
+
+      -- An allocated block is passed.
+      pub picked-passed : {held : Bool} → held ≡ allocatedFlag (getD flags b 0) → not held ≡ false → Picked flags want count places₀ places l h taken
       unfolding waiting
-      waiting-same =
-          let even : not (allocatedFlag (getD flags b 0)) ≡ false = ap not (sym told) ∙ h in
-          numbersBelow-same _ _ (length flags)
-          (λ y l.
-          ⊎-elim
-          (λ (e : y ≡ b). rw (e, even))
-          (waits-other y)
-          (same-or-other y b))
+      picked-passed told even =
+          let free : not (allocatedFlag (getD flags b 0)) ≡ false = ap not (sym told) ∙ even in
+          let same : waiting flags l h ≡ waiting flags low high =
+          numbersBelow-same (waits flags l h) (waits flags low high) (length flags)
+          (λ y i. ⊎-elim (λ (q : y ≡ b). rw (q, free)) (λ q. sym (waits-other y q)) (same-or-other y b)) in
+          goes-on (w .most) refl (rw same (w .enough)) (rw same)
 
-      pub picked-passed : {l h : ℕ} → l ≡ lowAfter low b → h ≡ highAfter high b → Picked flags want count places₀ places l h taken
-      picked-passed d e =
-          let ends = around n (w .lowest) (w .highest) (w .within) in
-          rw (d, e) (record {
-            ready = w .ready;
-            most = w .most;
-            lowest = ends .0;
-            highest = ends .1 .0;
-            within = ends .1 .1;
-            enough = rw (← waiting-same) (w .enough);
-            whole = rw (← waiting-same) (w .whole);
-            samePlaces = w .samePlaces;
-          })
+      -- A free block is picked.
+      module _ (more : taken < count) {held : Bool} (told : held ≡ allocatedFlag (getD flags b 0)) (odd : not held ≡ true) where
+        next-waits : waits flags low high b ≡ true
+        next-waits = and-true _ _ (ap not (sym told) ∙ odd) (outside-next ordered moved)
 
-    -- A free block is picked.
-    module _ (l : taken < count) {held : Bool} (told : held ≡ allocatedFlag (getD flags b 0)) (h : not held ≡ true) where
-      next-waits : waits flags low high b ≡ true
-      next-waits = and-true _ _ (ap not (sym told) ∙ h) (outside-next n ordered)
+        waiting-next : contains b (waiting flags low high) ≡ true
+        unfolding waiting
+        waiting-next = hold-numbers (waits flags low high) (length flags) b (n .below) next-waits
 
-      waiting-next : contains b (waiting flags low high) ≡ true
-      unfolding waiting
-      waiting-next = hold-numbers (waits flags low high) (length flags) b (n .below) next-waits
+        waiting-without : waiting flags l h ≡ remove b (waiting flags low high)
+        unfolding waiting
+        waiting-without =
+            sym (remove-numbers (waits flags low high) (waits flags l h) (length flags) b (n .below) next-waits
+            (and-false-right (not (allocatedFlag (getD flags b 0))) _ (outside-passed ordered moved))
+            waits-other)
 
-      waiting-without : remove b (waiting flags low high) ≡ waiting flags (lowAfter low b) (highAfter high b)
-      unfolding waiting
-      waiting-without =
-          remove-numbers (waits flags low high) (waits flags (lowAfter low b) (highAfter high b)) (length flags) b (n .below) next-waits
-          (and-false-right (not (allocatedFlag (getD flags b 0))) _ (outside-passed n ordered))
-          waits-other
+        picks-next : picks want (count - taken) (waiting flags low high) ≡ b ∷ picks want (count - (taken + 1)) (waiting flags l h)
+        unfolding waiting
+        picks-next =
+            let one : count - taken ≡ suc (count - (taken + 1)) = omega arith in
+            rw (one, waiting-without)
+            (picks-nearest want (count - (taken + 1)) b (waiting flags low high) (numbers-ascend (waits flags low high) (length flags)) waiting-next
+            (λ y i. let there = waiting-hold y i in n .nearest y (there .0) (there .1)))
 
-      picks-next : picks want (count - taken) (waiting flags low high) ≡ b ∷ picks want (count - (taken + 1)) (waiting flags (lowAfter low b) (highAfter high b))
-      unfolding waiting
-      picks-next =
-          let one : count - taken ≡ suc (count - (taken + 1)) = omega arith in
-          rw (one, ← waiting-without)
-          (picks-nearest want (count - (taken + 1)) b (waiting flags low high) (numbers-ascend (waits flags low high) (length flags)) waiting-next
-          (λ y i. let there = waiting-hold y i in n .nearest y (there .0) (there .1)))
-
-      pub picked-taken : {m h : ℕ} → m ≡ lowAfter low b → h ≡ highAfter high b → Picked flags want count places₀ (set places taken b) m h (taken + 1)
-      picked-taken d e =
-          let ends = around n (w .lowest) (w .highest) (w .within) in
-          rw (d, e) (record {
-            ready = w .ready;
-            most = omega arith;
-            lowest = ends .0;
-            highest = ends .1 .0;
-            within = ends .1 .1;
-            enough = rw (← waiting-without) (omega (arith, w .enough, remove-length b (waiting flags low high) waiting-next));
-            whole =
-                overwrite-next places taken b _ (omega (arith, w .samePlaces, w .ready .fits))
-                ∙ ap (overwrite places taken) (sym picks-next)
-                ∙ w .whole;
-            samePlaces = length-set places taken b ∙ w .samePlaces;
-          })
+        pub picked-taken : Picked flags want count places₀ (set places taken b) l h (taken + 1)
+        picked-taken =
+            goes-on (omega arith) (length-set places taken b)
+            (rw waiting-without (omega (arith, w .enough, remove-length b (waiting flags low high) waiting-next)))
+            (overwrite-next places taken b _ (omega (arith, w .samePlaces, w .ready .fits)) ∙ ap (overwrite places taken) (sym picks-next))
 
   -- All are picked.
   pub picked-whole : count ≤ taken → places ≡ overwrite places₀ 0 (picks want count (unallocatedBelow flags (length flags)))

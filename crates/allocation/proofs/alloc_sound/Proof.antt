@@ -1,8 +1,9 @@
 -- `allocation::alloc_sound` is the rule on an audited card, by what its checks find.
-use mathlib.Core.Path.{sym}
-use Rattle.card.specs.Card.{card}
-use Rattle.card.specs.Session.{performSound}
-use Rattle.checks.specs.CheckedLaws.{refused-check, passed-check}
+use mathlib.Core.List.{[]}
+use Rattle.card.specs.Card.{Card, card}
+use Rattle.card.specs.Session.{request, performSound}
+use Rattle.card.specs.declared.Call.the-variants.{Alloc}
+use Rattle.checks.specs.CheckedLaws.{Passes, refused-check, passed-check}
 use Rattle.outcomes.proofs.Returned.{refuses}
 use Rattle.allocation.proofs.Allocating.{can-pick, places-there, numbers-long, can-take-all, alloc-done}
 use borrow.Author.Needs.{needs}
@@ -14,11 +15,20 @@ use Rattle.allocation.proofs.alloc_sound.Tie as tie
 abbrev start-from-alloc-check : tie.After-alloc-check → tie.Start
 start-from-alloc-check c = search
 
-abbrev told-from-wanted : tie.After-wanted → tie.After-enum-told
-told-from-wanted c = search
+abbrev start-from-wanted : tie.After-wanted → tie.Start
+start-from-wanted c = search
 
-abbrev check-from-told : tie.After-enum-told → tie.After-alloc-check
-check-from-told c = search
+abbrev cardAt : tie.Start → Card
+cardAt start =
+    let a = start .args in
+    card (a .info) (a .flags .now) (a .keys .now) (a .counts .now) (a .pointers .now) (a .windows .now) (a .contents .now)
+
+-- The checks passed before the blocks are picked.
+passed : (c : tie.After-wanted) → let start = start-from-wanted c in Passes (start .args .port) (cardAt start) (request (Alloc (start .args .o)) [] [] (start .args .places .now))
+passed c =
+    let at-alloc-check : tie.After-alloc-check = search in
+    let at-enum-told : tie.After-enum-told = search in
+    passed-check _ _ _ (at-alloc-check .alloc-check .ensures) (at-enum-told .enum-told .given .1)
 
 alloc-check-requires : tie.Need-alloc-check-requires
 alloc-check-requires c κs = search needs
@@ -39,39 +49,27 @@ wanted-requires : tie.Need-wanted-requires
 wanted-requires c κs = search needs
 
 pick-all-requires : tie.Need-pick-all-requires
-pick-all-requires c κs = 
+pick-all-requires c κs =
     let at-wanted : tie.After-wanted = search in
-    let at-told = told-from-wanted at-wanted in
-    let at-check = check-from-told at-told in
-    let start = start-from-alloc-check at-check in
-    let a = start .args in let k = card (a .info) (a .flags .now) (a .keys .now) (a .counts .now) (a .pointers .now) (a .windows .now) (a .contents .now) in can-pick (a .port) k (a .o) (a .places .now) (start .pre) (passed-check (a .port) k _ (at-check .alloc-check .ensures) (at-told .enum-told .given .1)) (at-wanted .wanted .ensures)
+    can-pick _ _ _ _ (start-from-wanted at-wanted .pre) (passed at-wanted) (at-wanted .wanted .ensures)
 
 slice-reshare-prefix-take-all : tie.Need-slice-reshare-prefix-take-all
-slice-reshare-prefix-take-all c = 
+slice-reshare-prefix-take-all c =
     let at-pick-all : tie.After-pick-all = search in
     let at-wanted : tie.After-wanted = search in
-    let at-told = told-from-wanted at-wanted in
-    let at-check = check-from-told at-told in
-    let start = start-from-alloc-check at-check in
-    let a = start .args in let k = card (a .info) (a .flags .now) (a .keys .now) (a .counts .now) (a .pointers .now) (a .windows .now) (a .contents .now) in places-there (a .port) k (a .o) (a .places .now) (start .pre) (passed-check (a .port) k _ (at-check .alloc-check .ensures) (at-told .enum-told .given .1)) (at-wanted .wanted .ensures) (at-pick-all .pick-all .ensures)
+    places-there _ _ _ _ (start-from-wanted at-wanted .pre) (passed at-wanted) (at-wanted .wanted .ensures) (at-pick-all .pick-all .ensures)
 
 slice-aggregate-take-all : tie.Need-slice-aggregate-take-all
-slice-aggregate-take-all c = 
+slice-aggregate-take-all c =
     let at-pick-all : tie.After-pick-all = search in
     let at-wanted : tie.After-wanted = search in
-    let at-told = told-from-wanted at-wanted in
-    let at-check = check-from-told at-told in
-    let start = start-from-alloc-check at-check in
-    let a = start .args in let k = card (a .info) (a .flags .now) (a .keys .now) (a .counts .now) (a .pointers .now) (a .windows .now) (a .contents .now) in numbers-long (a .port) k (a .o) (a .places .now) (start .pre) (passed-check (a .port) k _ (at-check .alloc-check .ensures) (at-told .enum-told .given .1)) (at-wanted .wanted .ensures) (at-pick-all .pick-all .ensures)
+    numbers-long _ _ _ _ (start-from-wanted at-wanted .pre) (passed at-wanted) (at-wanted .wanted .ensures) (at-pick-all .pick-all .ensures)
 
 take-all-requires : tie.Need-take-all-requires
-take-all-requires c κs = 
+take-all-requires c κs =
     let at-pick-all : tie.After-pick-all = search in
     let at-wanted : tie.After-wanted = search in
-    let at-told = told-from-wanted at-wanted in
-    let at-check = check-from-told at-told in
-    let start = start-from-alloc-check at-check in
-    let a = start .args in let k = card (a .info) (a .flags .now) (a .keys .now) (a .counts .now) (a .pointers .now) (a .windows .now) (a .contents .now) in can-take-all (a .port) k (a .o) (a .places .now) (start .pre) (passed-check (a .port) k _ (at-check .alloc-check .ensures) (at-told .enum-told .given .1)) (at-wanted .wanted .ensures) (at-pick-all .pick-all .ensures)
+    can-take-all _ _ _ _ (start-from-wanted at-wanted .pre) (passed at-wanted) (at-wanted .wanted .ensures) (at-pick-all .pick-all .ensures)
 
 done-requires : tie.Need-done-requires
 done-requires c κs = search needs
@@ -93,10 +91,10 @@ same-length-5 c = search needs
 
 returns : tie.Need-returns
 unfolding performSound
-returns c = 
-    let at-check : tie.After-alloc-check = search in
-    let start = start-from-alloc-check at-check in
-    let a = start .args in let k = card (a .info) (a .flags .now) (a .keys .now) (a .counts .now) (a .pointers .now) (a .windows .now) (a .contents .now) in refuses k _ _ (c .refused .ensures) (refused-check (a .port) k _ (at-check .alloc-check .ensures) (c .before .before .why .given .1))
+returns c =
+    let at-alloc-check : tie.After-alloc-check = search in
+    refuses (cardAt (start-from-alloc-check at-alloc-check)) _ _ (c .refused .ensures)
+    (refused-check _ _ _ (at-alloc-check .alloc-check .ensures) (c .before .before .why .given .1))
 
 same-length-6 : tie.Need-same-length-6
 same-length-6 c = search needs
@@ -114,14 +112,11 @@ same-length-10 : tie.Need-same-length-10
 same-length-10 c = search needs
 
 returns-2 : tie.Need-returns-2
-returns-2 c = 
+returns-2 c =
     let at-take-all : tie.After-take-all = search in
     let at-pick-all : tie.After-pick-all = search in
     let at-wanted : tie.After-wanted = search in
-    let at-told = told-from-wanted at-wanted in
-    let at-check = check-from-told at-told in
-    let start = start-from-alloc-check at-check in
-    let a = start .args in let k = card (a .info) (a .flags .now) (a .keys .now) (a .counts .now) (a .pointers .now) (a .windows .now) (a .contents .now) in alloc-done (a .port) k (a .o) (a .places .now) (start .pre) (passed-check (a .port) k _ (at-check .alloc-check .ensures) (at-told .enum-told .given .1)) (at-wanted .wanted .ensures) (at-pick-all .pick-all .ensures) (c .done .ensures) (at-take-all .take-all .ensures)
+    alloc-done _ _ _ _ (start-from-wanted at-wanted .pre) (passed at-wanted) (at-wanted .wanted .ensures) (at-pick-all .pick-all .ensures) (c .done .ensures) (at-take-all .take-all .ensures)
 
 pub alloc-sound-spec : {M : Type 1} → statement M
 alloc-sound-spec =
