@@ -1,11 +1,11 @@
 -- Blocks taken one after the other, with the pointers to them beside the table, and their merge into it, over plain values.
 use Prim.Native.Nat.{ℕ, _+_, _≤_, _<_}
 use mathlib.Core.Path.{_≡_, refl, sym, ap, _∙_, subst}
-use mathlib.Core.Bool.{true, false}
+use mathlib.Core.Bool.{true}
 use mathlib.Core.List.{List, [], _∷_, _++_}
 use native.Mathlib.Numerals.{add-one}
 use native.Mathlib.Omega.{arith}
-use lib.ListN.{length, take, drop, getD, take-append-drop, length-drop}
+use lib.ListN.{length, take, drop, getD, take-append-drop}
 use lib.Seq.{take-at, drop-at, drop-cons, drop-drop, drop-length, length-take-le}
 use Rattle.card.specs.ListsLaws.{false-unless, absurd-test}
 use Rattle.card.specs.Pointers.{pointer, ascending, contains, insert}

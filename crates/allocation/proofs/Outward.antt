@@ -3,16 +3,16 @@ use Prim.Native.Nat.{ℕ, suc, _+_, _-_, _≤_, _<_}
 use mathlib.Core.Path.{_≡_, refl, sym, ap, _∙_}
 use mathlib.Core.Logic.{_⊎_, inl, inr, ⊎-elim}
 use mathlib.Core.Bool.{Bool, true, false, _&&_, _||_, not}
-use mathlib.Core.List.{List, [], _∷_, _++_}
+use mathlib.Core.List.{List, [], _∷_}
 use native.Mathlib.Nat.{not-suc-le-zero}
 use native.Mathlib.Numerals.{add-one}
 use native.Mathlib.Omega.{arith}
 use lib.Dec.{eqb, ltb, leb}
-use lib.ListN.{length, take, drop, getD, set, length-set, take-append-drop}
+use lib.ListN.{length, take, getD, set, length-set, take-append-drop}
 use lib.Seq.{take-suc-set, drop-set-lt, append-snoc}
-use borrow.Author.Tests.{lt-ltb, le-ltb, ltb-true, le-leb, lt-leb, leb-true, eq-eqb, not-true, not-false}
+use borrow.Author.Tests.{lt-ltb, le-ltb, ltb-true, le-leb, lt-leb, leb-true, eq-eqb}
 use Rattle.card.specs.Lists.{any, numbersBelow}
-use Rattle.card.specs.ListsLaws.{and-left, and-right, and-true, and-false-left, and-false-right, or-left, or-right, or-false, or-cases, same-test, below-or-not, same-or-other, numbersBelow-same}
+use Rattle.card.specs.ListsLaws.{and-left, and-right, and-true, and-false-right, or-left, or-right, or-false, or-cases, same-test, below-or-not, same-or-other, numbersBelow-same}
 use Rattle.card.specs.Pointers.{contains, remove}
 use Rattle.card.specs.PointersLaws.{remove-length}
 use Rattle.card.specs.Contents.{overwrite}

@@ -26,7 +26,7 @@ high-after-requires : tie.Need-high-after-requires Inv-loop μ-loop
 high-after-requires c κs = search next-narrow
 
 shared-slice-read-allocated : tie.Need-shared-slice-read-allocated Inv-loop μ-loop
-shared-slice-read-allocated c = 
+shared-slice-read-allocated c =
     let at-next : tie.After-next Inv-loop μ-loop = search in
     at-next .next .ensures .below
 
@@ -34,7 +34,7 @@ allocated-requires : tie.Need-allocated-requires Inv-loop μ-loop
 allocated-requires c κs = tt
 
 cast-places : tie.Need-cast-places Inv-loop μ-loop
-cast-places c = 
+cast-places c =
     let at-next : tie.After-next Inv-loop μ-loop = search in
     let at-loop : tie.At-loop Inv-loop μ-loop = search in
     omega (arith, next-narrow (at-loop .loop .inv) (at-next .next .ensures))
@@ -43,7 +43,7 @@ mul-places : tie.Need-mul-places Inv-loop μ-loop
 mul-places c = search needs
 
 slice-write-places : tie.Need-slice-write-places Inv-loop μ-loop
-slice-write-places c = 
+slice-write-places c =
     let at-loop-test : tie.In-loop Inv-loop μ-loop = search in
     let at-loop : tie.At-loop Inv-loop μ-loop = search in
     omega (arith, at-loop-test .loop-test .taken, at-loop .loop .inv .ready .fits, at-loop .loop .inv .samePlaces)
@@ -64,7 +64,7 @@ loop-again-2 : tie.Need-loop-again-2 Inv-loop μ-loop
 loop-again-2 c = search picked-passed
 
 same-length : tie.Need-same-length Inv-loop μ-loop
-same-length c = 
+same-length c =
     let at-loop : tie.At-loop Inv-loop μ-loop = search in
     at-loop .loop .inv .samePlaces
 

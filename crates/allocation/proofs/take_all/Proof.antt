@@ -10,11 +10,11 @@ use Rattle.allocation.proofs.take_all.Statement.{statement}
 use Rattle.allocation.proofs.take_all.Tie as tie
 
 abbrev Inv-loop : tie.InvT-loop
-Inv-loop info flags₀ keys counts₀ pointers windows contents₀ reference numbers bytes count added₀ taken₀ flags counts contents added taken = 
+Inv-loop info flags₀ keys counts₀ pointers windows contents₀ reference numbers bytes count added₀ taken₀ flags counts contents added taken =
     Collected (card info flags₀ keys counts₀ pointers windows contents₀) reference numbers flags counts contents added taken
 
 abbrev μ-loop : tie.MeasureT-loop
-μ-loop info flags₀ keys counts₀ pointers windows contents₀ reference numbers bytes count added₀ taken₀ flags counts contents added taken = 
+μ-loop info flags₀ keys counts₀ pointers windows contents₀ reference numbers bytes count added₀ taken₀ flags counts contents added taken =
     length numbers - taken
 
 loop-holds : tie.Need-loop-holds Inv-loop μ-loop
@@ -36,12 +36,12 @@ add-pointer : tie.Need-add-pointer Inv-loop μ-loop
 add-pointer c = omega (arith, c .shared-slice-known4 .given (c .before .before .loop .taken))
 
 cast-take : tie.Need-cast-take Inv-loop μ-loop
-cast-take c = 
+cast-take c =
     let at-loop : tie.At-loop Inv-loop μ-loop = search in
     omega (arith, c .before .before .before .shared-slice-known4 .given (at-loop .loop .taken))
 
 take-requires : tie.Need-take-requires Inv-loop μ-loop
-take-requires c κs = 
+take-requires c κs =
     let at-loop-test : tie.In-loop Inv-loop μ-loop = search in
     can-take (at-loop-test .before .loop .inv) (at-loop-test .loop-test .taken)
 
@@ -67,7 +67,7 @@ merge-requires : tie.Need-merge-requires Inv-loop μ-loop
 merge-requires c κs = mergeable (c .before .before .before .loop .inv) (c .before .before .loop-test .left)
 
 add-with-used : tie.Need-add-with-used Inv-loop μ-loop
-add-with-used c = 
+add-with-used c =
     let start : tie.Start Inv-loop μ-loop = search in
     omega (arith, start .pre .room, start .pre .sound .shaped .hasLengths .placesHigh)
 
@@ -87,7 +87,7 @@ same-length-4 : tie.Need-same-length-4 Inv-loop μ-loop
 same-length-4 c = search contents-same
 
 returns : tie.Need-returns Inv-loop μ-loop
-returns c = 
+returns c =
     let at-loop : tie.At-loop Inv-loop μ-loop = search in
     let at-merge : tie.After-merge Inv-loop μ-loop = search in
     collected-whole (at-loop .loop .inv) (at-merge .before .before .before .loop-test .left) (c .with-used .ensures) (at-merge .merge .ensures)
