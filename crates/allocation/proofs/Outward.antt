@@ -19,7 +19,7 @@ use Rattle.card.specs.Contents.{overwrite}
 use Rattle.card.specs.Card.{allocatedFlag}
 use Rattle.card.specs.Calls.{picks}
 use Rattle.tables.specs.Free.{unallocatedBelow}
-use Rattle.allocation.specs.Walk.{Spread, NextBlock, lowAfter, highAfter, CanPick}
+use Rattle.allocation.specs.Walk.{Spread, NextBlock, CanPick}
 use Rattle.allocation.proofs.Nearest.{picks-nearest, numbers-hold, hold-numbers, numbers-ascend, remove-numbers}
 
 -- ---- the next block
@@ -58,36 +58,10 @@ module _ {want blocks low high : ℕ} (s : Spread want blocks low high) where
         o;
   }
 
--- ---- the ends of the walk
-
-module _ (end b : ℕ) where
-  pub low-moves : b < end → b ≡ lowAfter end b
-  unfolding lowAfter
-  low-moves l = rw (lt-ltb b end l)
-
-  pub low-stays : end ≤ b → end ≡ lowAfter end b
-  unfolding lowAfter
-  low-stays l = rw (le-ltb b end l)
-
-  pub high-stays : b < end → end ≡ highAfter end b
-  unfolding highAfter
-  high-stays l = rw (lt-ltb b end l)
-
-  pub high-moves : end ≤ b → b + 1 ≡ highAfter end b
-  unfolding highAfter
-  high-moves l = rw (le-ltb b end l)
-
 -- One end moves, to pass the next block.
-data Moves (low high b l h : ℕ) : Type 0 where
+pub data Moves (low high b l h : ℕ) : Type 0 where
   down : b + 1 ≡ low → l ≡ b → h ≡ high → Moves low high b l h
   up : b ≡ high → l ≡ low → h ≡ b + 1 → Moves low high b l h
-
-moves : {want blocks low high b : ℕ} → NextBlock want blocks low high b → low ≤ high → {l h : ℕ} → l ≡ lowAfter low b → h ≡ highAfter high b → Moves low high b l h
-moves {low = low} {high} {b} n o d e =
-    ⊎-elim
-    (λ (q : b + 1 ≡ low). down q (d ∙ sym (low-moves low b (omega arith))) (e ∙ sym (high-stays high b (omega arith))))
-    (λ (q : b ≡ high). up q (d ∙ sym (low-stays low b (omega arith))) (e ∙ sym (high-moves high b (omega arith))))
-    (n .beside)
 
 -- ---- the blocks that are not passed
 
@@ -212,13 +186,16 @@ module _ {flags : List ℕ} {want count : ℕ} {places₀ places : List ℕ} {lo
     pub next-narrow : b < 4096
     next-narrow = omega (arith, n .below, w .ready .blocksHigh)
 
-    module _ {l h : ℕ} (d : l ≡ lowAfter low b) (e : h ≡ highAfter high b) where
-      ordered : low ≤ high
-      ordered = omega (arith, w .lowest, w .highest)
+    ordered : low ≤ high
+    ordered = omega (arith, w .lowest, w .highest)
 
-      moved : Moves low high b l h
-      moved = moves n ordered d e
+    pub moves-down : {l h : ℕ} → b < low → l ≡ b → h ≡ high → Moves low high b l h
+    moves-down o d e = ⊎-elim (λ q. down q d e) (λ (q : b ≡ high). absurd (omega (arith, ordered))) (n .beside)
 
+    pub moves-up : {l h : ℕ} → low ≤ b → l ≡ low → h ≡ b + 1 → Moves low high b l h
+    moves-up o d e = ⊎-elim (λ (q : b + 1 ≡ low). absurd (omega arith)) (λ q. up q d e) (n .beside)
+
+    module _ {l h : ℕ} (moved : Moves low high b l h) where
       -- One block fewer is left to pass.
       pub picked-fewer : l + (length flags - h) < low + (length flags - high)
       picked-fewer = go moved

@@ -2,9 +2,7 @@
 use Prim.Native.Nat.{ℕ, _+_, _≤_, _<_}
 use mathlib.Core.Path.{_≡_}
 use mathlib.Core.Logic.{_⊎_}
-use mathlib.Core.Bool.{cond}
 use mathlib.Core.List.{List}
-use lib.Dec.{ltb}
 use lib.ListN.{length}
 use Rattle.card.specs.Calls.{distance}
 use Rattle.tables.specs.Free.{unallocatedBelow}
@@ -23,13 +21,6 @@ pub record NextBlock (want blocks low high b : ℕ) : Type 0 where
   pub below : b < blocks
   pub beside : (b + 1 ≡ low) ⊎ (b ≡ high)
   pub nearest : (y : ℕ) → y < blocks → (y < low) ⊎ (high ≤ y) → (distance want b ≤ distance want y) × (y < b → distance want b < distance want y)
-
--- The ends once a block beside those passed is passed.
-unfoldable pub lowAfter : ℕ → ℕ → ℕ
-lowAfter low b = cond (ltb b low) b low
-
-unfoldable pub highAfter : ℕ → ℕ → ℕ
-highAfter high b = cond (ltb b high) high (b + 1)
 
 -- ---- all
 

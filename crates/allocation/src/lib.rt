@@ -21,7 +21,7 @@ ghost use Rattle.card.specs.Session.{request, performSound};
 ghost use Rattle.card.specs.declared.Call.the-variants.{Alloc};
 ghost use Rattle.tables.specs.Free.{unallocatedBelow};
 ghost use Rattle.checks.specs.Checked.{byRefusal, checked};
-ghost use Rattle.allocation.specs.Walk.{Spread, NextBlock, lowAfter, highAfter, CanPick};
+ghost use Rattle.allocation.specs.Walk.{Spread, NextBlock, CanPick};
 ghost use Rattle.allocation.specs.Taking.{CanTake, BlockTaken, CanTakeAll};
 ghost use Rattle.allocation.specs.SharedChecks.{badOperands, sharedChecks};
 
@@ -44,20 +44,6 @@ fn next(want: usize, blocks: usize, low: usize, high: usize) -> usize
     high
 }
 
-// The ends once a block beside those passed is passed.
-fn low_after(low: usize, block: usize) -> usize
-    ensures { λ r. ⌜ r ≡ lowAfter low block ⌝ }
-{
-    if block < low { block } else { low }
-}
-
-fn high_after(high: usize, block: usize) -> usize
-    requires { ⌜ block < 4096 ⌝ }
-    ensures { λ r. ⌜ r ≡ highAfter high block ⌝ }
-{
-    if block < high { high } else { block + 1 }
-}
-
 // The numbers of the `count` blocks that ALLOC picks, on one walk outward from the wanted one, go into the first places.
 fn pick_all(flags: &[u8], want: usize, count: usize, places: &mut [u16])
     requires { ⌜ CanPick (now flags) want count (now places) ⌝ }
@@ -69,8 +55,11 @@ fn pick_all(flags: &[u8], want: usize, count: usize, places: &mut [u16])
     let mut taken = 0;
     while taken < count {
         let block = next(want, blocks, low, high);
-        low = low_after(low, block);
-        high = high_after(high, block);
+        if block < low {
+            low = block;
+        } else {
+            high = block + 1;
+        }
         if !flags::allocated(flags[block]) {
             places[taken] = block as u16;
             taken += 1;

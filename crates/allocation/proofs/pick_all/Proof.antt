@@ -1,8 +1,9 @@
 -- `allocation::pick_all` puts the picks into the first places: those so far are there. The measure is what is left to pass.
 use Prim.Native.Nat.{_+_, _-_}
+use mathlib.Core.Logic.{⊎-elim}
 use native.Mathlib.Omega.{arith}
 use lib.ListN.{length}
-use Rattle.allocation.proofs.Outward.{Picked, picked-start, picked-spread, next-narrow, picked-fewer, picked-passed, picked-taken, picked-whole}
+use Rattle.allocation.proofs.Outward.{Moves, Picked, picked-start, picked-spread, next-narrow, moves-down, moves-up, picked-fewer, picked-passed, picked-taken, picked-whole}
 use borrow.Author.Needs.{needs}
 use Rattle.allocation.proofs.pick_all.Statement.{statement}
 use Rattle.allocation.proofs.pick_all.Tie as tie
@@ -13,22 +14,24 @@ Inv-loop flags want count places₀ blocks low₀ high₀ taken₀ places low hi
 abbrev μ-loop : tie.MeasureT-loop
 μ-loop flags want count places₀ blocks low₀ high₀ taken₀ places low high taken = low + (length flags - high)
 
+-- Where the two ways of the first test meet, one end has moved.
+moved : (c : tie.Joined1 Inv-loop μ-loop) → (let loop = c .before .before .before .loop in Moves (loop .low) (loop .high) (c .before .next .result) (c .if1 .low) (c .if1 .high))
+moved c =
+    let inv = c .before .before .before .loop .inv in
+    let next = c .before .next .ensures in
+    ⊎-elim (λ w. moves-down inv next (w .0 .taken) (w .1) (w .2)) (λ w. moves-up inv next (w .0 .left) (w .1) (w .2)) (c .if1 .came)
+
 loop-holds : tie.Need-loop-holds Inv-loop μ-loop
 loop-holds c = search picked-start
 
 next-requires : tie.Need-next-requires Inv-loop μ-loop
 next-requires c κs = picked-spread (c .before .loop .inv) (c .loop-test .taken)
 
-low-after-requires : tie.Need-low-after-requires Inv-loop μ-loop
-low-after-requires c κs = tt
-
-high-after-requires : tie.Need-high-after-requires Inv-loop μ-loop
-high-after-requires c κs = search next-narrow
+add-high : tie.Need-add-high Inv-loop μ-loop
+add-high c = omega (arith, next-narrow (c .before .before .before .loop .inv) (c .before .next .ensures))
 
 shared-slice-read-allocated : tie.Need-shared-slice-read-allocated Inv-loop μ-loop
-shared-slice-read-allocated c =
-    let at-next : tie.After-next Inv-loop μ-loop = search in
-    at-next .next .ensures .below
+shared-slice-read-allocated c = c .before .before .next .ensures .below
 
 allocated-requires : tie.Need-allocated-requires Inv-loop μ-loop
 allocated-requires c κs = tt
@@ -52,16 +55,16 @@ add-taken : tie.Need-add-taken Inv-loop μ-loop
 add-taken c = search needs
 
 loop-less : tie.Need-loop-less Inv-loop μ-loop
-loop-less c = search picked-fewer
+loop-less c = search (picked-fewer, moved)
 
 loop-again : tie.Need-loop-again Inv-loop μ-loop
-loop-again c = search picked-taken
+loop-again c = search (picked-taken, moved)
 
 loop-less-2 : tie.Need-loop-less-2 Inv-loop μ-loop
-loop-less-2 c = search picked-fewer
+loop-less-2 c = search (picked-fewer, moved)
 
 loop-again-2 : tie.Need-loop-again-2 Inv-loop μ-loop
-loop-again-2 c = search picked-passed
+loop-again-2 c = search (picked-passed, moved)
 
 same-length : tie.Need-same-length Inv-loop μ-loop
 same-length c =
@@ -79,8 +82,7 @@ pick-all-spec =
     μ-loop
     loop-holds
     next-requires
-    low-after-requires
-    high-after-requires
+    add-high
     shared-slice-read-allocated
     allocated-requires
     cast-places
