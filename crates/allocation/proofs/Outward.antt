@@ -232,17 +232,17 @@ module _ {flags : List ℕ} {want count : ℕ} {places₀ places : List ℕ} {lo
       -- An allocated block is passed.
       pub picked-passed : {held : Bool} → held ≡ allocatedFlag (getD flags b 0) → not held ≡ false → Picked flags want count places₀ places l h taken
       unfolding waiting
-      picked-passed told even =
-          let free : not (allocatedFlag (getD flags b 0)) ≡ false = ap not (sym told) ∙ even in
+      picked-passed told isHeld =
+          let free : not (allocatedFlag (getD flags b 0)) ≡ false = ap not (sym told) ∙ isHeld in
           let same : waiting flags l h ≡ waiting flags low high =
           numbersBelow-same (waits flags l h) (waits flags low high) (length flags)
           (λ y i. ⊎-elim (λ (q : y ≡ b). rw (q, free)) (λ q. sym (waits-other y q)) (same-or-other y b)) in
           goes-on (w .most) refl (rw same (w .enough)) (rw same)
 
       -- A free block is picked.
-      module _ (more : taken < count) {held : Bool} (told : held ≡ allocatedFlag (getD flags b 0)) (odd : not held ≡ true) where
+      module _ (more : taken < count) {held : Bool} (told : held ≡ allocatedFlag (getD flags b 0)) (isFree : not held ≡ true) where
         next-waits : waits flags low high b ≡ true
-        next-waits = and-true _ _ (ap not (sym told) ∙ odd) (outside-next ordered moved)
+        next-waits = and-true _ _ (ap not (sym told) ∙ isFree) (outside-next ordered moved)
 
         waiting-next : contains b (waiting flags low high) ≡ true
         unfolding waiting
