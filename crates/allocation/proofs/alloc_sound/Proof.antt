@@ -5,7 +5,8 @@ use Rattle.card.specs.Session.{request, performSound}
 use Rattle.card.specs.declared.Call.the-variants.{Alloc}
 use Rattle.checks.specs.CheckedLaws.{Passes, refused-check, passed-check}
 use Rattle.outcomes.proofs.Returned.{refuses}
-use Rattle.allocation.proofs.Allocating.{can-pick, places-there, numbers-long, can-take-all, alloc-done}
+use Rattle.allocation.proofs.Shared.{numbers-long, places-there}
+use Rattle.allocation.proofs.Allocating.{can-pick, picked, can-take-picked, alloc-done}
 use borrow.Author.Needs.{needs}
 use Rattle.allocation.proofs.alloc_sound.Statement.{statement}
 use Rattle.allocation.proofs.alloc_sound.Tie as tie
@@ -57,19 +58,19 @@ slice-reshare-prefix-take-all : tie.Need-slice-reshare-prefix-take-all
 slice-reshare-prefix-take-all c =
     let at-pick-all : tie.After-pick-all = search in
     let at-wanted : tie.After-wanted = search in
-    places-there _ _ _ _ (start-from-wanted at-wanted .pre) (passed at-wanted) (at-wanted .wanted .ensures) (at-pick-all .pick-all .ensures)
+    places-there (picked _ _ _ _ (start-from-wanted at-wanted .pre) (passed at-wanted) (at-wanted .wanted .ensures) (at-pick-all .pick-all .ensures))
 
 slice-aggregate-take-all : tie.Need-slice-aggregate-take-all
 slice-aggregate-take-all c =
     let at-pick-all : tie.After-pick-all = search in
     let at-wanted : tie.After-wanted = search in
-    numbers-long _ _ _ _ (start-from-wanted at-wanted .pre) (passed at-wanted) (at-wanted .wanted .ensures) (at-pick-all .pick-all .ensures)
+    numbers-long (picked _ _ _ _ (start-from-wanted at-wanted .pre) (passed at-wanted) (at-wanted .wanted .ensures) (at-pick-all .pick-all .ensures))
 
 take-all-requires : tie.Need-take-all-requires
 take-all-requires c κs =
     let at-pick-all : tie.After-pick-all = search in
     let at-wanted : tie.After-wanted = search in
-    can-take-all _ _ _ _ (start-from-wanted at-wanted .pre) (passed at-wanted) (at-wanted .wanted .ensures) (at-pick-all .pick-all .ensures)
+    can-take-picked _ _ _ _ (start-from-wanted at-wanted .pre) (passed at-wanted) (at-wanted .wanted .ensures) (at-pick-all .pick-all .ensures)
 
 done-requires : tie.Need-done-requires
 done-requires c κs = search needs

@@ -2,7 +2,7 @@
 use Rattle.card.specs.Card.{card}
 use Rattle.checks.specs.CheckedLaws.{checks-refused, checks-passed}
 use Rattle.access.proofs.Blocks.{access-there}
-use Rattle.allocation.proofs.Allocating.{bad-operand, reference-missing, root-reference, reference-shut, too-few-blocks, shared-passes}
+use Rattle.allocation.proofs.Shared.{bad-operand, reference-missing, root-reference, reference-shut, too-few-blocks, shared-passes}
 use borrow.Author.Needs.{needs}
 use Rattle.allocation.proofs.shared_check.Statement.{statement}
 use Rattle.allocation.proofs.shared_check.Tie as tie
