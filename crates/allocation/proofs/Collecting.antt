@@ -1,27 +1,28 @@
--- The walk with the pointers to the blocks taken beside the table, and their merge into it, over plain values.
+-- Blocks taken one after the other, with the pointers to them beside the table, and their merge into it, over plain values.
 use Prim.Native.Nat.{ℕ, _+_, _≤_, _<_}
 use mathlib.Core.Path.{_≡_, refl, sym, ap, _∙_, subst}
-use mathlib.Core.Bool.{Bool, true, false, not}
+use mathlib.Core.Bool.{true}
 use mathlib.Core.List.{List, [], _∷_, _++_}
+use native.Mathlib.Numerals.{add-one}
 use native.Mathlib.Omega.{arith}
-use borrow.Author.Tests.{not-true, not-false}
-use lib.ListN.{length, take, drop, set, take-append-drop}
-use lib.Seq.{take-at, drop-at, drop-drop, length-take-le}
+use lib.ListN.{length, take, drop, getD, take-append-drop}
+use lib.Seq.{take-at, drop-at, drop-cons, drop-drop, drop-length, length-take-le}
 use Rattle.card.specs.ListsLaws.{false-unless, absurd-test}
 use Rattle.card.specs.Pointers.{pointer, ascending, contains, insert}
 use Rattle.card.specs.PointersLaws.{insert-ascending}
 use Rattle.card.specs.ChangesLaws.{inserted-take, inserted-length}
-use Rattle.card.specs.Card.{Card, card, flag, allocatedFlag, inUse, freeBlocks, pointsTo}
-use Rattle.card.specs.SoundCard.{SoundCard}
+use Rattle.card.specs.Card.{Card, card, inUse, pointsTo}
 use Rattle.card.specs.Plan.{withUsed, changePublic, changeKeys, changeContents, change, changes}
-use Rattle.card.specs.Calls.{picks, takeAll}
+use Rattle.card.specs.Calls.{takeAll}
 use Rattle.card.specs.declared.Info.{Info}
+use Rattle.card.proofs.Guarantees.Steps.{block-within}
+use Rattle.card.proofs.Guarantees.PointerSteps.{no-pointer}
+use Rattle.card.proofs.Guarantees.KeepsSound.{takeable-below, takeable-free, taken-sound, taken-allocated, taken-rest, taken-room}
 use Rattle.tables.specs.Merge.{insertAll}
 use Rattle.tables.specs.MergeLaws.{insertAll-length, insertAll-insert, insertAll-contains}
 use Rattle.tables.specs.InUse.{Sorted, Addable, Mergeable}
-use Rattle.tables.specs.InUseLaws.{sound-sorted}
-use Rattle.allocation.specs.Walk.{NextBlock, lowAfter, highAfter, BlockTaken, CanTakeAll, BlocksTaken}
-use Rattle.allocation.proofs.Outward.{Walked, walked-start, walked-passed, unpointed, walked-taken, walked-whole}
+use Rattle.tables.specs.InUseLaws.{sound-sorted, count-low}
+use Rattle.allocation.specs.Taking.{CanTake, BlockTaken, CanTakeAll}
 
 -- ---- the table that the rule has
 
@@ -58,7 +59,7 @@ module _ (pointers : List ℕ) (used : ℕ) (added : List ℕ) where
         let more : used + (taken + 1) ≡ used + taken + 1 = omega arith in
         rw (merged-take, merged-drop, inserted-take w taken added enough, insertAll-insert w (take taken added) (take used pointers), more)
 
--- ---- the walk
+-- ---- the blocks
 
 -- The card that the rule has once `taken` blocks are taken.
 abbrev pub during : Card → List ℕ → List ℕ → List ℕ → List ℕ → ℕ → Card
@@ -66,109 +67,142 @@ during c flags counts contents added taken =
     let p = c .public in
     card (withUsed (p .info) (p .info .used + taken)) flags (c .keys) counts (merged (p .pointers) (p .info .used) added taken) (p .windows) contents
 
--- The walk on that card, while the pointers taken stand beside the table.
-pub record Collected (c₀ : Card) (reference want count : ℕ) (places₀ flags counts contents added places : List ℕ) (low high taken : ℕ) : Type 0 where
-  pub walked : Walked c₀ reference want count places₀ (during c₀ flags counts contents added taken) places low high taken
+-- After `taken` blocks: those left can be taken on that card, and taking them leaves what taking all does.
+pub record Collected (c₀ : Card) (reference : ℕ) (numbers flags counts contents added : List ℕ) (taken : ℕ) : Type 0 where
+  pub began : CanTakeAll c₀ reference numbers
+  pub ready : CanTakeAll (during c₀ flags counts contents added taken) reference (drop taken numbers)
+  pub whole : changes (during c₀ flags counts contents added taken) (takeAll reference (drop taken numbers)) ≡ changes c₀ (takeAll reference numbers)
+  pub most : taken ≤ length numbers
   pub sorted : Sorted added taken
   pub size : length added ≡ 64
-  pub few : count ≤ 64
-  pub room : c₀ .public .info .used + count ≤ length (c₀ .public .pointers)
 
-pub collected-start : {c₀ : Card} {reference want count : ℕ} (places₀ added : List ℕ) → CanTakeAll c₀ reference want count → count ≤ length places₀ → length added ≡ 64 → count ≤ 64
-    → Collected c₀ reference want count places₀ (c₀ .public .flags) (c₀ .public .counts) (c₀ .contents) added places₀ want want 0
+pub collected-start : {c₀ : Card} {reference : ℕ} {numbers added : List ℕ} → CanTakeAll c₀ reference numbers → length added ≡ 64
+    → Collected c₀ reference numbers (c₀ .public .flags) (c₀ .public .counts) (c₀ .contents) added 0
 unfolding ascending
-collected-start {c₀} {reference} {want} {count} places₀ added r f e g =
+collected-start {c₀} {reference} {numbers} {added} r e =
     let p = c₀ .public in
     let none : p .info .used + 0 ≡ p .info .used = omega arith in
-    let same : during c₀ (p .flags) (p .counts) (c₀ .contents) added 0 ≡ c₀ = rw (merged-none (p .pointers) (p .info .used) added (r .sound .shaped .usedHigh), none) in
+    let same : c₀ ≡ during c₀ (p .flags) (p .counts) (c₀ .contents) added 0 = rw (merged-none (p .pointers) (p .info .used) added (r .sound .shaped .usedHigh), none) in
     record {
-      walked = subst (λ (d : Card). Walked c₀ reference want count places₀ d places₀ want want 0) (sym same) (walked-start places₀ r f);
+      began = r;
+      ready = subst (λ (d : Card). CanTakeAll d reference numbers) same r;
+      whole = ap (λ (d : Card). changes d (takeAll reference numbers)) (sym same);
+      most = omega arith;
       sorted = record { within = omega arith; ascends = refl };
       size = e;
-      few = g;
-      room = r .room;
     }
 
-module _ {c₀ : Card} {reference want count : ℕ} {places₀ flags counts contents added places : List ℕ} {low high taken : ℕ}
-    (r : Collected c₀ reference want count places₀ flags counts contents added places low high taken) where
+-- One block is taken and pointed to, and then the others can still be.
+others : {c : Card} {reference b : ℕ} {bs : List ℕ} → CanTakeAll c reference (b ∷ bs) → CanTakeAll (changes c (takeAll reference (b ∷ []))) reference bs
+others {reference = reference} r = record {
+  sound = taken-sound reference (r .sound) (r .referenceAllocated) (r .takeable) (r .room);
+  referenceAllocated = taken-allocated reference (r .sound) (r .referenceAllocated) (r .takeable) (r .room);
+  takeable = taken-rest reference (r .sound) (r .referenceAllocated) (r .takeable) (r .room);
+  few = omega (arith, r .few);
+  room = taken-room reference (r .sound) (r .referenceAllocated) (r .takeable) (r .room);
+}
+
+module _ {c₀ : Card} {reference : ℕ} {numbers flags counts contents added : List ℕ} {taken : ℕ}
+    (r : Collected c₀ reference numbers flags counts contents added taken) where
   abbrev present : Card
   present = during c₀ flags counts contents added taken
 
   fits : c₀ .public .info .used + taken ≤ length (c₀ .public .pointers)
-  fits = omega (arith, r .room, r .walked .most)
+  fits = omega (arith, r .began .room, r .most)
 
-  -- An allocated block is passed.
-  pub collected-passed : {b : ℕ} → NextBlock want (c₀ .public .info .blocks) low high b → {held : Bool} → held ≡ allocatedFlag (flag (present .public) b) → not held ≡ false
-      → {m h : ℕ} → m ≡ lowAfter low b → h ≡ highAfter high b → Collected c₀ reference want count places₀ flags counts contents added places m h taken
-  collected-passed n told h e f = record { walked = walked-passed (r .walked) n (sym told ∙ not-false _ h) e f; sorted = r .sorted; size = r .size; few = r .few; room = r .room }
+  -- The next block is taken.
+  module _ (l : taken < length numbers) where
+    abbrev b : ℕ
+    b = getD numbers taken 0
 
-  -- A free block is taken.
-  module _ {b : ℕ} (n : NextBlock want (c₀ .public .info .blocks) low high b) (l : taken < count)
-      {held : Bool} (told : held ≡ allocatedFlag (flag (present .public) b)) (h : not held ≡ true) where
-    even : allocatedFlag (flag (present .public) b) ≡ false
-    even = sym told ∙ not-true _ h
+    left : drop taken numbers ≡ b ∷ drop (taken + 1) numbers
+    left = rw add-one (drop-cons numbers taken 0 l)
+
+    here : CanTakeAll present reference (b ∷ drop (taken + 1) numbers)
+    here = subst (CanTakeAll present reference) left (r .ready)
+
+    below : b < c₀ .public .info .blocks
+    below = takeable-below (here .takeable)
+
+    pub can-take : CanTake (c₀ .public .info .bytes) flags counts contents b
+    can-take =
+        let s = here .sound in
+        record {
+          inFlags = omega (arith, below, s .shaped .hasLengths .flags);
+          inCounts = omega (arith, below, s .shaped .hasLengths .counts);
+          countLow = omega (arith, count-low s b below, s .shaped .usedHigh, s .shaped .hasLengths .placesHigh);
+          inContents = block-within present b (s .shaped .hasLengths .contents) below;
+        }
 
     -- The pointer to the block is not among those added.
     pub addable : Addable added taken (pointer reference b)
     unfolding pointsTo
     addable = record {
       sorted = r .sorted;
-      room = omega (arith, r .few, r .size);
+      room = omega (arith, r .began .few, r .size);
       absent = false-unless _
           (λ e.
           absurd-test
           (subst (λ (ws : List ℕ). contains (pointer reference b) ws ≡ true)
           (sym (merged-take (c₀ .public .pointers) (c₀ .public .info .used) added taken fits (r .sorted .within)))
           (insertAll-contains (pointer reference b) (take taken added) (inUse (c₀ .public)) e))
-          (unpointed (r .walked) n l even));
+          (no-pointer reference b (here .sound) below (takeable-free (here .takeable))));
     }
 
     module _ {flagsAfter countsAfter contentsAfter addedAfter : List ℕ}
         (t : BlockTaken (c₀ .public .info .bytes) b flags counts contents flagsAfter countsAfter contentsAfter)
         (e : addedAfter ≡ insert (pointer reference b) (take taken added) ++ drop (taken + 1) added) where
-      stepped : during c₀ flagsAfter countsAfter contentsAfter addedAfter (taken + 1) ≡ changes present (takeAll reference (b ∷ []))
+      stepped : changes present (takeAll reference (b ∷ [])) ≡ during c₀ flagsAfter countsAfter contentsAfter addedAfter (taken + 1)
       unfolding takeAll changes change changePublic changeKeys changeContents
       stepped =
           let p = c₀ .public in
           let more : p .info .used + (taken + 1) ≡ p .info .used + taken + 1 = omega arith in
           rw (t .allocates, t .counted, t .zeroes, e, merged-more (p .pointers) (p .info .used) added taken fits (r .sorted .within) (pointer reference b), more)
 
-      sortedAfter : Sorted addedAfter (taken + 1)
-      sortedAfter = rw e (record {
-        within = omega (arith, long, r .few, r .size);
-        ascends = subst (λ (ws : List ℕ). ascending ws ≡ true) (sym (inserted-take w taken added (r .sorted .within)))
-            (insert-ascending w (take taken added) (r .sorted .ascends) (addable .absent));
-      })
-        where
-          w : ℕ
-          w = pointer reference b
+      long : length addedAfter ≡ length added
+      long = rw e (inserted-length (pointer reference b) taken added (r .sorted .within) (addable .room))
 
-          long : length (insert w (take taken added) ++ drop (taken + 1) added) ≡ length added
-          long = inserted-length w taken added (r .sorted .within) (addable .room)
+      ascends : ascending (take (taken + 1) addedAfter) ≡ true
+      ascends =
+          rw (e, inserted-take (pointer reference b) taken added (r .sorted .within))
+          (insert-ascending (pointer reference b) (take taken added) (r .sorted .ascends) (addable .absent))
 
-      pub collected-taken : {m h : ℕ} → m ≡ lowAfter low b → h ≡ highAfter high b
-          → Collected c₀ reference want count places₀ flagsAfter countsAfter contentsAfter addedAfter (set places taken b) m h (taken + 1)
-      collected-taken f g = record {
-        walked = walked-taken (r .walked) n l even stepped f g;
-        sorted = sortedAfter;
-        size = ap (λ (xs : List ℕ). length xs) e ∙ inserted-length (pointer reference b) taken added (r .sorted .within) (addable .room) ∙ r .size;
-        few = r .few;
-        room = r .room;
+      pub collected-taken : Collected c₀ reference numbers flagsAfter countsAfter contentsAfter addedAfter (taken + 1)
+      unfolding takeAll changes
+      collected-taken = record {
+        began = r .began;
+        ready = subst (λ (d : Card). CanTakeAll d reference (drop (taken + 1) numbers)) stepped (others here);
+        whole =
+            ap (λ (d : Card). changes d (takeAll reference (drop (taken + 1) numbers))) (sym stepped)
+            ∙ ap (λ (xs : List ℕ). changes present (takeAll reference xs)) (sym left)
+            ∙ r .whole;
+        most = omega arith;
+        sorted = record { within = omega (arith, long, addable .room); ascends = ascends };
+        size = long ∙ r .size;
       }
 
+  -- The tables are as long as before.
+  pub flags-same : length flags ≡ length (c₀ .public .flags)
+  flags-same = r .ready .sound .shaped .hasLengths .flags ∙ sym (r .began .sound .shaped .hasLengths .flags)
+
+  pub counts-same : length counts ≡ length (c₀ .public .counts)
+  counts-same = r .ready .sound .shaped .hasLengths .counts ∙ sym (r .began .sound .shaped .hasLengths .counts)
+
+  pub contents-same : length contents ≡ length (c₀ .contents)
+  contents-same = r .ready .sound .shaped .hasLengths .contents ∙ sym (r .began .sound .shaped .hasLengths .contents)
+
   -- All are taken: the pointers added can be put into the table, which gives the card of the rule.
-  module _ (s : SoundCard c₀) (l : count ≤ taken) where
-    all-taken : taken ≡ count
-    all-taken = omega (arith, r .walked .most)
+  module _ (l : length numbers ≤ taken) where
+    all-taken : taken ≡ length numbers
+    all-taken = omega (arith, r .most)
 
-    pub mergeable : Mergeable (c₀ .public .pointers) (c₀ .public .info .used) added count
-    mergeable = record { sorted = sound-sorted s; addedSorted = subst (Sorted added) all-taken (r .sorted); room = r .room }
+    pub mergeable : Mergeable (c₀ .public .pointers) (c₀ .public .info .used) added (length numbers)
+    mergeable = record { sorted = sound-sorted (r .began .sound); addedSorted = subst (Sorted added) all-taken (r .sorted); room = r .began .room }
 
-    pub collected-whole : {info : Info} {pointers : List ℕ} → info ≡ withUsed (c₀ .public .info) (c₀ .public .info .used + count)
-        → pointers ≡ insertAll (take count added) (inUse (c₀ .public)) ++ drop (c₀ .public .info .used + count) (c₀ .public .pointers)
-        → BlocksTaken c₀ reference (picks want count (freeBlocks (c₀ .public))) places₀ (card info flags (c₀ .keys) counts pointers (c₀ .public .windows) contents) places
-    unfolding merged
+    pub collected-whole : {info : Info} {pointers : List ℕ} → info ≡ withUsed (c₀ .public .info) (c₀ .public .info .used + length numbers)
+        → pointers ≡ insertAll (take (length numbers) added) (inUse (c₀ .public)) ++ drop (c₀ .public .info .used + length numbers) (c₀ .public .pointers)
+        → card info flags (c₀ .keys) counts pointers (c₀ .public .windows) contents ≡ changes c₀ (takeAll reference numbers)
+    unfolding merged takeAll changes
     collected-whole e f =
-        rw (e, f)
-        (subst (λ (k : ℕ). BlocksTaken c₀ reference (picks want count (freeBlocks (c₀ .public))) places₀ (during c₀ flags counts contents added k) places) all-taken
-        (walked-whole (r .walked) l))
+        rw (e, f, ← all-taken)
+        (ap (λ (xs : List ℕ). changes present (takeAll reference xs)) (sym (ap (λ (k : ℕ). drop k numbers) all-taken ∙ drop-length numbers)) ∙ r .whole)

@@ -2,4 +2,5 @@ pub mod Nearest
 pub mod Outward
 pub mod Collecting
 pub mod Taking
+pub mod Shared
 pub mod Allocating

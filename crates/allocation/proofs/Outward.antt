@@ -1,31 +1,27 @@
--- The outward walk takes ALLOC's picks in order, over plain values.
+-- The outward walk passes ALLOC's picks in order, over plain values.
 use Prim.Native.Nat.{ℕ, suc, _+_, _-_, _≤_, _<_}
-use mathlib.Core.Path.{_≡_, refl, sym, ap, _∙_, subst}
+use mathlib.Core.Path.{_≡_, refl, sym, ap, _∙_}
 use mathlib.Core.Logic.{_⊎_, inl, inr, ⊎-elim}
-use mathlib.Core.Bool.{true, false, not}
-use mathlib.Core.List.{List, [], _∷_, _++_, append-nil, append-assoc}
+use mathlib.Core.Bool.{Bool, true, false, _&&_, _||_, not}
+use mathlib.Core.List.{List, [], _∷_}
 use native.Mathlib.Nat.{not-suc-le-zero}
+use native.Mathlib.Numerals.{add-one}
 use native.Mathlib.Omega.{arith}
-use lib.Dec.{eqb}
-use lib.ListN.{length, drop, getD, set, length-append, length-set}
-use lib.Seq.{drop-cons, set-append-seam, append-snoc, getD-set-same}
-use borrow.Author.Tests.{lt-ltb, le-ltb, eq-eqb, not-true}
-use Rattle.card.specs.Lists.{any}
-use Rattle.card.specs.ListsLaws.{or-left, absurd-test, false-unless, below-or-not, same-or-other}
-use Rattle.card.specs.Pointers.{pointer, contains, remove}
+use lib.Dec.{eqb, ltb, leb}
+use lib.ListN.{length, take, getD, set, length-set, take-append-drop}
+use lib.Seq.{take-suc-set, drop-set-lt, append-snoc}
+use borrow.Author.Tests.{lt-ltb, le-ltb, ltb-true, le-leb, lt-leb, leb-true, eq-eqb}
+use Rattle.card.specs.Lists.{any, numbersBelow}
+use Rattle.card.specs.ListsLaws.{and-left, and-right, and-true, and-false-right, or-left, or-right, or-false, or-cases, same-test, below-or-not, same-or-other, numbersBelow-same}
+use Rattle.card.specs.Pointers.{contains, remove}
 use Rattle.card.specs.PointersLaws.{remove-length}
 use Rattle.card.specs.Contents.{overwrite}
-use Rattle.card.specs.Card.{Public, Card, flag, allocatedFlag, allocated, freeBlocks, pointsTo}
-use Rattle.card.specs.SoundCard.{SoundCard}
-use Rattle.card.specs.SoundnessLaws.{flag-allocated, allocated-flag}
-use Rattle.card.specs.Plan.{Change, takeBlock, addPointer, withFlags, changePublic, change, changes}
-use Rattle.card.specs.Calls.{picks, takeAll}
-use Rattle.card.proofs.Guarantees.Steps.{allocated-set, allocated-other, block-within}
-use Rattle.card.specs.ChangesLaws.{inserted-length}
-use Rattle.card.proofs.Guarantees.PointerSteps.{no-pointer, takeAdd-sound}
-use Rattle.allocation.specs.Walk.{Spread, NextBlock, lowAfter, highAfter, CanTake, CanTakeAll, BlocksTaken}
-use Rattle.tables.specs.InUseLaws.{count-low}
-use Rattle.allocation.proofs.Nearest.{picks-nearest, numbers-hold, hold-numbers, numbers-ascend, remove-numbers}
+use Rattle.card.specs.Card.{allocatedFlag}
+use Rattle.card.specs.Calls.{picks}
+use Rattle.tables.specs.Free.{unallocatedBelow}
+use Rattle.allocation.specs.Walk.{Spread, NextBlock, CanPick}
+use Rattle.card.specs.NearestLaws.{numbers-hold, hold-numbers, numbers-ascend}
+use Rattle.allocation.proofs.Nearest.{picks-nearest, remove-numbers}
 
 -- ---- the next block
 
@@ -63,333 +59,220 @@ module _ {want blocks low high : ℕ} (s : Spread want blocks low high) where
         o;
   }
 
--- ---- the ends of the walk
+-- One end moves, to pass the next block.
+pub data Moves (low high b l h : ℕ) : Type 0 where
+  down : b + 1 ≡ low → l ≡ b → h ≡ high → Moves low high b l h
+  up : b ≡ high → l ≡ low → h ≡ b + 1 → Moves low high b l h
 
-module _ (end b : ℕ) where
-  pub low-moves : b < end → b ≡ lowAfter end b
-  unfolding lowAfter
-  low-moves l = rw (lt-ltb b end l)
+-- ---- the blocks that are not passed
 
-  pub low-stays : end ≤ b → end ≡ lowAfter end b
-  unfolding lowAfter
-  low-stays l = rw (le-ltb b end l)
+-- The block is below `low`, or from `high` on.
+unfoldable pub outside : ℕ → ℕ → ℕ → Bool
+outside low high y = ltb y low || leb high y
 
-  pub high-stays : b < end → end ≡ highAfter end b
-  unfolding highAfter
-  high-stays l = rw (lt-ltb b end l)
+outside-true : (low high y : ℕ) → outside low high y ≡ true → (y < low) ⊎ (high ≤ y)
+unfolding outside
+outside-true low high y h = ⊎-elim (λ e. inl (ltb-true y low e)) (λ e. inr (leb-true high y e)) (or-cases (ltb y low) _ h)
 
-  pub high-moves : end ≤ b → b + 1 ≡ highAfter end b
-  unfolding highAfter
-  high-moves l = rw (le-ltb b end l)
+true-outside : (low high y : ℕ) → (y < low) ⊎ (high ≤ y) → outside low high y ≡ true
+unfolding outside
+true-outside low high y (inl l) = or-left (ltb y low) _ (lt-ltb y low l)
+true-outside low high y (inr l) = or-right (ltb y low) _ (le-leb high y l)
 
--- A block between the new ends is the one passed, or was between the old ones.
-between : {want blocks low high b : ℕ} → NextBlock want blocks low high b → low ≤ high → (y : ℕ) → lowAfter low b ≤ y → y < highAfter high b
-    → (y ≡ b) ⊎ ((low ≤ y) × (y < high))
-unfolding lowAfter highAfter
-between {low = low} {high} {b} n o y l u =
-    ⊎-elim
-    (λ (e : b + 1 ≡ low).
-    let down : b ≤ y = rw (lt-ltb b low (omega arith)) at l in
-    let up : y < high = rw (lt-ltb b high (omega arith)) at u in
-    ⊎-elim (λ (q : y ≡ b). inl q) (λ (q : y ≡ b → ⊥). inr (omega arith, up)) (same-or-other y b))
-    (λ (e : b ≡ high).
-    let down : low ≤ y = rw (le-ltb b low (omega arith)) at l in
-    let up : y < b + 1 = rw (le-ltb b high (omega arith)) at u in
-    ⊎-elim (λ (q : y ≡ b). inl q) (λ (q : y ≡ b → ⊥). inr (down, omega arith)) (same-or-other y b))
-    (n .beside)
+module _ {low high b l h : ℕ} (o : low ≤ high) where
+  outside-next : Moves low high b l h → outside low high b ≡ true
+  outside-next (down q d e) = true-outside low high b (inl (omega arith))
+  outside-next (up q d e) = true-outside low high b (inr (omega arith))
 
--- The new ends are around the wanted block still.
-around : {want blocks low high b : ℕ} → NextBlock want blocks low high b → low ≤ want → want ≤ high → high ≤ blocks
-    → (lowAfter low b ≤ want) × ((want ≤ highAfter high b) × (highAfter high b ≤ blocks))
-unfolding lowAfter highAfter
-around {low = low} {high} {b} n l h w =
-    ⊎-elim
-    (λ (e : b + 1 ≡ low). rw (lt-ltb b low (omega arith), lt-ltb b high (omega arith)) (omega arith, (omega arith, omega arith)))
-    (λ (e : b ≡ high). rw (le-ltb b low (omega arith), le-ltb b high (omega arith)) (omega arith, (omega arith, omega (arith, n .below))))
-    (n .beside)
+  -- The next block is passed, and no other.
+  outside-passed : Moves low high b l h → outside l h b ≡ false
+  unfolding outside
+  outside-passed (down q d e) = or-false _ _ (le-ltb b l (omega arith)) (lt-leb h b (omega arith))
+  outside-passed (up q d e) = or-false _ _ (le-ltb b l (omega arith)) (lt-leb h b (omega arith))
 
--- One block fewer is left to pass.
-pub fewer : {want blocks low high b : ℕ} → NextBlock want blocks low high b → low ≤ want → want ≤ high → high ≤ blocks
-    → {l h : ℕ} → l ≡ lowAfter low b → h ≡ highAfter high b → l + (blocks - h) < low + (blocks - high)
-unfolding lowAfter highAfter
-fewer {low = low} {high} {b} n o u w {l} {h} d e =
-    ⊎-elim
-    (λ (q : b + 1 ≡ low).
-    let down : l ≡ b = rw (lt-ltb b low (omega arith)) at d in
-    let up : h ≡ high = rw (lt-ltb b high (omega arith)) at e in
-    omega arith)
-    (λ (q : b ≡ high).
-    let down : l ≡ low = rw (le-ltb b low (omega arith)) at d in
-    let up : h ≡ b + 1 = rw (le-ltb b high (omega arith)) at e in
-    omega (arith, n .below))
-    (n .beside)
+  outside-other : Moves low high b l h → (y : ℕ) → (y ≡ b → ⊥) → outside low high y ≡ outside l h y
+  outside-other m y other = same-test _ _ (λ t. true-outside l h y (to m (outside-true low high y t))) (λ t. true-outside low high y (from m (outside-true l h y t)))
+    where
+      to : Moves low high b l h → (y < low) ⊎ (high ≤ y) → (y < l) ⊎ (h ≤ y)
+      to (down q d e) (inl t) = inl (omega arith)
+      to (down q d e) (inr t) = inr (omega arith)
+      to (up q d e) (inl t) = inl (omega arith)
+      to (up q d e) (inr t) = inr (omega arith)
 
--- ---- the free blocks
+      from : Moves low high b l h → (y < l) ⊎ (h ≤ y) → (y < low) ⊎ (high ≤ y)
+      from (down q d e) (inl t) = inl (omega arith)
+      from (down q d e) (inr t) = inr (omega arith)
+      from (up q d e) (inl t) = inl (omega arith)
+      from (up q d e) (inr t) = inr (omega arith)
 
-free-hold : (p : Public) (y : ℕ) → contains y (freeBlocks p) ≡ true → (y < p .info .blocks) × (allocated p y ≡ false)
-unfolding freeBlocks
-free-hold p y h =
-    let r : (y < p .info .blocks) × (not (allocated p y) ≡ true) = numbers-hold (λ b. not (allocated p b)) (p .info .blocks) y h in
-    (r .0, not-true _ (r .1))
+-- The unallocated ones of them, ascending.
+abbrev waits : List ℕ → ℕ → ℕ → ℕ → Bool
+waits flags low high y = not (allocatedFlag (getD flags y 0)) && outside low high y
 
-hold-free : (p : Public) (y : ℕ) → y < p .info .blocks → allocated p y ≡ false → contains y (freeBlocks p) ≡ true
-unfolding freeBlocks
-hold-free p y l h = hold-numbers (λ b. not (allocated p b)) (p .info .blocks) y l (ap not h)
+unfoldable pub waiting : List ℕ → ℕ → ℕ → List ℕ
+waiting flags low high = numbersBelow (waits flags low high) (length flags)
 
--- Without a block they are those of the card on which it is allocated.
-free-without : (p : Public) (b : ℕ) → b < p .info .blocks → b < length (p .flags) → allocated p b ≡ false
-    → remove b (freeBlocks p) ≡ freeBlocks (withFlags p (set (p .flags) b 1))
-unfolding freeBlocks
-free-without p b l f h =
-    remove-numbers (λ y. not (allocated p y)) (λ y. not (allocated (withFlags p (set (p .flags) b 1)) y)) (p .info .blocks) b l (ap not h)
-    (ap not (flag-allocated (withFlags p (set (p .flags) b 1)) b l (ap allocatedFlag (getD-set-same (p .flags) b 1 0 f))))
-    (λ y other. ap not (sym (allocated-other p b 1 y other)))
+-- ---- places
+
+overwrite-none : (xs : List ℕ) (n : ℕ) → overwrite xs n [] ≡ xs
+unfolding overwrite
+overwrite-none xs n = let none : n + 0 ≡ n = omega arith in rw none (take-append-drop n xs)
+
+-- One place is written, and then the others.
+overwrite-next : (xs : List ℕ) (n y : ℕ) (ys : List ℕ) → n < length xs → overwrite (set xs n y) (n + 1) ys ≡ overwrite xs n (y ∷ ys)
+unfolding overwrite
+overwrite-next xs n y ys l =
+    let end : n + suc (length ys) ≡ n + 1 + length ys = omega arith in
+    rw (end, drop-set-lt (n + 1 + length ys) xs n y (omega arith), add-one n, take-suc-set xs n y l) (append-snoc (take n xs) y _)
+
+-- ---- the walk
+
+-- After `taken` of `count` blocks: with the picks among those that wait written behind them, the places are those of all picks.
+pub record Picked (flags : List ℕ) (want count : ℕ) (places₀ places : List ℕ) (low high taken : ℕ) : Type 0 where
+  pub ready : CanPick flags want count places₀
+  pub most : taken ≤ count
+  pub lowest : low ≤ want
+  pub highest : want ≤ high
+  pub within : high ≤ length flags
+  pub enough : count - taken ≤ length (waiting flags low high)
+  pub whole : overwrite places taken (picks want (count - taken) (waiting flags low high)) ≡ overwrite places₀ 0 (picks want count (unallocatedBelow flags (length flags)))
+  pub samePlaces : length places ≡ length places₀
+
+pub picked-start : {flags : List ℕ} {want count : ℕ} {places₀ : List ℕ} → CanPick flags want count places₀ → Picked flags want count places₀ places₀ want want 0
+unfolding waiting unallocatedBelow
+picked-start {flags} {want} {count} {places₀} r =
+    let all : count - 0 ≡ count = omega arith in
+    let free : ℕ → Bool = λ y. not (allocatedFlag (getD flags y 0)) in
+    let none : waiting flags want want ≡ unallocatedBelow flags (length flags) =
+    numbersBelow-same (waits flags want want) free (length flags)
+    (λ y l.
+    same-test (waits flags want want y) (free y) (λ t. and-left _ _ t)
+    (λ t. and-true (free y) _ t (true-outside want want y (below-or-not y want)))) in
+    record {
+      ready = r;
+      most = omega arith;
+      lowest = omega arith;
+      highest = omega arith;
+      within = omega (arith, r .wantedBelow);
+      enough = rw (all, none) (r .enough);
+      whole = rw (all, none);
+      samePlaces = refl;
+    }
 
 first-contained : (xs : List ℕ) → 1 ≤ length xs → contains (getD xs 0 0) xs ≡ true
 unfolding contains any
 first-contained [] h = absurd (not-suc-le-zero h)
 first-contained (x ∷ xs) h = or-left (eqb x x) _ (eq-eqb x x refl)
 
--- The next block, if it is free, is the pick.
-pick-next : (p : Public) {want low high b : ℕ} (m : ℕ) → NextBlock want (p .info .blocks) low high b → ((y : ℕ) → low ≤ y → y < high → allocated p y ≡ true)
-    → allocated p b ≡ false → picks want (suc m) (freeBlocks p) ≡ b ∷ picks want m (remove b (freeBlocks p))
-unfolding freeBlocks
-pick-next p {want} {low} {high} {b} m n passed h =
-    picks-nearest want m b (freeBlocks p) (numbers-ascend (λ b. not (allocated p b)) (p .info .blocks)) (hold-free p b (n .below) h)
-    (λ y i.
-    let free : (y < p .info .blocks) × (allocated p y ≡ false) = free-hold p y i in
-    n .nearest y (free .0)
-    (⊎-elim
-    (λ (l : y < low). inl l)
-    (λ (l : low ≤ y).
-    ⊎-elim (λ (u : y < high). absurd-test (passed y l u) (free .1)) (λ (u : high ≤ y). inr u) (below-or-not y high))
-    (below-or-not y low)))
+module _ {flags : List ℕ} {want count : ℕ} {places₀ places : List ℕ} {low high taken : ℕ} (w : Picked flags want count places₀ places low high taken) where
+  waiting-hold : (y : ℕ) → contains y (waiting flags low high) ≡ true → (y < length flags) × ((y < low) ⊎ (high ≤ y))
+  unfolding waiting
+  waiting-hold y h =
+      let r : (y < length flags) × (waits flags low high y ≡ true) = numbers-hold (waits flags low high) (length flags) y h in
+      (r .0, outside-true low high y (and-right (not (allocatedFlag (getD flags y 0))) _ (r .1)))
 
--- ---- lists of changes, and places
-
-changes-append : (c : Card) (xs ys : List Change) → changes c (xs ++ ys) ≡ changes (changes c xs) ys
-unfolding changes
-changes-append c [] ys = refl
-changes-append c (x ∷ xs) ys = changes-append (change c x) xs ys
-
-takeAll-append : (reference : ℕ) (xs ys : List ℕ) → takeAll reference (xs ++ ys) ≡ takeAll reference xs ++ takeAll reference ys
-unfolding takeAll
-takeAll-append reference [] ys = refl
-takeAll-append reference (x ∷ xs) ys = ap (λ (l : List Change). takeBlock x ∷ (addPointer reference x ∷ l)) (takeAll-append reference xs ys)
-
-overwrite-more : (xs ys : List ℕ) (y : ℕ) → length ys < length xs → set (overwrite xs 0 ys) (length ys) y ≡ overwrite xs 0 (ys ++ (y ∷ []))
-unfolding overwrite
-overwrite-more xs ys y l =
-    let start : 0 + length ys ≡ length ys = omega arith in
-    let end : 0 + length (ys ++ (y ∷ [])) ≡ suc (length ys) = omega (arith, length-append ys (y ∷ [])) in
-    rw (start, end, drop-cons xs (length ys) 0 l)
-    (set-append-seam ys (getD xs (length ys) 0) (drop (suc (length ys)) xs) y ∙ sym (append-snoc ys y (drop (suc (length ys)) xs)))
-
--- ---- the walk
-
--- After `taken` of `count` blocks: the present card and places are those of the numbers taken, the picks go on with those of the
--- present card, and each block between the ends is allocated.
-pub record Walked (c₀ : Card) (reference want count : ℕ) (places₀ : List ℕ) (c : Card) (places : List ℕ) (low high taken : ℕ) : Type 0 where
-  pub ready : CanTakeAll c reference want (count - taken)
-  pub most : taken ≤ count
-  pub lowest : low ≤ want
-  pub highest : want ≤ high
-  pub within : high ≤ c₀ .public .info .blocks
-  pub passed : (b : ℕ) → low ≤ b → b < high → allocated (c .public) b ≡ true
-  pub numbers : List ℕ
-  pub long : length numbers ≡ taken
-  pub whole : picks want count (freeBlocks (c₀ .public)) ≡ numbers ++ picks want (count - taken) (freeBlocks (c .public))
-  pub leaves : c ≡ changes c₀ (takeAll reference numbers)
-  pub shows : places ≡ overwrite places₀ 0 numbers
-  pub sameBlocks : c .public .info .blocks ≡ c₀ .public .info .blocks
-  pub sameBytes : c .public .info .bytes ≡ c₀ .public .info .bytes
-  pub samePlaces : length places ≡ length places₀
-  pub fits : count ≤ length places₀
-
--- No more blocks are taken than there are places for pointers.
-pub few-taken : {c : Card} {reference want count : ℕ} → CanTakeAll c reference want count → count ≤ 16384
-few-taken r = omega (arith, r .room, r .sound .shaped .hasLengths .placesHigh)
-
-pub walked-start : {c₀ : Card} {reference want count : ℕ} (places₀ : List ℕ) → CanTakeAll c₀ reference want count → count ≤ length places₀
-    → Walked c₀ reference want count places₀ c₀ places₀ want want 0
-unfolding changes takeAll overwrite
-walked-start {c₀} {reference} {want} {count} places₀ r f =
-    let all : count - 0 ≡ count = omega arith in
-    record {
-      ready = rw all r;
-      most = omega arith;
-      lowest = omega arith;
-      highest = omega arith;
-      within = omega (arith, r .wantedBelow);
-      passed = λ b l u. absurd (omega arith);
-      numbers = [];
-      long = refl;
-      whole = rw all;
-      leaves = refl;
-      shows = refl;
-      sameBlocks = refl;
-      sameBytes = refl;
-      samePlaces = refl;
-      fits = f;
-    }
-
-module _ {c₀ : Card} {reference want count : ℕ} {places₀ : List ℕ} {c : Card} {places : List ℕ} {low high taken : ℕ}
-    (w : Walked c₀ reference want count places₀ c places low high taken) where
-  -- Some block is not passed while one is to be taken.
-  pub walked-spread : taken < count → Spread want (c₀ .public .info .blocks) low high
-  walked-spread l =
-      let p : Public = c .public in
-      let y : ℕ = getD (freeBlocks p) 0 0 in
-      let free : (y < p .info .blocks) × (allocated p y ≡ false) = free-hold p y (first-contained (freeBlocks p) (omega (arith, w .ready .enough))) in
+  -- Some block is not passed while one is to be picked.
+  pub picked-spread : taken < count → Spread want (length flags) low high
+  picked-spread l =
+      let y : ℕ = getD (waiting flags low high) 0 0 in
+      let there = waiting-hold y (first-contained (waiting flags low high) (omega (arith, w .enough))) in
       record {
         lowest = w .lowest;
         highest = w .highest;
         within = w .within;
-        unpassed = λ e.
-            ⊎-elim
-            (λ (u : y < high). absurd-test (w .passed y (omega arith) u) (free .1))
-            (λ (u : high ≤ y). omega (arith, free .0, w .sameBlocks))
-            (below-or-not y high);
+        unpassed = λ e. ⊎-elim (λ (b : y < low). absurd (omega arith)) (λ (b : high ≤ y). omega (arith, there .0)) (there .1);
       }
 
-  module _ {b : ℕ} (n : NextBlock want (c₀ .public .info .blocks) low high b) where
-    here : NextBlock want (c .public .info .blocks) low high b
-    here = subst (λ (k : ℕ). NextBlock want k low high b) (sym (w .sameBlocks)) n
-
-    pub next-below : b < length (c .public .flags)
-    next-below = omega (arith, here .below, w .ready .sound .shaped .hasLengths .flags)
-
+  module _ {b : ℕ} (n : NextBlock want (length flags) low high b) where
     pub next-narrow : b < 4096
-    next-narrow = omega (arith, here .below, w .ready .sound .shaped .inRanges .blocksHigh)
+    next-narrow = omega (arith, n .below, w .ready .blocksHigh)
 
-    pub walked-fewer : {l h : ℕ} → l ≡ lowAfter low b → h ≡ highAfter high b → l + (c₀ .public .info .blocks - h) < low + (c₀ .public .info .blocks - high)
-    walked-fewer d e = fewer n (w .lowest) (w .highest) (w .within) d e
+    ordered : low ≤ high
+    ordered = omega (arith, w .lowest, w .highest)
 
-    pub can-take : CanTake (c .public .info .bytes) (c .public .flags) (c .public .counts) (c .contents) b
-    can-take =
-        let s = w .ready .sound in
-        record {
-          inFlags = omega (arith, here .below, s .shaped .hasLengths .flags);
-          inCounts = omega (arith, here .below, s .shaped .hasLengths .counts);
-          countLow = omega (arith, count-low s b (here .below), s .shaped .usedHigh, s .shaped .hasLengths .placesHigh);
-          inContents = block-within c b (s .shaped .hasLengths .contents) (here .below);
-        }
+    pub moves-down : {l h : ℕ} → b < low → l ≡ b → h ≡ high → Moves low high b l h
+    moves-down o d e = ⊎-elim (λ q. down q d e) (λ (q : b ≡ high). absurd (omega (arith, ordered))) (n .beside)
 
-    passed-by : allocatedFlag (flag (c .public) b) ≡ true → Walked c₀ reference want count places₀ c places (lowAfter low b) (highAfter high b) taken
-    passed-by held =
-        let ends = around n (w .lowest) (w .highest) (w .within) in
-        record {
-          ready = w .ready;
-          most = w .most;
-          lowest = ends .0;
-          highest = ends .1 .0;
-          within = ends .1 .1;
-          passed = λ y l u.
-              ⊎-elim
-              (λ (e : y ≡ b). subst (λ (k : ℕ). allocated (c .public) k ≡ true) (sym e) (flag-allocated (c .public) b (here .below) held))
-              (λ r. w .passed y (r .0) (r .1))
-              (between n (omega (arith, w .lowest, w .highest)) y l u);
-          numbers = w .numbers;
-          long = w .long;
-          whole = w .whole;
-          leaves = w .leaves;
-          shows = w .shows;
-          sameBlocks = w .sameBlocks;
-          sameBytes = w .sameBytes;
-          samePlaces = w .samePlaces;
-          fits = w .fits;
-        }
+    pub moves-up : {l h : ℕ} → low ≤ b → l ≡ low → h ≡ b + 1 → Moves low high b l h
+    moves-up o d e = ⊎-elim (λ (q : b + 1 ≡ low). absurd (omega arith)) (λ q. up q d e) (n .beside)
 
-    -- An allocated block is passed.
-    pub walked-passed : allocatedFlag (flag (c .public) b) ≡ true → {l h : ℕ} → l ≡ lowAfter low b → h ≡ highAfter high b → Walked c₀ reference want count places₀ c places l h taken
-    walked-passed held d e = rw (d, e) (passed-by held)
+    module _ {l h : ℕ} (moved : Moves low high b l h) where
+      -- One block fewer is left to pass.
+      pub picked-fewer : l + (length flags - h) < low + (length flags - high)
+      picked-fewer = go moved
+        where
+          go : Moves low high b l h → l + (length flags - h) < low + (length flags - high)
+          go (down q d e) = omega (arith, w .lowest, w .highest, w .within)
+          go (up q d e) = omega (arith, w .lowest, w .highest, n .below)
 
-    module _ (l : taken < count) (even : allocatedFlag (flag (c .public) b) ≡ false) where
-      room : c .public .info .used < length (c .public .pointers)
-      room = omega (arith, w .ready .room)
+      around : (l ≤ want) × ((want ≤ h) × (h ≤ length flags))
+      around = go moved
+        where
+          go : Moves low high b l h → (l ≤ want) × ((want ≤ h) × (h ≤ length flags))
+          go (down q d e) = (omega (arith, w .lowest), (omega (arith, w .highest), omega (arith, w .within)))
+          go (up q d e) = (omega (arith, w .lowest), (omega (arith, w .highest), omega (arith, n .below)))
 
-      pub unpointed : pointsTo (c .public) reference b ≡ false
-      unpointed = no-pointer reference b (w .ready .sound) (here .below) even
+      waits-other : (y : ℕ) → (y ≡ b → ⊥) → waits flags low high y ≡ waits flags l h y
+      waits-other y other = ap (λ (t : Bool). not (allocatedFlag (getD flags y 0)) && t) (outside-other ordered moved y other)
 
-      unallocated : allocated (c .public) b ≡ false
-      unallocated = false-unless _ (λ a. absurd-test (allocated-flag (c .public) b a) even)
-
-      -- A free block is taken.
-      after : Walked c₀ reference want count places₀ (changes c (takeAll reference (b ∷ []))) (set places taken b) (lowAfter low b) (highAfter high b) (taken + 1)
-      unfolding takeAll changes change changePublic allocated freeBlocks
-      after =
-          let p : Public = c .public in
-          let ends = around n (w .lowest) (w .highest) (w .within) in
-          let inFlags : b < length (p .flags) = omega (arith, here .below, w .ready .sound .shaped .hasLengths .flags) in
-          let left : remove b (freeBlocks p) ≡ freeBlocks (withFlags p (set (p .flags) b 1)) = free-without p b (here .below) inFlags unallocated in
-          let one : count - taken ≡ suc (count - (taken + 1)) = omega arith in
-          let place : p .info .used < length (p .pointers) = room in
-          record {
-            ready = record {
-              sound = takeAdd-sound reference b (w .ready .sound) (w .ready .referenceAllocated) (here .below) even place;
-              referenceAllocated = allocated-set p b 1 reference refl (w .ready .referenceAllocated);
-              wantedBelow = w .ready .wantedBelow;
-              enough = subst (λ (xs : List ℕ). count - (taken + 1) ≤ length xs) left
-                  (omega (arith, w .ready .enough, remove-length b (freeBlocks p) (hold-free p b (here .below) unallocated)));
-              room = omega (arith, w .ready .room, inserted-length (pointer reference b) (p .info .used) (p .pointers) (omega arith) place);
-            };
-            most = omega arith;
-            lowest = ends .0;
-            highest = ends .1 .0;
-            within = ends .1 .1;
-            passed = λ y m u.
-                ⊎-elim
-                (λ (e : y ≡ b).
-                subst (λ (k : ℕ). allocated (withFlags p (set (p .flags) b 1)) k ≡ true) (sym e)
-                (flag-allocated (withFlags p (set (p .flags) b 1)) b (here .below) (ap allocatedFlag (getD-set-same (p .flags) b 1 0 inFlags))))
-                (λ r. allocated-set p b 1 y refl (w .passed y (r .0) (r .1)))
-                (between n (omega (arith, w .lowest, w .highest)) y m u);
-            numbers = w .numbers ++ (b ∷ []);
-            long = omega (arith, length-append (w .numbers) (b ∷ []), w .long);
-            whole =
-                w .whole
-                ∙ ap (λ (xs : List ℕ). w .numbers ++ xs)
-                (ap (λ (k : ℕ). picks want k (freeBlocks p)) one
-                ∙ pick-next p (count - (taken + 1)) here (w .passed) unallocated
-                ∙ ap (λ (xs : List ℕ). b ∷ picks want (count - (taken + 1)) xs) left)
-                ∙ sym (append-assoc (w .numbers) (b ∷ []) _);
-            leaves =
-                ap (λ (d : Card). changes d (takeAll reference (b ∷ []))) (w .leaves)
-                ∙ sym (changes-append c₀ (takeAll reference (w .numbers)) (takeAll reference (b ∷ [])))
-                ∙ ap (changes c₀) (sym (takeAll-append reference (w .numbers) (b ∷ [])));
-            shows =
-                ap (λ (xs : List ℕ). set xs taken b) (w .shows)
-                ∙ ap (λ (k : ℕ). set (overwrite places₀ 0 (w .numbers)) k b) (sym (w .long))
-                ∙ overwrite-more places₀ (w .numbers) b (omega (arith, w .long, w .fits));
-            sameBlocks = w .sameBlocks;
-            sameBytes = w .sameBytes;
-            samePlaces = length-set places taken b ∙ w .samePlaces;
-            fits = w .fits;
-          }
-
-      pub walked-taken : {d : Card} {m h : ℕ} → d ≡ changes c (takeAll reference (b ∷ [])) → m ≡ lowAfter low b → h ≡ highAfter high b
-          → Walked c₀ reference want count places₀ d (set places taken b) m h (taken + 1)
-      walked-taken e f g = rw (e, f, g) after
-
-  -- The tables are as long as before.
-  module _ (s : SoundCard c₀) where
-    pub flags-same : length (c .public .flags) ≡ length (c₀ .public .flags)
-    flags-same = w .ready .sound .shaped .hasLengths .flags ∙ w .sameBlocks ∙ sym (s .shaped .hasLengths .flags)
-
-    pub counts-same : length (c .public .counts) ≡ length (c₀ .public .counts)
-    counts-same = w .ready .sound .shaped .hasLengths .counts ∙ w .sameBlocks ∙ sym (s .shaped .hasLengths .counts)
-
-    pub contents-same : length (c .contents) ≡ length (c₀ .contents)
-    contents-same = w .ready .sound .shaped .hasLengths .contents ∙ rw (w .sameBlocks, w .sameBytes) (sym (s .shaped .hasLengths .contents))
-
-  -- All are taken.
-  pub walked-whole : count ≤ taken → BlocksTaken c₀ reference (picks want count (freeBlocks (c₀ .public))) places₀ c places
-  unfolding picks
-  walked-whole l =
-      let none : count - taken ≡ 0 = omega arith in
-      let all : picks want count (freeBlocks (c₀ .public)) ≡ w .numbers =
-      w .whole ∙ ap (λ (k : ℕ). w .numbers ++ picks want k (freeBlocks (c .public))) none ∙ append-nil (w .numbers) in
-      record {
-        leaves = w .leaves ∙ ap (λ (xs : List ℕ). changes c₀ (takeAll reference xs)) (sym all);
-        shows = w .shows ∙ ap (λ (xs : List ℕ). overwrite places₀ 0 xs) (sym all);
+      -- The walk goes on, with what is left to pick and where.
+      goes-on : {left : List ℕ} {k : ℕ} → k ≤ count → length left ≡ length places → count - k ≤ length (waiting flags l h)
+          → overwrite left k (picks want (count - k) (waiting flags l h)) ≡ overwrite places taken (picks want (count - taken) (waiting flags low high))
+          → Picked flags want count places₀ left l h k
+      goes-on most long enough whole = record {
+        ready = w .ready;
+        most = most;
+        lowest = around .0;
+        highest = around .1 .0;
+        within = around .1 .1;
+        enough = enough;
+        whole = whole ∙ w .whole;
+        samePlaces = long ∙ w .samePlaces;
       }
+
+      -- An allocated block is passed.
+      pub picked-passed : {held : Bool} → held ≡ allocatedFlag (getD flags b 0) → not held ≡ false → Picked flags want count places₀ places l h taken
+      unfolding waiting
+      picked-passed told isHeld =
+          let free : not (allocatedFlag (getD flags b 0)) ≡ false = ap not (sym told) ∙ isHeld in
+          let same : waiting flags l h ≡ waiting flags low high =
+          numbersBelow-same (waits flags l h) (waits flags low high) (length flags)
+          (λ y i. ⊎-elim (λ (q : y ≡ b). rw (q, free)) (λ q. sym (waits-other y q)) (same-or-other y b)) in
+          goes-on (w .most) refl (rw same (w .enough)) (rw same)
+
+      -- A free block is picked.
+      module _ (more : taken < count) {held : Bool} (told : held ≡ allocatedFlag (getD flags b 0)) (isFree : not held ≡ true) where
+        next-waits : waits flags low high b ≡ true
+        next-waits = and-true _ _ (ap not (sym told) ∙ isFree) (outside-next ordered moved)
+
+        waiting-next : contains b (waiting flags low high) ≡ true
+        unfolding waiting
+        waiting-next = hold-numbers (waits flags low high) (length flags) b (n .below) next-waits
+
+        waiting-without : waiting flags l h ≡ remove b (waiting flags low high)
+        unfolding waiting
+        waiting-without =
+            sym (remove-numbers (waits flags low high) (waits flags l h) (length flags) b (n .below) next-waits
+            (and-false-right (not (allocatedFlag (getD flags b 0))) _ (outside-passed ordered moved))
+            waits-other)
+
+        picks-next : picks want (count - taken) (waiting flags low high) ≡ b ∷ picks want (count - (taken + 1)) (waiting flags l h)
+        unfolding waiting
+        picks-next =
+            let one : count - taken ≡ suc (count - (taken + 1)) = omega arith in
+            rw (one, waiting-without)
+            (picks-nearest want (count - (taken + 1)) b (waiting flags low high) (numbers-ascend (waits flags low high) (length flags)) waiting-next
+            (λ y i. let there = waiting-hold y i in n .nearest y (there .0) (there .1)))
+
+        pub picked-taken : Picked flags want count places₀ (set places taken b) l h (taken + 1)
+        picked-taken =
+            goes-on (omega arith) (length-set places taken b)
+            (rw waiting-without (omega (arith, w .enough, remove-length b (waiting flags low high) waiting-next)))
+            (overwrite-next places taken b _ (omega (arith, w .samePlaces, w .ready .fits)) ∙ ap (overwrite places taken) (sym picks-next))
+
+  -- All are picked.
+  pub picked-whole : count ≤ taken → places ≡ overwrite places₀ 0 (picks want count (unallocatedBelow flags (length flags)))
+  unfolding picks
+  picked-whole l =
+      let none : count - taken ≡ 0 = omega arith in
+      sym (overwrite-none places taken) ∙ (rw none at (w .whole))

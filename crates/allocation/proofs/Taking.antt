@@ -6,7 +6,7 @@ use native.Mathlib.Omega.{arith}
 use lib.ListN.{length, take, drop, getD, set, length-take, length-drop, length-replicate}
 use lib.Seq.{drop-drop}
 use Rattle.card.specs.Contents.{overwrite, fill, zeros}
-use Rattle.allocation.specs.Walk.{CanTake, BlockTaken}
+use Rattle.allocation.specs.Taking.{CanTake, BlockTaken}
 
 -- A part that was lent and comes back as zeros.
 part-cleared : (at bytes : ℕ) (xs : List ℕ) {ys : List ℕ} → at + bytes ≤ length xs → ys ≡ zeros (length (take ((at + bytes) - at) (drop at xs)))

@@ -1,4 +1,4 @@
-// ALLOC: blocks are taken on one walk outward from the wanted one, and pointed to.
+// ALLOC: blocks are picked on one walk outward from the wanted one, then taken and pointed to.
 use card::AllocOperands;
 use card::Info;
 use card::MOST_BLOCKS;
@@ -10,15 +10,20 @@ use card::Refusal;
 use checks::Checked;
 ghost use mathlib.Core.Path.{_≡_};
 ghost use mathlib.Core.List.{[]};
-ghost use Prim.Native.Nat.{_≤_, _<_};
+ghost use Prim.Native.Nat.{_<_};
 ghost use lib.ListN.{length};
-ghost use Rattle.card.specs.Lent.{Performs, lent, atEntry};
+ghost use Rattle.card.specs.Contents.{overwrite};
+ghost use Rattle.card.specs.Lent.{Performs, lent, atEntry, atExit};
 ghost use Rattle.card.specs.SoundCard.{SoundCard};
-ghost use Rattle.card.specs.Calls.{wanted};
+ghost use Rattle.card.specs.Plan.{first, changes};
+ghost use Rattle.card.specs.Calls.{wanted, picks, takeAll};
 ghost use Rattle.card.specs.Session.{request, performSound};
 ghost use Rattle.card.specs.declared.Call.the-variants.{Alloc};
-ghost use Rattle.checks.specs.Checked.{checked};
-ghost use Rattle.allocation.specs.Walk.{Spread, NextBlock, lowAfter, highAfter, CanTake, BlockTaken, CanTakeAll, TakesPicks, badOperands};
+ghost use Rattle.tables.specs.Free.{unallocatedBelow};
+ghost use Rattle.checks.specs.Checked.{byRefusal, checked};
+ghost use Rattle.allocation.specs.Walk.{Spread, NextBlock, CanPick};
+ghost use Rattle.allocation.specs.Taking.{CanTake, BlockTaken, CanTakeAll};
+ghost use Rattle.allocation.specs.SharedChecks.{badOperands, sharedChecks};
 
 // ---- the walk
 
@@ -39,19 +44,30 @@ fn next(want: usize, blocks: usize, low: usize, high: usize) -> usize
     high
 }
 
-// The ends once a block beside those passed is passed.
-fn low_after(low: usize, block: usize) -> usize
-    ensures { λ r. ⌜ r ≡ lowAfter low block ⌝ }
+// The numbers of the `count` blocks that ALLOC picks, on one walk outward from the wanted one, go into the first places.
+fn pick_all(flags: &[u8], want: usize, count: usize, places: &mut [u16])
+    requires { ⌜ CanPick (now flags) want count (now places) ⌝ }
+    ensures { λ _. ⌜ now (places .exit) ≡ overwrite (now (places .entry)) 0 (picks want count (unallocatedBelow (now (flags .entry)) (length (now (flags .entry))))) ⌝ }
 {
-    if block < low { block } else { low }
+    let blocks = flags.len();
+    let mut low = want;
+    let mut high = want;
+    let mut taken = 0;
+    while taken < count {
+        let block = next(want, blocks, low, high);
+        if block < low {
+            low = block;
+        } else {
+            high = block + 1;
+        }
+        if !flags::allocated(flags[block]) {
+            places[taken] = block as u16;
+            taken += 1;
+        }
+    }
 }
 
-fn high_after(high: usize, block: usize) -> usize
-    requires { ⌜ block < 4096 ⌝ }
-    ensures { λ r. ⌜ r ≡ highAfter high block ⌝ }
-{
-    if block < high { high } else { block + 1 }
-}
+// ---- blocks taken
 
 // An unallocated block is allocated, counted once more, and filled with zeros in its own part of the contents.
 fn take(bytes: usize, flags: &mut [u8], counts: &mut [u16], contents: &mut [u8], block: usize)
@@ -65,8 +81,7 @@ fn take(bytes: usize, flags: &mut [u8], counts: &mut [u16], contents: &mut [u8],
     counts[block] = counts[block] + 1;
 }
 
-// `count` blocks are taken on one walk outward from the wanted one; their numbers go into the first places, and then the
-// reference points to each.
+// Each of the blocks is taken, and then the reference points to each.
 fn take_all(
     info: Info,
     flags: &mut [u8],
@@ -76,34 +91,22 @@ fn take_all(
     windows: &[u64],
     contents: &mut [u8],
     reference: u16,
-    want: usize,
-    count: usize,
-    places: &mut [u16],
+    numbers: &[u16],
 ) -> Info
-    requires { ⌜ CanTakeAll (lent info flags keys counts pointers windows contents) reference want count ⌝ }
-    requires { ⌜ count ≤ length (now places) ⌝ }
-    requires { ⌜ count ≤ 64 ⌝ }
-    ensures { λ r. ⌜ TakesPicks info flags keys counts pointers windows contents reference want count places r ⌝ }
+    requires { ⌜ CanTakeAll (lent info flags keys counts pointers windows contents) reference (now numbers) ⌝ }
+    ensures { λ r. ⌜ atExit r flags keys counts pointers windows contents ≡ changes (atEntry info flags keys counts pointers windows contents) (takeAll reference (now (numbers .entry))) ⌝ }
 {
-    let blocks = info.blocks;
     let bytes = info.bytes;
+    let count = numbers.len();
     // The pointers to the blocks taken, ascending.
     let mut added = [0u32; MOST_BLOCKS as usize];
-    let mut low = want;
-    let mut high = want;
     let mut taken = 0;
     while taken < count {
-        let block = next(want, blocks, low, high);
-        low = low_after(low, block);
-        high = high_after(high, block);
-        if !flags::allocated(flags[block]) {
-            let number = block as u16;
-            let pointer = (reference as u32) * 65536 + (number as u32);
-            take(bytes, flags, counts, contents, block);
-            tables::insert(&mut added, taken, pointer);
-            places[taken] = number;
-            taken += 1;
-        }
+        let number = numbers[taken];
+        let pointer = (reference as u32) * 65536 + (number as u32);
+        take(bytes, flags, counts, contents, number as usize);
+        tables::insert(&mut added, taken, pointer);
+        taken += 1;
     }
     tables::merge(pointers, info.used, &added, count);
     tables::with_used(info, info.used + count)
@@ -130,8 +133,8 @@ fn wanted(hint: u16) -> usize
     if hint == NO_HINT { 0 } else { hint as usize }
 }
 
-// The checks of ALLOC.
-fn alloc_check(
+// The checks of ALLOC before the last, which looks at the places for pointers.
+fn shared_check(
     info: Info,
     flags: &[u8],
     keys: &[u64],
@@ -144,7 +147,7 @@ fn alloc_check(
     places: &[u16],
 ) -> Checked
     requires { ⌜ SoundCard (lent info flags keys counts pointers windows contents) ⌝ }
-    ensures { λ r. ⌜ r ≡ checked port (atEntry info flags keys counts pointers windows contents) (request (Alloc o) [] [] (now (places .entry))) ⌝ }
+    ensures { λ r. ⌜ r ≡ byRefusal (first (sharedChecks port (atEntry info flags keys counts pointers windows contents) o (length (now (places .entry))))) ⌝ }
 {
     let credential = o.credential;
     let from = o.reference as usize;
@@ -174,10 +177,45 @@ fn alloc_check(
     if tables::count_free(flags) < count {
         return Checked::Refused(Refusal::TooFewBlocks);
     }
-    if pointers.len() < info.used + count {
-        return Checked::Refused(Refusal::TooFewPlaces);
-    }
     Checked::Passed
+}
+
+// The checks of ALLOC.
+fn alloc_check(
+    info: Info,
+    flags: &[u8],
+    keys: &[u64],
+    counts: &[u16],
+    pointers: &[u32],
+    windows: &[u64],
+    contents: &[u8],
+    port: Port,
+    o: AllocOperands,
+    places: &[u16],
+) -> Checked
+    requires { ⌜ SoundCard (lent info flags keys counts pointers windows contents) ⌝ }
+    ensures { λ r. ⌜ r ≡ checked port (atEntry info flags keys counts pointers windows contents) (request (Alloc o) [] [] (now (places .entry))) ⌝ }
+{
+    match shared_check(
+        info,
+        flags,
+        keys,
+        counts,
+        pointers,
+        windows,
+        contents,
+        port,
+        o,
+        places,
+    ) {
+        Checked::Refused(why) => Checked::Refused(why),
+        Checked::Passed => {
+            if pointers.len() < info.used + (o.count as usize) {
+                return Checked::Refused(Refusal::TooFewPlaces);
+            }
+            Checked::Passed
+        }
+    }
 }
 
 // ALLOC on a card that has been audited.
@@ -210,7 +248,8 @@ pub fn alloc_sound(
     ) {
         Checked::Refused(why) => outcomes::refused(info, why),
         Checked::Passed => {
-            let want = wanted(o.hint);
+            let count = o.count as usize;
+            pick_all(flags, wanted(o.hint), count, places);
             let left = take_all(
                 info,
                 flags,
@@ -220,9 +259,7 @@ pub fn alloc_sound(
                 windows,
                 contents,
                 o.reference,
-                want,
-                o.count as usize,
-                places,
+                &places[..count],
             );
             outcomes::done(left)
         }

@@ -13,6 +13,7 @@ pub mod Plan
 pub mod ChangesLaws
 pub mod PlanLaws
 pub mod Calls
+pub mod Takeable
 pub mod NearestLaws
 pub mod PicksLaws
 pub mod RunsLaws

@@ -26,7 +26,7 @@ contains-there y x xs h = contains-cons y x xs ∙ or-right (eqb x y) _ h
 pub contains-rest : (y x : ℕ) (xs : List ℕ) → (x ≡ y → ⊥) → contains y (x ∷ xs) ≡ true → contains y xs ≡ true
 contains-rest y x xs other h = or-else (eqb x y) _ (sym (contains-cons y x xs) ∙ h) (ne-eqb x y other)
 
-pub contains-append : (y : ℕ) (xs ys : List ℕ) → contains y (xs ++ ys) ≡ true → (contains y xs ≡ true) ⊎ (contains y ys ≡ true)
+contains-append : (y : ℕ) (xs ys : List ℕ) → contains y (xs ++ ys) ≡ true → (contains y xs ≡ true) ⊎ (contains y ys ≡ true)
 contains-append y [] ys h = inr h
 contains-append y (x ∷ xs) ys h =
     ⊎-elim
@@ -34,13 +34,13 @@ contains-append y (x ∷ xs) ys h =
     (λ e. ⊎-elim (λ i. inl (contains-there y x xs i)) (λ i. inr i) (contains-append y xs ys e))
     (or-cases (eqb x y) _ (sym (contains-cons y x (xs ++ ys)) ∙ h))
 
-pub contains-left : (y : ℕ) (xs ys : List ℕ) → contains y xs ≡ true → contains y (xs ++ ys) ≡ true
+contains-left : (y : ℕ) (xs ys : List ℕ) → contains y xs ≡ true → contains y (xs ++ ys) ≡ true
 unfolding contains any
 contains-left y [] ys h = absurd-test {t = false} h refl
 contains-left y (x ∷ xs) ys h =
     ⊎-elim (λ e. or-left (eqb x y) _ e) (λ e. or-right (eqb x y) _ (contains-left y xs ys e)) (or-cases (eqb x y) _ h)
 
-pub contains-right : (y : ℕ) (xs ys : List ℕ) → contains y ys ≡ true → contains y (xs ++ ys) ≡ true
+contains-right : (y : ℕ) (xs ys : List ℕ) → contains y ys ≡ true → contains y (xs ++ ys) ≡ true
 contains-right y [] ys h = h
 contains-right y (x ∷ xs) ys h = contains-there y x (xs ++ ys) (contains-right y xs ys h)
 
@@ -86,7 +86,7 @@ module _ (p : ℕ → Bool) where
       (eq-or-lt-of-le (le-of-suc-le-suc l))
 
   -- A list ends with a number above each of it.
-  pub ascending-end : (n : ℕ) (xs : List ℕ) → ascending xs ≡ true → ((y : ℕ) → contains y xs ≡ true → y < n) → ascending (xs ++ (n ∷ [])) ≡ true
+  ascending-end : (n : ℕ) (xs : List ℕ) → ascending xs ≡ true → ((y : ℕ) → contains y xs ≡ true → y < n) → ascending (xs ++ (n ∷ [])) ≡ true
   unfolding ascending
   ascending-end n [] a h = refl
   ascending-end n (x ∷ []) a h = ascending-cons x n [] (h x (contains-here x [])) refl

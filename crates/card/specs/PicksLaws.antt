@@ -14,17 +14,10 @@ use Rattle.card.specs.ListsLaws.{or-left, or-right, or-cases, all-cons, 
 use Rattle.card.specs.Pointers.{contains, remove}
 use Rattle.card.specs.PointersLaws.{all-remove, remove-length}
 use Rattle.card.specs.Card.{Public, allocated, freeBlocks}
+use Rattle.card.specs.Takeable.{Without, Distinct, none, more, Takeable}
 use Rattle.card.specs.Calls.{distance, nearest, picks}
 
 -- ---- lists of different numbers
-
--- Each number of the list is another than x.
-abbrev pub Without : ℕ → List ℕ → Type 0
-Without x xs = all (λ y. not (eqb y x)) xs ≡ true
-
-pub data Distinct : List ℕ → Type 0 where
-  none : Distinct []
-  more : {x : ℕ} {xs : List ℕ} → Without x xs → Distinct xs → Distinct (x ∷ xs)
 
 pub distinct-head : {x : ℕ} {xs : List ℕ} → Distinct (x ∷ xs) → Without x xs
 distinct-head (more w d) = w
@@ -146,12 +139,6 @@ picks-length want (suc n) [] h = absurd (not-suc-le-zero h)
 picks-length want (suc n) (x ∷ xs) h =
     let best : ℕ = nearest want x xs in
     ap suc (picks-length want n (remove best (x ∷ xs)) (omega (arith, remove-length best (x ∷ xs) (nearest-there want x xs))))
-
--- Blocks that can be taken one after the other: below N, unallocated and all different.
-pub record Takeable (p : Public) (bs : List ℕ) : Type 0 where
-  pub below : all (λ b. ltb b (p .info .blocks)) bs ≡ true
-  pub free : all (λ b. not (allocated p b)) bs ≡ true
-  pub distinct : Distinct bs
 
 pub picks-takeable : (p : Public) (want n : ℕ) → Takeable p (picks want n (freeBlocks p))
 unfolding freeBlocks

@@ -1,7 +1,7 @@
 -- Laws of checks in order, and of a call judged by them.
 use mathlib.Core.Path.{_≡_, refl, ap, subst}
 use mathlib.Core.Bool.{Bool, true, false, not, cond, true≢false}
-use mathlib.Core.List.{List, [], _∷_}
+use mathlib.Core.List.{List, [], _∷_, _++_}
 use mathlib.Core.Option.{none, some}
 use Rattle.card.specs.Card.{Card}
 use Rattle.card.specs.Soundness.{shape, sound}
@@ -42,6 +42,20 @@ pub first-none : (checks : List Check) → first checks ≡ none → NoneHolds c
 unfolding first
 first-none [] e = tt
 first-none ((t ⇒ s) ∷ checks) e = first-none-at t s checks (first-none checks) e
+
+-- ---- checks behind checks
+
+pub holds-front : {checks : List Check} {r : Refusal} (rest : List Check) → FirstHolds checks r → FirstHolds (checks ++ rest) r
+holds-front rest (here e) = here e
+holds-front rest (later e h) = later e (holds-front rest h)
+
+pub holds-behind : (checks : List Check) {rest : List Check} {r : Refusal} → NoneHolds checks → FirstHolds rest r → FirstHolds (checks ++ rest) r
+holds-behind [] n h = h
+holds-behind ((t ⇒ s) ∷ checks) n h = later (n .0) (holds-behind checks (n .1) h)
+
+pub none-append : (checks rest : List Check) → NoneHolds checks → NoneHolds rest → NoneHolds (checks ++ rest)
+none-append [] rest n h = h
+none-append ((t ⇒ s) ∷ checks) rest n h = (n .0, none-append checks rest (n .1) h)
 
 -- ---- a call judged
 

@@ -14,7 +14,8 @@ use Rattle.card.specs.Pointers.{ascending, contains}
 use Rattle.card.specs.Card.{Public, allocated}
 use Rattle.card.specs.Calls.{distance, nearest, isRun, runStarts, nearestRun}
 use Rattle.card.specs.NearestLaws.{contains-here, numbers-hold, hold-numbers, numbers-ascend, nearest-is}
-use Rattle.card.specs.PicksLaws.{Without, Distinct, none, more, Takeable, nearest-there}
+use Rattle.card.specs.Takeable.{Distinct, none, more, Takeable}
+use Rattle.card.specs.PicksLaws.{nearest-there}
 
 -- ---- numbers in a row
 

@@ -1,5 +1,5 @@
 -- `allocation::wanted` is the wanted block of the definition.
-use Rattle.allocation.proofs.Allocating.{wanted-none, wanted-hint}
+use Rattle.allocation.proofs.Shared.{wanted-none, wanted-hint}
 use Rattle.allocation.proofs.wanted.Statement.{statement}
 use Rattle.allocation.proofs.wanted.Tie as tie
 

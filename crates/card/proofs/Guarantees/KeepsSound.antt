@@ -10,11 +10,11 @@ use borrow.Author.Tests.{eqb-true, eqb-false, ltb-true, ltb-false, leb-false, no
 use Rattle.card.specs.Lists.{all}
 use Rattle.card.specs.ListsLaws.{or-false-left, or-false-right, all-head, all-tail, all-both}
 use Rattle.card.specs.Pointers.{pointer, source, destination, ascending, pointersTo}
-use Rattle.card.specs.Card.{Public, Card, allocated, isRoot, freeBlocks, longestInterval, count, inUse, pointsTo, hasPointers}
+use Rattle.card.specs.Card.{Public, Card, flag, allocatedFlag, allocated, isRoot, freeBlocks, longestInterval, count, inUse, pointsTo, hasPointers}
 use Rattle.card.specs.Soundness.{timeLimit}
 use Rattle.card.specs.SoundCard.{SoundCard}
 use Rattle.card.specs.SoundnessLaws.{allocated-below}
-use Rattle.card.specs.Plan.{NoneHolds, setWindow, takeBlock, freeBlock, addPointer, dropPointer, withFlags, changePublic, change, changes, Buffers, Result, settle}
+use Rattle.card.specs.Plan.{NoneHolds, setWindow, freeBlock, dropPointer, withFlags, changePublic, change, changes, Buffers, Result, settle}
 use Rattle.card.specs.Calls.{missing, windowAfter, opensWindow, wanted, picks, takeAll, closeWindows, modeOf, readPlan, writePlan, allocPlan, runStarts, nearestRun, allocContigPlan, createPlan, deletePlan, keyPlan, renewPlan, forcePlan, freePlan, tickPlan, auditPlan}
 use Rattle.card.specs.Session.{Request, plan, perform}
 use Rattle.card.specs.declared.Port.{Port}
@@ -38,7 +38,8 @@ use Rattle.card.specs.ChangesLaws.{keyedFlag, keyedFlag-allocated}
 use Rattle.card.proofs.Guarantees.Steps.{allocated-set, allocated-other, unallocated-flag, setWindow-sound, setBlock-sound, setKeys-sound, setTime-sound}
 use Rattle.card.specs.ChangesLaws.{inserted-length}
 use Rattle.card.proofs.Guarantees.PointerSteps.{sound-but, addPointer-sound, takeAdd-sound, dropOne-sound, dropLast-sound}
-use Rattle.card.specs.PicksLaws.{Without, distinct-head, distinct-tail, Takeable, picks-takeable, picks-length}
+use Rattle.card.specs.Takeable.{Without, Takeable}
+use Rattle.card.specs.PicksLaws.{distinct-head, distinct-tail, picks-takeable, picks-length}
 use Rattle.card.specs.RunsLaws.{run-takeable, run-length}
 use Rattle.card.proofs.Guarantees.Judged.{judge-cases, judge-after}
 
@@ -142,37 +143,59 @@ delete-sound port c opened o s h = go (eqb (count (c .public) (o .destination)) 
 
 -- ---- ALLOC
 
--- After one block is taken, the others can still be taken.
-takeable-rest : (p : Public) (a b : ℕ) (bs : List ℕ) → Takeable p (b ∷ bs) → Takeable (changePublic (addPointer a b) (changePublic (takeBlock b) p)) bs
-unfolding changePublic allocated
-takeable-rest p a b bs t =
-    let without : Without b bs = distinct-head (t .distinct) in
-    record {
-      below = all-tail (λ b. ltb b (p .info .blocks)) b bs (t .below);
-      free =
-          all-both (λ x. not (allocated p x)) (λ x. not (eqb x b)) (λ x. not (allocated (withFlags p (set (p .flags) b 1)) x))
-          (λ x e f. ap not (allocated-other p b 1 x (eqb-false _ _ (not-true _ f))) ∙ e)
-          bs
-          (all-tail (λ x. not (allocated p x)) b bs (t .free))
-          without;
-      distinct = distinct-tail (t .distinct);
-    }
+-- The first of the blocks that can be taken.
+module _ {p : Public} {b : ℕ} {bs : List ℕ} (t : Takeable p (b ∷ bs)) where
+  pub takeable-below : b < p .info .blocks
+  takeable-below = ltb-true _ _ (all-head (λ x. ltb x (p .info .blocks)) b bs (t .below))
+
+  pub takeable-free : allocatedFlag (flag p b) ≡ false
+  takeable-free = unallocated-flag p b takeable-below (not-true _ (all-head (λ x. not (allocated p x)) b bs (t .free)))
+
+-- It is taken and pointed to, and then the others can still be.
+module _ {c : Card} (reference : ℕ) {b : ℕ} {bs : List ℕ} (s : SoundCard c) (a : allocated (c .public) reference ≡ true) (t : Takeable (c .public) (b ∷ bs))
+    (room : c .public .info .used + length (b ∷ bs) ≤ length (c .public .pointers)) where
+  abbrev taken : Card
+  taken = changes c (takeAll reference (b ∷ []))
+
+  place : c .public .info .used < length (c .public .pointers)
+  place = omega arith
+
+  pub taken-sound : SoundCard taken
+  unfolding takeAll changes
+  taken-sound = takeAdd-sound reference b s a (takeable-below t) (takeable-free t) place
+
+  pub taken-allocated : allocated (taken .public) reference ≡ true
+  unfolding takeAll changes change changePublic allocated
+  taken-allocated = allocated-set (c .public) b 1 reference refl a
+
+  pub taken-rest : Takeable (taken .public) bs
+  unfolding takeAll changes change changePublic allocated
+  taken-rest =
+      let p = c .public in
+      let without : Without b bs = distinct-head (t .distinct) in
+      record {
+        below = all-tail (λ x. ltb x (p .info .blocks)) b bs (t .below);
+        free =
+            all-both (λ x. not (allocated p x)) (λ x. not (eqb x b)) (λ x. not (allocated (withFlags p (set (p .flags) b 1)) x))
+            (λ x e f. ap not (allocated-other p b 1 x (eqb-false _ _ (not-true _ f))) ∙ e)
+            bs
+            (all-tail (λ x. not (allocated p x)) b bs (t .free))
+            without;
+        distinct = distinct-tail (t .distinct);
+      }
+
+  pub taken-room : taken .public .info .used + length bs ≤ length (taken .public .pointers)
+  unfolding takeAll changes change changePublic
+  taken-room = omega (arith, inserted-length (pointer reference b) (c .public .info .used) (c .public .pointers) (omega arith) place)
 
 takeAll-sound : {c : Card} (reference : ℕ) (bs : List ℕ) → SoundCard c → allocated (c .public) reference ≡ true → Takeable (c .public) bs
     → c .public .info .used + length bs ≤ length (c .public .pointers)
     → SoundCard (changes c (takeAll reference bs))
-unfolding takeAll changes change changePublic allocated
+unfolding takeAll changes
 takeAll-sound reference [] s a t room = s
-takeAll-sound {c} reference (b ∷ bs) s a t room =
-    let p : Public = c .public in
-    let below : b < p .info .blocks = ltb-true _ _ (all-head (λ b. ltb b (p .info .blocks)) b bs (t .below)) in
-    let free : allocated p b ≡ false = not-true _ (all-head (λ b. not (allocated p b)) b bs (t .free)) in
-    let place : p .info .used < length (p .pointers) = omega arith in
-    takeAll-sound reference bs
-    (takeAdd-sound reference b s a below (unallocated-flag p b below free) place)
-    (allocated-set p b 1 reference refl a)
-    (takeable-rest p reference b bs t)
-    (omega (arith, inserted-length (pointer reference b) (p .info .used) (p .pointers) (omega arith) place))
+takeAll-sound reference (b ∷ bs) s a t room =
+    takeAll-sound reference bs (taken-sound reference s a t room) (taken-allocated reference s a t room) (taken-rest reference s a t room)
+    (taken-room reference s a t room)
 
 alloc-sound : (port : Port) (c : Card) (opened : Bool) (o : AllocOperands) (places : ℕ) → SoundCard c
     → NoneHolds (allocPlan port (c .public) opened o places .checks) → SoundCard (changes c (allocPlan port (c .public) opened o places .steps))

@@ -30,7 +30,8 @@ use Rattle.card.specs.declared.Call.{Call}
 use Rattle.card.specs.declared.Call.the-variants.{Read, Write, Alloc, AllocContig, Create, Delete, Key, Renew, Force, Free, Tick, Audit}
 use Rattle.card.specs.ChangesLaws.{keyedFlag}
 use Rattle.card.proofs.Guarantees.Steps.{block-within, allocated-other}
-use Rattle.card.specs.PicksLaws.{Takeable, picks-takeable}
+use Rattle.card.specs.Takeable.{Takeable}
+use Rattle.card.specs.PicksLaws.{picks-takeable}
 use Rattle.card.specs.RunsLaws.{run-takeable}
 use Rattle.card.proofs.Guarantees.KeepsSound.{not-missing}
 use Rattle.card.proofs.Guarantees.Judged.{judge-after}

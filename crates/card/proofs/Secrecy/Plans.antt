@@ -37,7 +37,8 @@ use Rattle.card.specs.declared.ForceOperands.{ForceOperands}
 use Rattle.card.specs.declared.TickOperands.{TickOperands}
 use Rattle.card.specs.declared.Call.{Call}
 use Rattle.card.specs.declared.Call.the-variants.{Read, Write, Alloc, AllocContig, Create, Delete, Key, Renew, Force, Free, Tick, Audit}
-use Rattle.card.specs.PicksLaws.{Without, Distinct, none, more, Takeable, picks-takeable}
+use Rattle.card.specs.Takeable.{Without, Distinct, none, more, Takeable}
+use Rattle.card.specs.PicksLaws.{picks-takeable}
 use Rattle.card.specs.RunsLaws.{run-takeable}
 use Rattle.card.proofs.Secrecy.Closed.{Closed, Regular, Grown, inUse-added, used-added}
 use Rattle.card.proofs.Secrecy.StepsAlike.{AllowedAll}
