@@ -125,10 +125,10 @@ behind Audit ys = record { skip = refl; long = omega arith }
 -- The operands of ALLOC and of ALLOC_CONTIG: what follows of their parts follows of their bytes.
 by-parts : {A : Type 0} (o : AllocOperands) (ys : List ℕ) → FitsAlloc o
     → (o .reference ≡ number 2 (allocBody o ys)
-      → ValidCredential (o .credential) ≡ credential (drop 2 (allocBody o ys))
-      → o .hint ≡ number 2 (drop 19 (allocBody o ys))
-      → o .count ≡ getD (allocBody o ys) 21 0
-      → A)
+    → ValidCredential (o .credential) ≡ credential (drop 2 (allocBody o ys))
+    → o .hint ≡ number 2 (drop 19 (allocBody o ys))
+    → o .count ≡ getD (allocBody o ys) 21 0
+    → A)
     → A
 by-parts o ys h law =
     let hinted = opened (o .reference) (o .credential) (bytes 2 (o .hint) ++ (bytes 1 (o .count) ++ ys)) in
