@@ -1,4 +1,4 @@
-"""Session texts, their call records and the player's lines, after document 01, "Call records and the player"."""
+"""Session texts, their call records and the player's lines, after document 01, "Call records and the player", and the requests."""
 from __future__ import annotations
 
 import enum
@@ -182,7 +182,7 @@ CREDENTIAL = Field("a credential ('nothing', 'reference BLOCK' or 'key NUMBER')"
 NEW_KEY = Field("a new key ('none' or 'key NUMBER')", 17, read_new_key)
 DATA_FIELD = Field("data ('fill BYTE', 'hex BYTES' or a \"text\")", DATA, read_data)
 
-# The calls by kind at the host port; READ to KEY also have a service form, 128 higher.
+# The calls by kind at the host port; some also have a service form, 128 higher.
 CALLS: dict[str, tuple[int, tuple[Field, ...]]] = {
     "READ": (1, (BLOCK, CREDENTIAL, INTERVAL)),
     "WRITE": (2, (BLOCK, CREDENTIAL, INTERVAL, DATA_FIELD)),
@@ -195,13 +195,14 @@ CALLS: dict[str, tuple[int, tuple[Field, ...]]] = {
     "FREE": (9, ()),
     "TICK": (10, (SECONDS,)),
     "AUDIT": (11, ()),
+    "ALLOC_CONTIG": (12, (BLOCK, CREDENTIAL, HINT, COUNT)),
 }
-LAST_SERVICE = 6
+SERVICE_FORMS = {1, 2, 3, 4, 5, 6, 12}
 
 
 def name_of(kind: int) -> str:
     """The call of a kind at either port; empty where there is no such kind."""
-    plain = kind - SERVICE if SERVICE < kind <= SERVICE + LAST_SERVICE else kind
+    plain = kind - SERVICE if kind - SERVICE in SERVICE_FORMS else kind
     return next((name for name, (number, _) in CALLS.items() if number == plain), "")
 
 
@@ -225,7 +226,7 @@ class Statement(NamedTuple):
 def read_call(words: Words) -> bytes:
     service = words.takes("service")
     known = words.first() in CALLS
-    if service and not (known and CALLS[words.first()][0] <= LAST_SERVICE):
+    if service and not (known and CALLS[words.first()][0] in SERVICE_FORMS):
         raise words.fail(Problem.SERVICE)
     if not known:
         raise words.fail(Problem.CALL)
@@ -347,6 +348,7 @@ REFUSALS = {
     11: "too few places for pointers",
     12: "end of the clock",
     13: "malformed record, the session ends",
+    14: "too few unallocated blocks that adjoin",
 }
 
 
@@ -358,5 +360,5 @@ def in_words(name: str, answer: list[int]) -> str:
     listed = " ".join(str(result) for result in results)
     if name == "DELETE":
         return "done: freed" if results == [1] else "done: not freed"
-    words = {"READ": "bytes {}", "ALLOC": "blocks {}", "FREE": "{} unallocated", "TICK": "time {}"}
+    words = {"READ": "bytes {}", "ALLOC": "blocks {}", "ALLOC_CONTIG": "blocks {}", "FREE": "{} unallocated", "TICK": "time {}"}
     return "done: " + words[name].format(listed) if name in words else "done"

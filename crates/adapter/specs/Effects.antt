@@ -101,7 +101,7 @@ EffectsGiving rule info flags keys counts pointers windows contents value r =
     []
     []
 
--- The same of a function that any call may be given to, so that it is lent READ's buffer and ALLOC's places.
+-- The same of a function that any call may be given to, so that it is lent READ's buffer and the places of ALLOC and ALLOC_CONTIG.
 abbrev pub EffectsLent : (List ℕ → List ℕ → ℕ → List ℕ → Card → Effect) → Lent → Lent → Lent → Lent → Lent → Lent → Lent → Lent → Lent → LentNumber → ℕ → Type 0
 EffectsLent rule info flags keys counts pointers windows contents out places value r =
     Gives

@@ -15,7 +15,7 @@ use Rattle.card.specs.declared.Port.{Port}
 use Rattle.card.specs.declared.Call.{Call}
 use Rattle.card.specs.declared.Answer.{Answer}
 use Rattle.card.specs.declared.Refusal.{Refusal}
-use Rattle.card.specs.declared.Refusal.the-variants.{Misshapen, Unsound, NotAllocated, BadOperand, NotOpened, IsRoot, PointerExists, NoPointer, HasPointers, TooFewBlocks, TooFewPlaces, TimeEnds, BadRecord}
+use Rattle.card.specs.declared.Refusal.the-variants.{Misshapen, Unsound, NotAllocated, BadOperand, NotOpened, IsRoot, PointerExists, NoPointer, HasPointers, TooFewBlocks, TooFewPlaces, TimeEnds, BadRecord, NoRun}
 use Rattle.kinds.specs.KindsLaws.{data-right}
 use Rattle.records.specs.Decode.{nameOf, dataOf}
 use Rattle.records.specs.Parsed.{ParsedIs}
@@ -26,7 +26,7 @@ use Rattle.parameters.specs.Numbers.{recordLength, recordOf, numbersOf}
 use Rattle.adapter.specs.Effects.{Effect, valueAfter, effectOf, effect, formatEffect, dataIn, Does, Gives}
 
 -- The number of a refusal fits 32 bits.
-pub refusal-small : (r : Refusal) → refusalNumber r ≤ 13
+pub refusal-small : (r : Refusal) → refusalNumber r ≤ 14
 refusal-small Misshapen = omega arith
 refusal-small Unsound = omega arith
 refusal-small NotAllocated = omega arith
@@ -40,6 +40,7 @@ refusal-small TooFewBlocks = omega arith
 refusal-small TooFewPlaces = omega arith
 refusal-small TimeEnds = omega arith
 refusal-small BadRecord = omega arith
+refusal-small NoRun = omega arith
 
 -- ---- refusals
 

@@ -14,7 +14,7 @@ use Rattle.card.specs.Soundness.{verdict}
 use Rattle.card.specs.SoundnessLaws.{verdict-sound, sound-verdict}
 use Rattle.card.specs.Plan.{first, audited, outAfter, placesAfter, Plan, Buffers, Result, settle, judge}
 use Rattle.card.specs.Promises.{Is}
-use Rattle.card.specs.Calls.{readPlan, writePlan, allocPlan, createPlan, deletePlan, keyPlan, renewPlan, forcePlan, freePlan, tickPlan, auditPlan}
+use Rattle.card.specs.Calls.{readPlan, writePlan, allocPlan, allocContigPlan, createPlan, deletePlan, keyPlan, renewPlan, forcePlan, freePlan, tickPlan, auditPlan}
 use Rattle.card.specs.Session.{Request, request, plan, perform, reply}
 use Rattle.card.specs.SessionLaws.{is-misshapen, is-unsound}
 use Rattle.card.specs.declared.Port.{Port}
@@ -24,7 +24,7 @@ use Rattle.card.specs.declared.Refusal.{Refusal}
 use Rattle.card.specs.declared.Answer.{Answer}
 use Rattle.card.specs.declared.Answer.the-variants.{Refused}
 use Rattle.card.specs.declared.Call.{Call}
-use Rattle.card.specs.declared.Call.the-variants.{Read, Write, Alloc, Create, Delete, Key, Renew, Force, Free, Tick, Audit}
+use Rattle.card.specs.declared.Call.the-variants.{Read, Write, Alloc, AllocContig, Create, Delete, Key, Renew, Force, Free, Tick, Audit}
 use Rattle.card.proofs.Guarantees.KeepsSound.{done-sound}
 use Rattle.fields.specs.Bytes.{bytes}
 use Rattle.lines.specs.Replied.{replied}
@@ -64,6 +64,7 @@ module _ (port : Port) (c : Card) (call : Call) (input places : List ℕ) where
       go (Read o) = rw e
       go (Write o) = refl
       go (Alloc o) = refl
+      go (AllocContig o) = refl
       go (Create o) = refl
       go (Delete o) = refl
       go (Key o) = refl
@@ -80,6 +81,7 @@ unfolding plan readPlan outAfter answerBytes
 done-alike port c (Read o) lent out other places answer = refl
 done-alike port c (Write o) lent out other places answer = refl
 done-alike port c (Alloc o) lent out other places answer = refl
+done-alike port c (AllocContig o) lent out other places answer = refl
 done-alike port c (Create o) lent out other places answer = refl
 done-alike port c (Delete o) lent out other places answer = refl
 done-alike port c (Key o) lent out other places answer = refl
@@ -111,6 +113,7 @@ module _ (size : ℕ) where
   room-number (Read o) = omega arith
   room-number (Write o) = omega arith
   room-number (Alloc o) = omega arith
+  room-number (AllocContig o) = omega arith
   room-number (Create o) = omega arith
   room-number (Delete o) = omega arith
   room-number (Key o) = omega arith
@@ -126,6 +129,7 @@ module _ (size : ℕ) where
   room-lent (Read o) = omega arith
   room-lent (Write o) = omega arith
   room-lent (Alloc o) = omega arith
+  room-lent (AllocContig o) = omega arith
   room-lent (Create o) = omega arith
   room-lent (Delete o) = omega arith
   room-lent (Key o) = omega arith
@@ -144,10 +148,11 @@ pairs-short n places h = omega (arith, pairs-length (take n places), length-take
 module _ (port : Port) (c : Card) (size : ℕ) where
   done-short : (call : Call) (lent : Buffers) (out places : List ℕ) → length out ≡ lentSize size call → length places ≡ lentPlaces
       → length (answerBytes call (replied (plan port c call lent .answer) out places)) ≤ answerRoom size call
-  unfolding plan readPlan writePlan allocPlan createPlan deletePlan keyPlan renewPlan forcePlan freePlan tickPlan auditPlan answerBytes answerRoom bytes
+  unfolding plan readPlan writePlan allocPlan allocContigPlan createPlan deletePlan keyPlan renewPlan forcePlan freePlan tickPlan auditPlan answerBytes answerRoom bytes
   done-short (Read o) lent out places h p = omega arith
   done-short (Write o) lent out places h p = omega arith
   done-short (Alloc o) lent out places h p = omega (arith, pairs-short (o .count) places p)
+  done-short (AllocContig o) lent out places h p = omega (arith, pairs-short (o .count) places p)
   done-short (Create o) lent out places h p = omega arith
   done-short (Delete o) lent out places h p = omega arith
   done-short (Key o) lent out places h p = omega arith
@@ -181,10 +186,11 @@ module _ (port : Port) (c : Card) where
   Covers call out r = (r .out ≡ out) ⊎ (1 + length (r .out) ≤ length (answerBytes call (reply r)))
 
   settle-covers : (call : Call) (lent : Buffers) (o : Option Refusal) → Covers call (lent .out) (settle c lent (plan port c call lent) o)
-  unfolding settle plan readPlan writePlan allocPlan createPlan deletePlan keyPlan renewPlan forcePlan freePlan tickPlan auditPlan outAfter answerBytes bytes
+  unfolding settle plan readPlan writePlan allocPlan allocContigPlan createPlan deletePlan keyPlan renewPlan forcePlan freePlan tickPlan auditPlan outAfter answerBytes bytes
   settle-covers (Read o) lent none = inr (omega arith)
   settle-covers (Write o) lent none = inl refl
   settle-covers (Alloc o) lent none = inl refl
+  settle-covers (AllocContig o) lent none = inl refl
   settle-covers (Create o) lent none = inl refl
   settle-covers (Delete o) lent none = inl refl
   settle-covers (Key o) lent none = inl refl

@@ -43,6 +43,7 @@ fn room_of(info: Info, call: Call) -> usize
     match call {
         Call::Read(_) => 1 + lent_size(info, call),
         Call::Alloc(_) => 129,
+        Call::AllocContig(_) => 129,
         Call::Delete(_) => 9,
         Call::Free => 9,
         Call::Tick(_) => 9,
@@ -91,7 +92,7 @@ fn put_first_pairs(to: &mut [u8], at: usize, values: &[u16], count: usize) -> us
     }
 }
 
-// What a done call left in a buffer: READ's bytes, which stand here already, or ALLOC's numbers.
+// What a done call left in a buffer: READ's bytes, which stand here already, or the numbers of ALLOC and ALLOC_CONTIG.
 fn put_filled_bytes(to: &mut [u8], at: usize, filled: Filled, size: usize, places: &[u16]) -> usize
     requires { ⌜ at + size ≤ length (now to) ⌝ ∗ ⌜ at + length (filledBytes filled (take size (drop at (now to))) (now places)) ≤ length (now to) ⌝ }
     ensures { λ r. ⌜ Written (now (to .entry)) at (filledBytes filled (take size (drop at (now (to .entry)))) (now (places .entry))) (now (to .exit)) r ⌝ }

@@ -16,7 +16,7 @@ use Rattle.fields.specs.Fields.{credential, newKey}
 use Rattle.records.specs.Decode.{decodeCall, decodeKnown, decodeBody, nameOf, dataOf, Next, ended, refused, sent, nextOf, decode}
 use Rattle.records.specs.DecodeLaws.{OfKind, decoded-kind}
 use Rattle.kinds.specs.declared.Name.{Name}
-use Rattle.kinds.specs.declared.Name.the-variants.{Read as READ, Write as WRITE, Alloc as ALLOC, Create as CREATE, Delete as DELETE, Key as KEY, Renew as RENEW, Force as FORCE, Free as FREE, Tick as TICK, Audit as AUDIT}
+use Rattle.kinds.specs.declared.Name.the-variants.{Read as READ, Write as WRITE, Alloc as ALLOC, Create as CREATE, Delete as DELETE, Key as KEY, Renew as RENEW, Force as FORCE, Free as FREE, Tick as TICK, Audit as AUDIT, AllocContig as ALLOC-CONTIG}
 use Rattle.records.specs.declared.Decoding.{Decoding}
 use Rattle.records.specs.declared.Decoding.the-variants.{Decoded, Bad}
 
@@ -83,6 +83,7 @@ call-same port FORCE xs ys a = rw (first-same 2 xs ys a 2 (omega arith))
 call-same port FREE xs ys a = refl
 call-same port TICK xs ys a = rw (first-same 8 xs ys a 8 (omega arith))
 call-same port AUDIT xs ys a = refl
+call-same port ALLOC-CONTIG xs ys a = rw (first-same 22 xs ys a 2 (omega arith), operand-same 22 xs ys a 19 2 (omega arith), credential-within 22 xs ys a 2 (omega arith), a 21 (omega arith))
 
 -- The data lie within the body.
 data-in-body : (name : Name) → operandsLength name + dataLength name ≤ lengthOf name
@@ -98,6 +99,7 @@ data-in-body FORCE = omega arith
 data-in-body FREE = omega arith
 data-in-body TICK = omega arith
 data-in-body AUDIT = omega arith
+data-in-body ALLOC-CONTIG = omega arith
 
 -- ---- a record
 

@@ -51,7 +51,7 @@ arrivals wire xs = arrivalsWithin wire (suc (length xs)) xs
 
 -- ---- the calls of the records
 
--- A record's call with what is lent with it: READ as many bytes as is said here, ALLOC 64 places.
+-- A record's call with what is lent with it: READ as many bytes as is said here, ALLOC and ALLOC_CONTIG 64 places.
 abbrev pub requestWith : (Call → ℕ) → Arrived → Request
 requestWith size a = request (a .call) (a .payload) (zeros (size (a .call))) (zeros 64)
 

@@ -25,7 +25,7 @@ use Rattle.input.specs.declared.Stop.the-variants.{Went, Ended, Short, R
 abbrev pub playerPort : Port
 playerPort = Service
 
--- "It lends READ 512 bytes and ALLOC 64 places."
+-- "It lends READ 512 bytes and ALLOC 64 places." ALLOC_CONTIG is lent as many as ALLOC.
 unfoldable pub played : Port → Card → Call → List ℕ → Result
 played port c call payload = perform port c (request call payload (zeros 512) (zeros 64))
 

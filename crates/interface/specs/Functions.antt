@@ -4,7 +4,7 @@ use mathlib.Core.List.{List, []}
 use Rattle.card.specs.Card.{Card}
 use Rattle.card.specs.declared.Port.the-variants.{Host}
 use Rattle.card.specs.declared.Call.the-variants.{Force, Free, Tick, Audit}
-use Rattle.records.specs.Decode.{readWith, writeWith, allocWith, createWith, deleteWith, keyWith, renewWith}
+use Rattle.records.specs.Decode.{readWith, writeWith, allocWith, allocContigWith, createWith, deleteWith, keyWith, renewWith}
 use Rattle.records.specs.declared.Decoding.{Decoding}
 use Rattle.records.specs.declared.Decoding.the-variants.{Decoded}
 use Rattle.parameters.specs.Numbers.{credentialOf, newKeyOf, wireOf, atPort, decodeAt}
@@ -15,6 +15,7 @@ pub data Function : Type 0 where
   read : (port block : ℕ) (credential : List ℕ) (interval : ℕ) (out : List ℕ) → Function
   write : (port block : ℕ) (credential : List ℕ) (interval : ℕ) (bytes : List ℕ) → Function
   alloc : (port block : ℕ) (credential : List ℕ) (hint count : ℕ) (places : List ℕ) → Function
+  allocContig : (port block : ℕ) (credential : List ℕ) (hint count : ℕ) (places : List ℕ) → Function
   create : (port source : ℕ) (credential : List ℕ) (destination : ℕ) (second : List ℕ) → Function
   delete : (port source : ℕ) (credential : List ℕ) (destination value : ℕ) → Function
   key : (port block : ℕ) (credential newRead newWrite : List ℕ) → Function
@@ -40,6 +41,7 @@ abbrev pub lendingOf : Function → Lending
 lendingOf (read port block credential interval out) = lending (atPort port (readWith Host block (credentialOf credential) interval)) [] out [] 0
 lendingOf (write port block credential interval bytes) = lending (atPort port (writeWith Host block (credentialOf credential) interval)) bytes [] [] 0
 lendingOf (alloc port block credential hint count places) = lending (atPort port (allocWith Host block (credentialOf credential) hint count)) [] [] places 0
+lendingOf (allocContig port block credential hint count places) = lending (atPort port (allocContigWith Host block (credentialOf credential) hint count)) [] [] places 0
 lendingOf (create port source credential destination second) = lending (atPort port (createWith Host source (credentialOf credential) destination (credentialOf second))) [] [] [] 0
 lendingOf (delete port source credential destination value) = lending (atPort port (deleteWith Host source (credentialOf credential) destination)) [] [] [] value
 lendingOf (key port block credential newRead newWrite) = lending (atPort port (keyWith Host block (credentialOf credential) (newKeyOf newRead) (newKeyOf newWrite))) [] [] [] 0
@@ -60,6 +62,7 @@ abbrev pub functionPort : Function → ℕ
 functionPort (read port block credential interval out) = port
 functionPort (write port block credential interval bytes) = port
 functionPort (alloc port block credential hint count places) = port
+functionPort (allocContig port block credential hint count places) = port
 functionPort (create port source credential destination second) = port
 functionPort (delete port source credential destination value) = port
 functionPort (key port block credential newRead newWrite) = port

@@ -11,7 +11,7 @@ use records::Decoding;
 ghost use mathlib.Core.Path.{_≡_};
 ghost use mathlib.Core.List.{[]};
 ghost use Rattle.adapter.specs.Effects.{formatEffect, Effects, EffectsGiving, EffectsLent};
-ghost use Rattle.interface.specs.Functions.{read, write, alloc, create, delete, key, renew, force, tick, free, audit, serve, effectBy};
+ghost use Rattle.interface.specs.Functions.{read, write, alloc, allocContig, create, delete, key, renew, force, tick, free, audit, serve, effectBy};
 ghost use Rattle.interface.specs.Batch.{stopNumber, ServesBatch};
 
 // ---- the calls, by their operands
@@ -111,6 +111,45 @@ pub extern "C" fn negvask_alloc(
 {
     let parsed = parameters::credential_of(credential);
     let made = records::alloc_with(Port::Host, block, parsed, hint, count);
+    let decoding = parameters::at_port(port, made);
+    let mut value = 0;
+    adapter::perform(
+        info,
+        flags,
+        keys,
+        counts,
+        pointers,
+        windows,
+        contents,
+        decoding,
+        &[],
+        &mut [],
+        places,
+        &mut value,
+    )
+}
+
+// ALLOC_CONTIG: `count` adjoining blocks below the block, their numbers into `places`.
+#[no_mangle]
+pub extern "C" fn negvask_alloc_contig(
+    info: &mut [u64],
+    flags: &mut [u8],
+    keys: &mut [u64],
+    counts: &mut [u16],
+    pointers: &mut [u32],
+    windows: &mut [u64],
+    contents: &mut [u8],
+    port: u8,
+    block: u16,
+    credential: &[u8],
+    hint: u16,
+    count: u8,
+    places: &mut [u16],
+) -> u32
+    ensures { λ r. ⌜ Effects (effectBy (allocContig port block (now (credential .entry)) hint count (now (places .entry)))) info flags keys counts pointers windows contents r [] (now (places .exit)) ⌝ }
+{
+    let parsed = parameters::credential_of(credential);
+    let made = records::alloc_contig_with(Port::Host, block, parsed, hint, count);
     let decoding = parameters::at_port(port, made);
     let mut value = 0;
     adapter::perform(

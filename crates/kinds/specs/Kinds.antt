@@ -7,7 +7,7 @@ use Rattle.card.specs.Pointers.{contains}
 use Rattle.card.specs.declared.Port.{Port}
 use Rattle.card.specs.declared.Port.the-variants.{Host, Service}
 use Rattle.kinds.specs.declared.Name.{Name}
-use Rattle.kinds.specs.declared.Name.the-variants.{Read as READ, Write as WRITE, Alloc as ALLOC, Create as CREATE, Delete as DELETE, Key as KEY, Renew as RENEW, Force as FORCE, Free as FREE, Tick as TICK, Audit as AUDIT}
+use Rattle.kinds.specs.declared.Name.the-variants.{Read as READ, Write as WRITE, Alloc as ALLOC, Create as CREATE, Delete as DELETE, Key as KEY, Renew as RENEW, Force as FORCE, Free as FREE, Tick as TICK, Audit as AUDIT, AllocContig as ALLOC-CONTIG}
 use Rattle.kinds.specs.declared.Kind.{Kind}
 use Rattle.kinds.specs.declared.Kind.the-variants.{Known, Unknown}
 use Rattle.kinds.specs.declared.Lengths.{Lengths}
@@ -32,13 +32,14 @@ row FORCE = 8 body 2 payload 0
 row FREE = 9 body 0 payload 0
 row TICK = 10 body 8 payload 0
 row AUDIT = 11 body 0 payload 0
+row ALLOC-CONTIG = 12 body 22 payload 0
 
 -- The calls that have a kind at each port.
 unfoldable pub names : Port → List Name
-names Host = READ ∷ WRITE ∷ ALLOC ∷ CREATE ∷ DELETE ∷ KEY ∷ RENEW ∷ FORCE ∷ FREE ∷ TICK ∷ AUDIT ∷ []
-names Service = READ ∷ WRITE ∷ ALLOC ∷ CREATE ∷ DELETE ∷ KEY ∷ []
+names Host = READ ∷ WRITE ∷ ALLOC ∷ CREATE ∷ DELETE ∷ KEY ∷ RENEW ∷ FORCE ∷ FREE ∷ TICK ∷ AUDIT ∷ ALLOC-CONTIG ∷ []
+names Service = READ ∷ WRITE ∷ ALLOC ∷ CREATE ∷ DELETE ∷ KEY ∷ ALLOC-CONTIG ∷ []
 
--- Document 01, "Kinds 129 to 134 are 1 to 6 at the service port."
+-- Document 01, "Kinds 129 to 134 are 1 to 6 at the service port."; 2026-01, "host kind 12 and service kind 140".
 abbrev pub kindAt : Port → Row → ℕ
 kindAt Host (kind body length payload extra) = kind
 kindAt Service (kind body length payload extra) = 128 + kind

@@ -10,7 +10,7 @@ use Rattle.card.specs.declared.Port.the-variants.{Host}
 use Rattle.kinds.specs.Kinds.{row, names, kindNumber, lengthOf, dataLength, operandsLength, among, kindOf}
 use Rattle.kinds.specs.declared.Kind.the-variants.{Known, Unknown}
 use Rattle.kinds.specs.declared.Name.{Name}
-use Rattle.kinds.specs.declared.Name.the-variants.{Read as READ, Write as WRITE, Alloc as ALLOC, Create as CREATE, Delete as DELETE, Key as KEY, Renew as RENEW, Force as FORCE, Free as FREE, Tick as TICK, Audit as AUDIT}
+use Rattle.kinds.specs.declared.Name.the-variants.{Read as READ, Write as WRITE, Alloc as ALLOC, Create as CREATE, Delete as DELETE, Key as KEY, Renew as RENEW, Force as FORCE, Free as FREE, Tick as TICK, Audit as AUDIT, AllocContig as ALLOC-CONTIG}
 
 -- ---- a host's kinds
 
@@ -43,6 +43,7 @@ data-most FORCE = omega arith
 data-most FREE = omega arith
 data-most TICK = omega arith
 data-most AUDIT = omega arith
+data-most ALLOC-CONTIG = omega arith
 
 pub data-right : (name : Name) → dataLength name ≡ lengthOf name - operandsLength name
 unfolding operandsLength

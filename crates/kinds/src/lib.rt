@@ -1,5 +1,5 @@
 // The kinds of call records: the call and the port of a byte of kind, by the port at which it arrives, and the length of its body.
-// What is right is defined in specs/, after document 01, "Call records and the player".
+// What is right is defined in specs/, after document 01, "Call records and the player", and the requests.
 use card::Port;
 ghost use mathlib.Core.Path.{_≡_};
 ghost use Prim.Native.Nat.{_≤_};
@@ -19,6 +19,7 @@ pub enum Name {
     Free,
     Tick,
     Audit,
+    AllocContig,
 }
 
 // What the byte of kind says.
@@ -55,6 +56,7 @@ fn host_kind_of(kind: u8) -> Kind
         9 => Kind::Known(Port::Host, Name::Free),
         10 => Kind::Known(Port::Host, Name::Tick),
         11 => Kind::Known(Port::Host, Name::Audit),
+        12 => Kind::Known(Port::Host, Name::AllocContig),
         _ => Kind::Unknown,
     }
 }
@@ -71,6 +73,7 @@ fn service_kind_of(kind: u8) -> Kind
         132 => Kind::Known(Port::Service, Name::Create),
         133 => Kind::Known(Port::Service, Name::Delete),
         134 => Kind::Known(Port::Service, Name::Key),
+        140 => Kind::Known(Port::Service, Name::AllocContig),
         _ => Kind::Unknown,
     }
 }
@@ -113,6 +116,7 @@ pub fn lengths_of(name: Name) -> Lengths
         Name::Free => both(0, 0),
         Name::Tick => both(8, 8),
         Name::Audit => both(0, 0),
+        Name::AllocContig => both(22, 22),
     }
 }
 

@@ -6,14 +6,14 @@ use lib.ListN.{length, take}
 use Rattle.card.specs.Session.{Reply, traits, shownValues}
 use Rattle.card.specs.declared.Answer.{Answer}
 use Rattle.card.specs.declared.Call.{Call}
-use Rattle.card.specs.declared.Call.the-variants.{Read, Write, Alloc, Create, Delete, Key, Renew, Force, Free, Tick, Audit}
+use Rattle.card.specs.declared.Call.the-variants.{Read, Write, Alloc, AllocContig, Create, Delete, Key, Renew, Force, Free, Tick, Audit}
 use Rattle.lines.specs.declared.Filled.{Filled}
 use Rattle.lines.specs.declared.Filled.the-variants.{Neither, Bytes, Blocks}
 
 abbrev pub replied : Answer → List ℕ → List ℕ → Reply
 replied answer out places = record { answer = answer; out = out; places = places }
 
--- The buffers that a player lends: READ at least 8 bytes and ALLOC at most 64 places.
+-- The buffers that a player lends: READ at least 8 bytes, ALLOC and ALLOC_CONTIG at most 64 places.
 pub record BuffersFit (out places : List ℕ) : Type 0 where
   pub bytes : 8 ≤ length out
   pub numbers : length places ≤ 64
@@ -23,6 +23,7 @@ abbrev pub filledBy : Call → Filled
 filledBy (Read o) = Bytes
 filledBy (Write o) = Neither
 filledBy (Alloc o) = Blocks (o .count)
+filledBy (AllocContig o) = Blocks (o .count)
 filledBy (Create o) = Neither
 filledBy (Delete o) = Neither
 filledBy (Key o) = Neither
@@ -42,6 +43,7 @@ unfolding traits
 values-filled (Read o) r = refl
 values-filled (Write o) r = refl
 values-filled (Alloc o) r = refl
+values-filled (AllocContig o) r = refl
 values-filled (Create o) r = refl
 values-filled (Delete o) r = refl
 values-filled (Key o) r = refl

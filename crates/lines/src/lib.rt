@@ -98,7 +98,7 @@ pub fn put_text(to: &mut [u8], at: usize, text: &[u8]) -> usize
 
 // ---- the lines of a player
 
-// Document 01's number of a refusal.
+// The number of a refusal, of document 01 or of a request.
 pub fn refusal_number(r: Refusal) -> u64
     ensures { λ n. ⌜ n ≡ refusalNumber r ⌝ }
 {
@@ -116,6 +116,7 @@ pub fn refusal_number(r: Refusal) -> u64
         Refusal::TooFewPlaces => 11,
         Refusal::TimeEnds => 12,
         Refusal::BadRecord => 13,
+        Refusal::NoRun => 14,
     }
 }
 
@@ -126,13 +127,14 @@ pub enum Filled {
     Blocks(u8),
 }
 
-// READ fills the bytes, ALLOC so many block numbers, and no other call fills either.
+// READ fills the bytes, ALLOC and ALLOC_CONTIG so many block numbers, and no other call fills either.
 pub fn filled_by(call: Call) -> Filled
     ensures { λ r. ⌜ r ≡ filledBy call ⌝ }
 {
     match call {
         Call::Read(_) => Filled::Bytes,
         Call::Alloc(o) => Filled::Blocks(o.count),
+        Call::AllocContig(o) => Filled::Blocks(o.count),
         _ => Filled::Neither,
     }
 }
@@ -149,7 +151,7 @@ fn put_first(to: &mut [u8], at: usize, values: &[u16], count: usize) -> usize
     }
 }
 
-// The values in the buffer that a done call filled: READ's first 8 bytes, ALLOC's numbers.
+// The values in the buffer that a done call filled: READ's first 8 bytes, the numbers of ALLOC and ALLOC_CONTIG.
 fn put_filled(to: &mut [u8], at: usize, filled: Filled, out: &[u8], places: &[u16]) -> usize
     requires { ⌜ BuffersFit (now out) (now places) ⌝ ∗ ⌜ at + 1344 ≤ length (now to) ⌝ }
     ensures { λ r. ⌜ Written (now (to .entry)) at (spaced (valuesOf filled (now (out .entry)) (now (places .entry)))) (now (to .exit)) r ⌝ }

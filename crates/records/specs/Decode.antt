@@ -8,13 +8,14 @@ use lib.ListN.{length, take, drop, getD}
 use Rattle.card.specs.declared.Port.{Port}
 use Rattle.card.specs.declared.Credential.{Credential}
 use Rattle.card.specs.declared.Credential.the-variants.{Nothing, Reference, Key as KeyCredential}
+use Rattle.card.specs.declared.AllocOperands.{AllocOperands}
 use Rattle.card.specs.declared.Call.{Call}
-use Rattle.card.specs.declared.Call.the-variants.{Read, Write, Alloc, Create, Delete, Key, Renew, Force, Free, Tick, Audit}
+use Rattle.card.specs.declared.Call.the-variants.{Read, Write, Alloc, AllocContig, Create, Delete, Key, Renew, Force, Free, Tick, Audit}
 use Rattle.fields.specs.Bytes.{number}
 use Rattle.fields.specs.Fields.{credential, newKey}
 use Rattle.kinds.specs.Kinds.{lengthOf, dataLength, operandsLength, kindOf}
 use Rattle.kinds.specs.declared.Name.{Name}
-use Rattle.kinds.specs.declared.Name.the-variants.{Read as READ, Write as WRITE, Alloc as ALLOC, Create as CREATE, Delete as DELETE, Key as KEY, Renew as RENEW, Force as FORCE, Free as FREE, Tick as TICK, Audit as AUDIT}
+use Rattle.kinds.specs.declared.Name.the-variants.{Read as READ, Write as WRITE, Alloc as ALLOC, Create as CREATE, Delete as DELETE, Key as KEY, Renew as RENEW, Force as FORCE, Free as FREE, Tick as TICK, Audit as AUDIT, AllocContig as ALLOC-CONTIG}
 use Rattle.kinds.specs.declared.Kind.{Kind}
 use Rattle.kinds.specs.declared.Kind.the-variants.{Known, Unknown}
 use Rattle.fields.specs.declared.ParsedCredential.{ParsedCredential}
@@ -37,9 +38,15 @@ readWith port block p interval = withCredential port (λ c. Read (record { block
 abbrev pub writeWith : Port → ℕ → ParsedCredential → ℕ → Decoding
 writeWith port block p interval = withCredential port (λ c. Write (record { block = block; credential = c; interval = interval })) p
 
+-- ALLOC and ALLOC_CONTIG have the same operands.
+abbrev pub allocOperands : ℕ → Credential → ℕ → ℕ → AllocOperands
+allocOperands reference c hint count = record { reference = reference; credential = c; hint = hint; count = count }
+
 abbrev pub allocWith : Port → ℕ → ParsedCredential → ℕ → ℕ → Decoding
-allocWith port reference p hint count =
-    withCredential port (λ c. Alloc (record { reference = reference; credential = c; hint = hint; count = count })) p
+allocWith port reference p hint count = withCredential port (λ c. Alloc (allocOperands reference c hint count)) p
+
+abbrev pub allocContigWith : Port → ℕ → ParsedCredential → ℕ → ℕ → Decoding
+allocContigWith port reference p hint count = withCredential port (λ c. AllocContig (allocOperands reference c hint count)) p
 
 unfoldable pub createWith : Port → ℕ → ParsedCredential → ℕ → ParsedCredential → Decoding
 createWith port source (ValidCredential c) destination (ValidCredential d) =
@@ -82,6 +89,7 @@ decodeCall port FORCE xs = Decoded port (Force (record { block = number 2 xs }))
 decodeCall port FREE xs = Decoded port Free
 decodeCall port TICK xs = Decoded port (Tick (record { seconds = number 8 xs }))
 decodeCall port AUDIT xs = Decoded port Audit
+decodeCall port ALLOC-CONTIG xs = allocContigWith port (number 2 xs) (credential (drop 2 xs)) (number 2 (drop 19 xs)) (getD xs 21 0)
 
 -- ---- a record
 
@@ -98,6 +106,7 @@ unfoldable pub nameOf : Call → Name
 nameOf (Read o) = READ
 nameOf (Write o) = WRITE
 nameOf (Alloc o) = ALLOC
+nameOf (AllocContig o) = ALLOC-CONTIG
 nameOf (Create o) = CREATE
 nameOf (Delete o) = DELETE
 nameOf (Key o) = KEY

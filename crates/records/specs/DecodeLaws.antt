@@ -19,9 +19,9 @@ use Rattle.fields.specs.Bytes.{number}
 use Rattle.kinds.specs.Kinds.{lengthOf, kindOf}
 use Rattle.kinds.specs.KindsLaws.{host-kinds}
 use Rattle.fields.specs.Fields.{credential, newKey}
-use Rattle.records.specs.Decode.{withCredential, readWith, writeWith, allocWith, createWith, deleteWith, keyWith, renewWith, decodeCall, decodeKnown, decodeBody, nameOf, sent, nextOf, decode}
+use Rattle.records.specs.Decode.{withCredential, readWith, writeWith, allocWith, allocContigWith, createWith, deleteWith, keyWith, renewWith, decodeCall, decodeKnown, decodeBody, nameOf, sent, nextOf, decode}
 use Rattle.kinds.specs.declared.Name.{Name}
-use Rattle.kinds.specs.declared.Name.the-variants.{Read as READ, Write as WRITE, Alloc as ALLOC, Create as CREATE, Delete as DELETE, Key as KEY, Renew as RENEW, Force as FORCE, Free as FREE, Tick as TICK, Audit as AUDIT}
+use Rattle.kinds.specs.declared.Name.the-variants.{Read as READ, Write as WRITE, Alloc as ALLOC, Create as CREATE, Delete as DELETE, Key as KEY, Renew as RENEW, Force as FORCE, Free as FREE, Tick as TICK, Audit as AUDIT, AllocContig as ALLOC-CONTIG}
 use Rattle.kinds.specs.declared.Kind.{Kind}
 use Rattle.kinds.specs.declared.Kind.the-variants.{Known, Unknown}
 use Rattle.fields.specs.declared.ParsedCredential.{ParsedCredential}
@@ -48,6 +48,11 @@ module _ (port : Port) (xs : List ℕ) where
       → allocWith port r p h n ≡ decodeCall port ALLOC xs
   unfolding decodeCall
   alloc r p h n = rw (r, p, h, n)
+
+  pub alloc-contig : {r h n : ℕ} {p : ParsedCredential} → r ≡ number 2 xs → p ≡ credential (drop 2 xs) → h ≡ number 2 (drop 19 xs) → n ≡ getD xs 21 0
+      → allocContigWith port r p h n ≡ decodeCall port ALLOC-CONTIG xs
+  unfolding decodeCall
+  alloc-contig r p h n = rw (r, p, h, n)
 
   pub create : {s d : ℕ} {p q : ParsedCredential} → s ≡ number 2 xs → p ≡ credential (drop 2 xs) → d ≡ number 2 (drop 19 xs) → q ≡ credential (drop 21 xs)
       → createWith port s p d q ≡ decodeCall port CREATE xs
@@ -152,6 +157,7 @@ named port FORCE xs = (refl, refl)
 named port FREE xs = (refl, refl)
 named port TICK xs = (refl, refl)
 named port AUDIT xs = (refl, refl)
+named port ALLOC-CONTIG xs = named-credential port ALLOC-CONTIG _ (λ c. refl) _
 
 apart : (p : Port) (call : Call) → Decoded p call ≡ Bad → ⊥
 apart p call e = let z : _≡_ {A = ℕ} 0 1 = cc in omega arith

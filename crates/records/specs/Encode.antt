@@ -7,8 +7,9 @@ use Rattle.card.specs.declared.Credential.{Credential}
 use Rattle.card.specs.declared.Credential.the-variants.{Nothing, Reference, Key as KeyCredential}
 use Rattle.card.specs.declared.NewKey.{NewKey}
 use Rattle.card.specs.declared.NewKey.the-variants.{Absent, Present}
+use Rattle.card.specs.declared.AllocOperands.{AllocOperands}
 use Rattle.card.specs.declared.Call.{Call}
-use Rattle.card.specs.declared.Call.the-variants.{Read, Write, Alloc, Create, Delete, Key, Renew, Force, Free, Tick, Audit}
+use Rattle.card.specs.declared.Call.the-variants.{Read, Write, Alloc, AllocContig, Create, Delete, Key, Renew, Force, Free, Tick, Audit}
 use Rattle.fields.specs.Bytes.{bytes}
 use Rattle.kinds.specs.Kinds.{kindNumber}
 use Rattle.records.specs.Decode.{nameOf}
@@ -22,11 +23,16 @@ unfoldable pub newKeyBytes : NewKey → List ℕ
 newKeyBytes Absent = 0 ∷ replicate 16 0
 newKeyBytes (Present high low) = 1 ∷ (bytes 8 high ++ bytes 8 low)
 
+-- The operands of ALLOC and of ALLOC_CONTIG.
+abbrev pub allocBody : AllocOperands → List ℕ → List ℕ
+allocBody o ys = bytes 2 (o .reference) ++ (credentialBytes (o .credential) ++ (bytes 2 (o .hint) ++ (bytes 1 (o .count) ++ ys)))
+
 -- A call's operands in order, then what follows them.
 unfoldable pub body : Call → List ℕ → List ℕ
 body (Read o) ys = bytes 2 (o .block) ++ (credentialBytes (o .credential) ++ (bytes 4 (o .interval) ++ ys))
 body (Write o) ys = bytes 2 (o .block) ++ (credentialBytes (o .credential) ++ (bytes 4 (o .interval) ++ ys))
-body (Alloc o) ys = bytes 2 (o .reference) ++ (credentialBytes (o .credential) ++ (bytes 2 (o .hint) ++ (bytes 1 (o .count) ++ ys)))
+body (Alloc o) ys = allocBody o ys
+body (AllocContig o) ys = allocBody o ys
 body (Create o) ys =
     bytes 2 (o .source) ++ (credentialBytes (o .credential) ++ (bytes 2 (o .destination) ++ (credentialBytes (o .second) ++ ys)))
 body (Delete o) ys = bytes 2 (o .source) ++ (credentialBytes (o .credential) ++ (bytes 2 (o .destination) ++ ys))
@@ -58,10 +64,14 @@ FitsNewKey Absent = Unit {0}
 FitsNewKey (Present high low) = Fits 8 high × Fits 8 low
 
 -- Each operand fits its width.
+abbrev pub FitsAlloc : AllocOperands → Type 0
+FitsAlloc o = Fits 2 (o .reference) × (FitsCredential (o .credential) × (Fits 2 (o .hint) × Fits 1 (o .count)))
+
 unfoldable pub FitsCall : Call → Type 0
 FitsCall (Read o) = Fits 2 (o .block) × (FitsCredential (o .credential) × Fits 4 (o .interval))
 FitsCall (Write o) = Fits 2 (o .block) × (FitsCredential (o .credential) × Fits 4 (o .interval))
-FitsCall (Alloc o) = Fits 2 (o .reference) × (FitsCredential (o .credential) × (Fits 2 (o .hint) × Fits 1 (o .count)))
+FitsCall (Alloc o) = FitsAlloc o
+FitsCall (AllocContig o) = FitsAlloc o
 FitsCall (Create o) = Fits 2 (o .source) × (FitsCredential (o .credential) × (Fits 2 (o .destination) × FitsCredential (o .second)))
 FitsCall (Delete o) = Fits 2 (o .source) × (FitsCredential (o .credential) × Fits 2 (o .destination))
 FitsCall (Key o) = Fits 2 (o .block) × (FitsCredential (o .credential) × (FitsNewKey (o .read) × FitsNewKey (o .write)))

@@ -15,17 +15,18 @@ use Rattle.card.specs.declared.Credential.{Credential}
 use Rattle.card.specs.declared.Credential.the-variants.{Nothing, Reference, Key as KeyCredential}
 use Rattle.card.specs.declared.NewKey.{NewKey}
 use Rattle.card.specs.declared.NewKey.the-variants.{Absent, Present}
+use Rattle.card.specs.declared.AllocOperands.{AllocOperands}
 use Rattle.card.specs.declared.Call.{Call}
-use Rattle.card.specs.declared.Call.the-variants.{Read, Write, Alloc, Create, Delete, Key, Renew, Force, Free, Tick, Audit}
+use Rattle.card.specs.declared.Call.the-variants.{Read, Write, Alloc, AllocContig, Create, Delete, Key, Renew, Force, Free, Tick, Audit}
 use Rattle.fields.specs.Bytes.{number, bytes, zeroed}
 use Rattle.fields.specs.BytesLaws.{length-bytes, number-bytes}
 use Rattle.kinds.specs.Kinds.{row, names, kindNumber, lengthOf, dataLength, operandsLength, takes, hasKind, among, kindOf}
 use Rattle.fields.specs.Fields.{credential, newKey}
 use Rattle.records.specs.Decode.{withCredential, createWith, keyWith, renewWith, decodeCall, nameOf, dataOf, sent, nextOf, decode}
 use Rattle.records.specs.DecodeLaws as laws
-use Rattle.records.specs.Encode.{credentialBytes, newKeyBytes, body, encode, Fits, FitsCredential, FitsNewKey, FitsCall}
+use Rattle.records.specs.Encode.{credentialBytes, newKeyBytes, allocBody, body, encode, Fits, FitsCredential, FitsNewKey, FitsAlloc, FitsCall}
 use Rattle.kinds.specs.declared.Name.{Name}
-use Rattle.kinds.specs.declared.Name.the-variants.{Read as READ, Write as WRITE, Alloc as ALLOC, Create as CREATE, Delete as DELETE, Key as KEY, Renew as RENEW, Force as FORCE, Free as FREE, Tick as TICK, Audit as AUDIT}
+use Rattle.kinds.specs.declared.Name.the-variants.{Read as READ, Write as WRITE, Alloc as ALLOC, Create as CREATE, Delete as DELETE, Key as KEY, Renew as RENEW, Force as FORCE, Free as FREE, Tick as TICK, Audit as AUDIT, AllocContig as ALLOC-CONTIG}
 use Rattle.kinds.specs.declared.Kind.{Kind}
 use Rattle.kinds.specs.declared.Kind.the-variants.{Known, Unknown}
 use Rattle.fields.specs.declared.ParsedCredential.the-variants.{Valid as ValidCredential}
@@ -107,6 +108,7 @@ unfolding operandsLength lengthOf dataLength row nameOf body
 behind (Read o) ys = then-more (opened _ _ _) (then-bytes 4 _ ys)
 behind (Write o) ys = then-more (opened _ _ _) (then-bytes 4 _ ys)
 behind (Alloc o) ys = then-more (opened _ _ _) (then-more (then-bytes 2 _ _) (then-bytes 1 _ ys))
+behind (AllocContig o) ys = then-more (opened _ _ _) (then-more (then-bytes 2 _ _) (then-bytes 1 _ ys))
 behind (Create o) ys = then-more (opened _ _ _) (then-more (then-bytes 2 _ _) (then-credential _ ys))
 behind (Delete o) ys = then-more (opened _ _ _) (then-bytes 2 _ ys)
 behind (Key o) ys = then-more (opened _ _ _) (then-more (then-newKey _ _) (then-newKey _ ys))
@@ -120,6 +122,22 @@ behind Audit ys = record { skip = refl; long = omega arith }
 
 -- ---- each call
 
+-- The operands of ALLOC and of ALLOC_CONTIG: what follows of their parts follows of their bytes.
+by-parts : {A : Type 0} (o : AllocOperands) (ys : List ℕ) → FitsAlloc o
+    → (o .reference ≡ number 2 (allocBody o ys)
+    → ValidCredential (o .credential) ≡ credential (drop 2 (allocBody o ys))
+    → o .hint ≡ number 2 (drop 19 (allocBody o ys))
+    → o .count ≡ getD (allocBody o ys) 21 0
+    → A)
+    → A
+by-parts o ys h law =
+    let hinted = opened (o .reference) (o .credential) (bytes 2 (o .hint) ++ (bytes 1 (o .count) ++ ys)) in
+    law
+    (sym (number-bytes 2 (o .reference) _ (h .0)))
+    (sym (at credential (then-bytes 2 (o .reference) _) (credential-back (o .credential) _ (h .1 .0))))
+    (sym (at (number 2) hinted (number-bytes 2 (o .hint) _ (h .1 .1 .0))))
+    (sym (byte-at 21 _ (o .count) ys (then-more hinted (then-bytes 2 (o .hint) _)) (h .1 .1 .1)))
+
 decoded : (port : Port) (call : Call) (ys : List ℕ) → FitsCall call → Decoded port call ≡ decodeCall port (nameOf call) (body call ys)
 unfolding FitsCall nameOf body withCredential createWith keyWith renewWith
 decoded port (Read o) ys h =
@@ -132,13 +150,8 @@ decoded port (Write o) ys h =
     (sym (number-bytes 2 (o .block) _ (h .0)))
     (sym (at credential (then-bytes 2 (o .block) _) (credential-back (o .credential) _ (h .1 .0))))
     (sym (at (number 4) (opened (o .block) (o .credential) _) (number-bytes 4 (o .interval) ys (h .1 .1))))
-decoded port (Alloc o) ys h =
-    let hinted = opened (o .reference) (o .credential) (bytes 2 (o .hint) ++ (bytes 1 (o .count) ++ ys)) in
-    laws.alloc port _
-    (sym (number-bytes 2 (o .reference) _ (h .0)))
-    (sym (at credential (then-bytes 2 (o .reference) _) (credential-back (o .credential) _ (h .1 .0))))
-    (sym (at (number 2) hinted (number-bytes 2 (o .hint) _ (h .1 .1 .0))))
-    (sym (byte-at 21 _ (o .count) ys (then-more hinted (then-bytes 2 (o .hint) _)) (h .1 .1 .1)))
+decoded port (Alloc o) ys h = by-parts o ys h (laws.alloc port (allocBody o ys))
+decoded port (AllocContig o) ys h = by-parts o ys h (laws.alloc-contig port (allocBody o ys))
 decoded port (Create o) ys h =
     laws.create port _
     (sym (number-bytes 2 (o .source) _ (h .0)))
@@ -198,6 +211,7 @@ host-kind FORCE = refl
 host-kind FREE = refl
 host-kind TICK = refl
 host-kind AUDIT = refl
+host-kind ALLOC-CONTIG = refl
 
 service-kind : (name : Name) → hasKind Service name ≡ true → kindOf Service (kindNumber Service name) ≡ Known Service name
 unfolding hasKind contains any kindOf among names kindNumber row
@@ -212,6 +226,7 @@ service-kind FORCE e = absurd (false≢true e)
 service-kind FREE e = absurd (false≢true e)
 service-kind TICK e = absurd (false≢true e)
 service-kind AUDIT e = absurd (false≢true e)
+service-kind ALLOC-CONTIG e = refl
 
 known-kind : (wire port : Port) → takes wire port ≡ true → (name : Name) → hasKind port name ≡ true → kindOf wire (kindNumber port name) ≡ Known port name
 unfolding takes kindOf
@@ -234,12 +249,14 @@ parts FORCE = refl
 parts FREE = refl
 parts TICK = refl
 parts AUDIT = refl
+parts ALLOC-CONTIG = refl
 
 body-append : (call : Call) (ys zs : List ℕ) → body call ys ++ zs ≡ body call (ys ++ zs)
 unfolding body
 body-append (Read o) ys zs = simp append-assoc
 body-append (Write o) ys zs = simp append-assoc
 body-append (Alloc o) ys zs = simp append-assoc
+body-append (AllocContig o) ys zs = simp append-assoc
 body-append (Create o) ys zs = simp append-assoc
 body-append (Delete o) ys zs = simp append-assoc
 body-append (Key o) ys zs = simp append-assoc

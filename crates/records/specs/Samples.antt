@@ -6,7 +6,7 @@ use lib.ListN.{replicate}
 use Rattle.card.specs.declared.Port.the-variants.{Host, Service}
 use Rattle.card.specs.declared.Credential.the-variants.{Nothing, Reference, Key as KeyCredential}
 use Rattle.card.specs.declared.NewKey.the-variants.{Absent, Present}
-use Rattle.card.specs.declared.Call.the-variants.{Read, Alloc, Create, Key, Renew, Free, Tick}
+use Rattle.card.specs.declared.Call.the-variants.{Read, Alloc, AllocContig, Create, Key, Renew, Free, Tick}
 use Rattle.fields.specs.Bytes.{number, zeroed}
 use Rattle.kinds.specs.Kinds.{row, dataLength, names, kindNumber, lengthOf, operandsLength, among, kindOf}
 use Rattle.fields.specs.Fields.{credential, newKey}
@@ -36,9 +36,9 @@ keyBytes = replicate 7 0 ++ (1 ∷ (replicate 7 0 ++ (2 ∷ [])))
 unfoldable pub sampleTable : List Sample
 sampleTable =
     ([] gives ended)
-    -- another kind: 0, 12, and FREE at the service port
+    -- another kind: 0, 13, and FREE at the service port
     ∷ (0 ∷ [] gives refused)
-    ∷ (12 ∷ replicate 60 0 gives refused)
+    ∷ (13 ∷ replicate 60 0 gives refused)
     ∷ (137 ∷ [] gives refused)
     ∷ (9 ∷ 7 ∷ [] gives sent Host Free [] (7 ∷ []))
     -- READ 258 by reference 5, interval 16,909,060; the same one byte short, with filler, and with a wrong first byte
@@ -48,6 +48,10 @@ sampleTable =
     ∷ (1 ∷ 1 ∷ 2 ∷ 3 ∷ (five ++ (1 ∷ 2 ∷ 3 ∷ 4 ∷ [])) gives refused)
     -- ALLOC at 0 by nothing, no hint, count 2
     ∷ (131 ∷ 0 ∷ 0 ∷ 0 ∷ (zeros16 ++ (255 ∷ 255 ∷ 2 ∷ [])) gives sent Service (Alloc (record { reference = 0; credential = Nothing; hint = 65535; count = 2 })) [] [])
+    -- ALLOC_CONTIG at 3 by a key, hint 258, count 64, and the same one byte short; and at 0 by nothing, no hint, count 2
+    ∷ (12 ∷ 0 ∷ 3 ∷ 2 ∷ (keyBytes ++ (1 ∷ 2 ∷ 64 ∷ 9 ∷ [])) gives sent Host (AllocContig (record { reference = 3; credential = KeyCredential 1 2; hint = 258; count = 64 })) [] (9 ∷ []))
+    ∷ (12 ∷ 0 ∷ 3 ∷ 2 ∷ (keyBytes ++ (1 ∷ 2 ∷ [])) gives refused)
+    ∷ (140 ∷ 0 ∷ 0 ∷ 0 ∷ (zeros16 ++ (255 ∷ 255 ∷ 2 ∷ [])) gives sent Service (AllocContig (record { reference = 0; credential = Nothing; hint = 65535; count = 2 })) [] [])
     -- CREATE 3 to 4 by a key and a reference
     ∷ (4 ∷ 0 ∷ 3 ∷ 2 ∷ (keyBytes ++ (0 ∷ 4 ∷ 1 ∷ five)) gives sent Host (Create (record { source = 3; credential = KeyCredential 1 2; destination = 4; second = Reference 5 })) [] [])
     -- KEY of 1 with a write key only; a new key with a wrong first byte, and an absent one with filler

@@ -20,7 +20,7 @@ ghost use mathlib.Core.Path.{_≡_};
 ghost use Prim.Native.Nat.{_≤_};
 ghost use lib.ListN.{length};
 ghost use Rattle.kinds.specs.Kinds.{lengthOf};
-ghost use Rattle.records.specs.Decode.{readWith, writeWith, allocWith, createWith, deleteWith, keyWith, renewWith, decodeCall, decodeBody};
+ghost use Rattle.records.specs.Decode.{readWith, writeWith, allocOperands, allocWith, allocContigWith, createWith, deleteWith, keyWith, renewWith, decodeCall, decodeBody};
 ghost use Rattle.records.specs.Parsed.{parsedBad, ParsedIs};
 
 // A call at its port, or refusal 13.
@@ -70,6 +70,18 @@ pub fn write_with(port: Port, block: u16, parsed: ParsedCredential, interval: u3
     }
 }
 
+// ALLOC and ALLOC_CONTIG have the same operands.
+fn alloc_operands(reference: u16, credential: Credential, hint: u16, count: u8) -> AllocOperands
+    ensures { λ r. ⌜ r ≡ allocOperands reference credential hint count ⌝ }
+{
+    AllocOperands {
+        reference,
+        credential,
+        hint,
+        count,
+    }
+}
+
 pub fn alloc_with(
     port: Port,
     reference: u16,
@@ -80,15 +92,28 @@ pub fn alloc_with(
     ensures { λ r. ⌜ r ≡ allocWith port reference parsed hint count ⌝ }
 {
     match parsed {
-        ParsedCredential::Valid(credential) => Decoding::Decoded(
-            port,
-            Call::Alloc(AllocOperands {
-                reference,
-                credential,
-                hint,
-                count,
-            }),
-        ),
+        ParsedCredential::Valid(credential) => {
+            let o = alloc_operands(reference, credential, hint, count);
+            Decoding::Decoded(port, Call::Alloc(o))
+        }
+        ParsedCredential::Invalid => Decoding::Bad,
+    }
+}
+
+pub fn alloc_contig_with(
+    port: Port,
+    reference: u16,
+    parsed: ParsedCredential,
+    hint: u16,
+    count: u8,
+) -> Decoding
+    ensures { λ r. ⌜ r ≡ allocContigWith port reference parsed hint count ⌝ }
+{
+    match parsed {
+        ParsedCredential::Valid(credential) => {
+            let o = alloc_operands(reference, credential, hint, count);
+            Decoding::Decoded(port, Call::AllocContig(o))
+        }
         ParsedCredential::Invalid => Decoding::Bad,
     }
 }
@@ -229,6 +254,17 @@ fn decode_alloc(port: Port, body: &[u8]) -> Decoding
     alloc_with(port, reference, credential, hint, count)
 }
 
+fn decode_alloc_contig(port: Port, body: &[u8]) -> Decoding
+    requires { ⌜ 22 ≤ length (now body) ⌝ }
+    ensures { λ r. ⌜ r ≡ decodeCall port Name.AllocContig (now (body .entry)) ⌝ }
+{
+    let reference = fields::two(body, 0);
+    let credential = fields::credential(body, 2);
+    let hint = fields::two(body, 19);
+    let count = body[21];
+    alloc_contig_with(port, reference, credential, hint, count)
+}
+
 fn decode_create(port: Port, body: &[u8]) -> Decoding
     requires { ⌜ 38 ≤ length (now body) ⌝ }
     ensures { λ r. ⌜ r ≡ decodeCall port Name.Create (now (body .entry)) ⌝ }
@@ -308,6 +344,7 @@ fn decode_call(port: Port, name: Name, body: &[u8]) -> Decoding
         Name::Free => Decoding::Decoded(port, Call::Free),
         Name::Tick => decode_tick(port, body),
         Name::Audit => Decoding::Decoded(port, Call::Audit),
+        Name::AllocContig => decode_alloc_contig(port, body),
     }
 }
 

@@ -26,6 +26,10 @@ noCredential = zeros 17
 abbrev allocBytes : List ℕ
 allocBytes = 131 ∷ 0 ∷ 0 ∷ (noCredential ++ (255 ∷ 255 ∷ 2 ∷ []))
 
+-- ALLOC_CONTIG with the same operands.
+abbrev allocContigBytes : List ℕ
+allocContigBytes = 140 ∷ 0 ∷ 0 ∷ (noCredential ++ (255 ∷ 255 ∷ 2 ∷ []))
+
 -- A host's READ by nothing, interval 0.
 abbrev readBytes : ℕ → List ℕ
 readBytes b = 1 ∷ 0 ∷ b ∷ (noCredential ++ zeros 4)
@@ -75,9 +79,12 @@ batches =
     -- READ wants 513 bytes of room, whatever it answers; with one less the record is left
     ∷ batchSample playerCard Service (freeBytes ++ readBytes 1) 522 Ended (0 ∷ (zeros 7 ++ (15 ∷ 3 ∷ []))) 2 0
     ∷ batchSample playerCard Service (freeBytes ++ readBytes 1) 521 Full (0 ∷ (zeros 7 ++ (15 ∷ []))) 1 24
+    -- ALLOC_CONTIG wants 129 bytes of room
+    ∷ batchSample playerCard Service (allocContigBytes ++ freeBytes) 138 Ended (0 ∷ 0 ∷ 1 ∷ 0 ∷ 2 ∷ 0 ∷ (zeros 7 ++ (13 ∷ []))) 2 0
+    ∷ batchSample playerCard Service allocContigBytes 128 Full [] 0 23
     -- a body cut short, and another kind
     ∷ batchSample playerCard Service (auditBytes ++ (10 ∷ 0 ∷ [])) 100 Short (0 ∷ []) 1 2
-    ∷ batchSample playerCard Service (auditBytes ++ (12 ∷ 0 ∷ [])) 100 Refused (0 ∷ []) 1 2
+    ∷ batchSample playerCard Service (auditBytes ++ (13 ∷ 0 ∷ [])) 100 Refused (0 ∷ []) 1 2
     -- at the host port the service port's kinds do not exist, whole or cut short, and what came before is served
     ∷ batchSample playerCard Host (freeBytes ++ allocBytes) 1000 Refused (0 ∷ (zeros 7 ++ (15 ∷ []))) 1 23
     ∷ batchSample playerCard Host (auditBytes ++ (131 ∷ 0 ∷ [])) 100 Refused (0 ∷ []) 1 2

@@ -13,7 +13,7 @@ use Rattle.card.specs.declared.Port.{Port}
 use Rattle.card.specs.declared.Answer.{Answer}
 use Rattle.card.specs.declared.Answer.the-variants.{Refused, Done, Value}
 use Rattle.card.specs.declared.Call.{Call}
-use Rattle.card.specs.declared.Call.the-variants.{Read, Write, Alloc, Create, Delete, Key, Renew, Force, Free, Tick, Audit}
+use Rattle.card.specs.declared.Call.the-variants.{Read, Write, Alloc, AllocContig, Create, Delete, Key, Renew, Force, Free, Tick, Audit}
 use Rattle.fields.specs.Bytes.{bytes}
 use Rattle.records.specs.Decode.{Next, ended, refused, sent, decode}
 use Rattle.lines.specs.Replied.{filledBy}
@@ -29,7 +29,7 @@ unfoldable pub pairs : List ℕ → List ℕ
 pairs [] = []
 pairs (n ∷ ns) = bytes 2 n ++ pairs ns
 
--- What a done call leaves in the buffer that it fills: READ the block's bytes, ALLOC the numbers of the blocks.
+-- What a done call leaves in the buffer that it fills: READ the block's bytes, ALLOC and ALLOC_CONTIG the numbers of the blocks.
 abbrev pub filledBytes : Filled → List ℕ → List ℕ → List ℕ
 filledBytes Neither out places = []
 filledBytes Bytes out places = out
@@ -57,7 +57,7 @@ lentBytes size (Blocks n) = 0
 unfoldable pub lentSize : ℕ → Call → ℕ
 lentSize size call = lentBytes size (filledBy call)
 
--- ALLOC is lent so many places.
+-- ALLOC and ALLOC_CONTIG are lent so many places.
 abbrev pub lentPlaces : ℕ
 lentPlaces = 64
 
@@ -66,6 +66,7 @@ unfoldable pub answerRoom : ℕ → Call → ℕ
 answerRoom size (Read o) = 1 + lentSize size (Read o)
 answerRoom size (Write o) = 1
 answerRoom size (Alloc o) = 1 + 2 * lentPlaces
+answerRoom size (AllocContig o) = 1 + 2 * lentPlaces
 answerRoom size (Create o) = 1
 answerRoom size (Delete o) = 1 + 8
 answerRoom size (Key o) = 1

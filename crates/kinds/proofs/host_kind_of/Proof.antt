@@ -49,7 +49,11 @@ unfolding tableRules
 returns-11 c = at-kind Host (c .match .keys11)
 
 returns-12 : tie.Need-returns-12
-returns-12 c = unknown-host _ (c .match .rest)
+unfolding tableRules
+returns-12 c = at-kind Host (c .match .keys12)
+
+returns-13 : tie.Need-returns-13
+returns-13 c = unknown-host _ (c .match .rest)
 
 pub host-kind-of-spec : {M : Type 1} → statement M
 host-kind-of-spec =
@@ -66,4 +70,5 @@ host-kind-of-spec =
     returns-9
     returns-10
     returns-11
-    returns-12)
+    returns-12
+    returns-13)

@@ -71,6 +71,12 @@ enum-told-11 c = search needs
 both-requires-11 : tie.Need-both-requires-11
 both-requires-11 c κs = search needs
 
+enum-told-12 : tie.Need-enum-told-12
+enum-told-12 c = search needs
+
+both-requires-12 : tie.Need-both-requires-12
+both-requires-12 c κs = search needs
+
 returns : tie.Need-returns
 unfolding tableRules
 returns c = c .both .ensures ∙ at-name (c .before .enum-told .given .1)
@@ -115,6 +121,10 @@ returns-11 : tie.Need-returns-11
 unfolding tableRules
 returns-11 c = c .both11 .ensures ∙ at-name (c .before .enum-told11 .given .1)
 
+returns-12 : tie.Need-returns-12
+unfolding tableRules
+returns-12 c = c .both12 .ensures ∙ at-name (c .before .enum-told12 .given .1)
+
 pub lengths-of-spec : {M : Type 1} → statement M
 lengths-of-spec =
     tie.close
@@ -141,6 +151,8 @@ lengths-of-spec =
     both-requires-10
     enum-told-11
     both-requires-11
+    enum-told-12
+    both-requires-12
     returns
     returns-2
     returns-3
@@ -151,4 +163,5 @@ lengths-of-spec =
     returns-8
     returns-9
     returns-10
-    returns-11)
+    returns-11
+    returns-12)

@@ -29,7 +29,11 @@ unfolding tableRules
 returns-6 c = at-kind Service (c .match .keys6)
 
 returns-7 : tie.Need-returns-7
-returns-7 c = unknown-service _ (c .before .pre) (c .match .rest)
+unfolding tableRules
+returns-7 c = at-kind Service (c .match .keys7)
+
+returns-8 : tie.Need-returns-8
+returns-8 c = unknown-service _ (c .before .pre) (c .match .rest)
 
 pub service-kind-of-spec : {M : Type 1} → statement M
 service-kind-of-spec =
@@ -41,4 +45,5 @@ service-kind-of-spec =
     returns-4
     returns-5
     returns-6
-    returns-7)
+    returns-7
+    returns-8)

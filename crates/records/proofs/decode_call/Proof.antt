@@ -74,6 +74,13 @@ decode-tick-requires c κs = room (c .enum-told10 .given .1) (c .before .before 
 enum-told-11 : tie.Need-enum-told-11
 enum-told-11 c = search needs
 
+enum-told-12 : tie.Need-enum-told-12
+enum-told-12 c = search needs
+
+decode-alloc-contig-requires : tie.Need-decode-alloc-contig-requires
+unfolding tableRules
+decode-alloc-contig-requires c κs = room (c .enum-told12 .given .1) (c .before .before .before .pre)
+
 returns : tie.Need-returns
 returns c = by-name _ _ (c .before .enum-told .given .1) (c .decode-read .ensures)
 
@@ -107,6 +114,9 @@ returns-10 c = by-name _ _ (c .before .enum-told10 .given .1) (c .decode-tick .e
 returns-11 : tie.Need-returns-11
 returns-11 c = by-name _ _ (c .enum-told11 .given .1) (audit _ _)
 
+returns-12 : tie.Need-returns-12
+returns-12 c = by-name _ _ (c .before .enum-told12 .given .1) (c .decode-alloc-contig .ensures)
+
 pub decode-call-spec : {M : Type 1} → statement M
 decode-call-spec =
     tie.close
@@ -131,6 +141,8 @@ decode-call-spec =
     enum-told-10
     decode-tick-requires
     enum-told-11
+    enum-told-12
+    decode-alloc-contig-requires
     returns
     returns-2
     returns-3
@@ -141,4 +153,5 @@ decode-call-spec =
     returns-8
     returns-9
     returns-10
-    returns-11)
+    returns-11
+    returns-12)

@@ -1,0 +1,86 @@
+-- `interface::negvask_alloc_contig` meets its contract.
+use Rattle.adapter.specs.EffectsLaws.{no-out}
+use borrow.Author.Needs.{needs}
+use Rattle.interface.proofs.negvask_alloc_contig.Statement.{statement}
+use Rattle.interface.proofs.negvask_alloc_contig.Tie as tie
+
+-- ---- places of the code
+
+abbrev at-perform : tie.After-slice-known16 → tie.After-perform
+at-perform c = c .before .before .before .before .before .before .before .before .before .before .before .before .before .before .before .before .before
+
+abbrev at-arrival : tie.After-slice-known16 → tie.After-at-port
+at-arrival c = at-perform c .before .before .before .before .before .before .before .before .before .before .before .before
+
+abbrev at-made : tie.After-slice-known16 → tie.After-alloc-contig-with
+at-made c = at-arrival c .before
+
+abbrev at-credential : tie.After-slice-known16 → tie.After-credential-of
+at-credential c = at-made c .before
+
+-- ---- answers
+
+credential-of-requires : tie.Need-credential-of-requires
+credential-of-requires c κs = search needs
+
+alloc-contig-with-requires : tie.Need-alloc-contig-with-requires
+alloc-contig-with-requires c κs = search needs
+
+at-port-requires : tie.Need-at-port-requires
+at-port-requires c κs = search needs
+
+slice-aggregate-perform : tie.Need-slice-aggregate-perform
+slice-aggregate-perform c = search needs
+
+slice-aggregate-perform-2 : tie.Need-slice-aggregate-perform-2
+slice-aggregate-perform-2 c = search needs
+
+perform-requires : tie.Need-perform-requires
+perform-requires c κs = search needs
+
+same-length : tie.Need-same-length
+same-length c = at-perform c .perform .kept .0
+
+same-length-2 : tie.Need-same-length-2
+same-length-2 c = at-perform c .perform .kept .1 .0
+
+same-length-3 : tie.Need-same-length-3
+same-length-3 c = at-perform c .perform .kept .1 .1 .0
+
+same-length-4 : tie.Need-same-length-4
+same-length-4 c = at-perform c .perform .kept .1 .1 .1 .0
+
+same-length-5 : tie.Need-same-length-5
+same-length-5 c = at-perform c .perform .kept .1 .1 .1 .1 .0
+
+same-length-6 : tie.Need-same-length-6
+same-length-6 c = at-perform c .perform .kept .1 .1 .1 .1 .1 .0
+
+same-length-7 : tie.Need-same-length-7
+same-length-7 c = at-perform c .perform .kept .1 .1 .1 .1 .1 .1 .0
+
+same-length-8 : tie.Need-same-length-8
+same-length-8 c = at-perform c .perform .kept .1 .1 .1 .1 .1 .1 .1 .1 .1 .1 .0
+
+returns : tie.Need-returns
+returns c = rw (← at-credential c .credential-of .ensures, ← at-made c .alloc-contig-with .ensures, ← at-arrival c .at-port .ensures) ((no-out (at-perform c .perform .ensures) (at-perform c .perform .kept .1 .1 .1 .1 .1 .1 .1 .1 .1 .0)) .does)
+
+pub negvask-alloc-contig-spec : {M : Type 1} → statement M
+negvask-alloc-contig-spec =
+    tie.close
+    (tie.spec
+    credential-of-requires
+    alloc-contig-with-requires
+    at-port-requires
+    slice-aggregate-perform
+    slice-aggregate-perform-2
+    perform-requires
+    same-length
+    same-length-2
+    same-length-3
+    same-length-4
+    same-length-5
+    same-length-6
+    same-length-7
+    same-length-8
+    returns)
