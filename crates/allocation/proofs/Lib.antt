@@ -4,3 +4,5 @@ pub mod Collecting
 pub mod Taking
 pub mod Shared
 pub mod Allocating
+pub mod Listing
+pub mod Contig

@@ -114,12 +114,12 @@ waiting flags low high = numbersBelow (waits flags low high) (length flags)
 
 -- ---- places
 
-overwrite-none : (xs : List ℕ) (n : ℕ) → overwrite xs n [] ≡ xs
+pub overwrite-none : (xs : List ℕ) (n : ℕ) → overwrite xs n [] ≡ xs
 unfolding overwrite
 overwrite-none xs n = let none : n + 0 ≡ n = omega arith in rw none (take-append-drop n xs)
 
 -- One place is written, and then the others.
-overwrite-next : (xs : List ℕ) (n y : ℕ) (ys : List ℕ) → n < length xs → overwrite (set xs n y) (n + 1) ys ≡ overwrite xs n (y ∷ ys)
+pub overwrite-next : (xs : List ℕ) (n y : ℕ) (ys : List ℕ) → n < length xs → overwrite (set xs n y) (n + 1) ys ≡ overwrite xs n (y ∷ ys)
 unfolding overwrite
 overwrite-next xs n y ys l =
     let end : n + suc (length ys) ≡ n + 1 + length ys = omega arith in

@@ -8,7 +8,7 @@ use native.Mathlib.Omega.{arith}
 use lib.Dec.{eqb, ltb}
 use lib.ListN.{length, take, drop, length-take}
 use lib.Seq.{take-at}
-use borrow.Author.Tests.{lt-ltb, le-ltb, eq-eqb, ne-eqb, ltb-true, ltb-false, not-false}
+use borrow.Author.Tests.{lt-ltb, le-ltb, eq-eqb, ne-eqb, eqb-false, ltb-true, ltb-false, not-false}
 use Rattle.card.specs.ListsLaws.{or-false-left, or-false-right, and-true, absurd-test, not-cases}
 use Rattle.card.specs.Contents.{overwrite}
 use Rattle.card.specs.Card.{Card, card, allocated, freeBlocks}
@@ -111,27 +111,35 @@ module _ (port : Port) (c : Card) (o : AllocOperands) (places : List ℕ) where
 
   -- What holds once they pass.
   module _ (s : SoundCard c) (n : NoneHolds shared) where
-    operands-right : (o .count ≤ 64) × ((wanted (o .hint) < c .public .info .blocks) × (o .count ≤ length places))
+    operands-right : (1 ≤ o .count) × ((o .count ≤ 64) × ((wanted (o .hint) < c .public .info .blocks) × (o .count ≤ length places)))
     unfolding sharedChecks allocPlan
     operands-right =
         let front : Bool = eqb (o .count) 0 || ltb 64 (o .count) in
         let hinted : Bool = not (ltb (o .hint) (c .public .info .blocks)) && not (eqb (o .hint) noHint) in
-        let both : front || hinted ≡ false = or-false-left (front || hinted) _ (n .0) in (
-          ltb-false _ _ (or-false-right (eqb (o .count) 0) _ (or-false-left front hinted both)),
+        let both : front || hinted ≡ false = or-false-left (front || hinted) _ (n .0) in
+        let counted : front ≡ false = or-false-left front hinted both in
+        let other : (o .count ≡ 0 → ⊥) = eqb-false _ _ (or-false-left (eqb (o .count) 0) _ counted) in (
+          omega arith,
           (
-            wanted-below (c .public .info .blocks) (o .hint) (omega (arith, s .shaped .inRanges .blocksLow)) (or-false-right front hinted both),
-            ltb-false _ _ (or-false-right (front || hinted) _ (n .0)),
+            ltb-false _ _ (or-false-right (eqb (o .count) 0) _ counted),
+            (
+              wanted-below (c .public .info .blocks) (o .hint) (omega (arith, s .shaped .inRanges .blocksLow)) (or-false-right front hinted both),
+              ltb-false _ _ (or-false-right (front || hinted) _ (n .0)),
+            ),
           ),
         )
 
+    pub count-some : 1 ≤ o .count
+    count-some = operands-right .0
+
     pub count-low : o .count ≤ 64
-    count-low = operands-right .0
+    count-low = operands-right .1 .0
 
     pub wanted-there : wanted (o .hint) < c .public .info .blocks
-    wanted-there = operands-right .1 .0
+    wanted-there = operands-right .1 .1 .0
 
     pub count-fits : o .count ≤ length places
-    count-fits = operands-right .1 .1
+    count-fits = operands-right .1 .1 .1
 
     pub reference-there : allocated (c .public) (o .reference) ≡ true
     unfolding sharedChecks allocPlan

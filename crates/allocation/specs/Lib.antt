@@ -1,3 +1,4 @@
 pub mod Walk
 pub mod Taking
 pub mod SharedChecks
+pub mod RunChecked

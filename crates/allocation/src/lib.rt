@@ -1,4 +1,4 @@
-// ALLOC: blocks are picked on one walk outward from the wanted one, then taken and pointed to.
+// ALLOC and ALLOC_CONTIG: blocks are picked on one walk outward from the wanted one, or a run of them is found, then taken and pointed to.
 use card::AllocOperands;
 use card::Info;
 use card::MOST_BLOCKS;
@@ -8,22 +8,32 @@ use card::Outcome;
 use card::Port;
 use card::Refusal;
 use checks::Checked;
+use runs::NearestRun;
 ghost use mathlib.Core.Path.{_≡_};
 ghost use mathlib.Core.List.{[]};
-ghost use Prim.Native.Nat.{_<_};
 ghost use lib.ListN.{length};
+ghost use Prim.Native.Nat.{_+_, _≤_};
+ghost use Rattle.card.specs.Lists.{numbersFrom};
 ghost use Rattle.card.specs.Contents.{overwrite};
 ghost use Rattle.card.specs.Lent.{Performs, lent, atEntry, atExit};
 ghost use Rattle.card.specs.SoundCard.{SoundCard};
 ghost use Rattle.card.specs.Plan.{first, changes};
 ghost use Rattle.card.specs.Calls.{wanted, picks, takeAll};
 ghost use Rattle.card.specs.Session.{request, performSound};
-ghost use Rattle.card.specs.declared.Call.the-variants.{Alloc};
+ghost use Rattle.card.specs.declared.Call.the-variants.{Alloc, AllocContig};
 ghost use Rattle.tables.specs.Free.{unallocatedBelow};
 ghost use Rattle.checks.specs.Checked.{byRefusal, checked};
+ghost use Rattle.runs.specs.Runs.{startsIn, nearestOf};
 ghost use Rattle.allocation.specs.Walk.{Spread, NextBlock, CanPick};
 ghost use Rattle.allocation.specs.Taking.{CanTake, BlockTaken, CanTakeAll};
 ghost use Rattle.allocation.specs.SharedChecks.{badOperands, sharedChecks};
+ghost use Rattle.allocation.specs.RunChecked.{runChecked};
+
+// What the checks of ALLOC_CONTIG find: the refusal, or the first block of the run.
+pub enum RunChecked {
+    Refused(Refusal),
+    From(usize),
+}
 
 // ---- the walk
 
@@ -64,6 +74,19 @@ fn pick_all(flags: &[u8], want: usize, count: usize, places: &mut [u16])
             places[taken] = block as u16;
             taken += 1;
         }
+    }
+}
+
+// So many numbers in a row go into the first places.
+fn list_run(first: usize, count: usize, places: &mut [u16])
+    requires { ⌜ first + count ≤ 65536 ⌝ }
+    requires { ⌜ count ≤ length (now places) ⌝ }
+    ensures { λ _. ⌜ now (places .exit) ≡ overwrite (now (places .entry)) 0 (numbersFrom first count) ⌝ }
+{
+    let mut listed = 0;
+    while listed < count {
+        places[listed] = (first + listed) as u16;
+        listed += 1;
     }
 }
 
@@ -133,7 +156,7 @@ fn wanted(hint: u16) -> usize
     if hint == NO_HINT { 0 } else { hint as usize }
 }
 
-// The checks of ALLOC before the last, which looks at the places for pointers.
+// The checks that ALLOC and ALLOC_CONTIG share: those of ALLOC before the last, which looks at the places for pointers.
 fn shared_check(
     info: Info,
     flags: &[u8],
@@ -250,6 +273,95 @@ pub fn alloc_sound(
         Checked::Passed => {
             let count = o.count as usize;
             pick_all(flags, wanted(o.hint), count, places);
+            let left = take_all(
+                info,
+                flags,
+                keys,
+                counts,
+                pointers,
+                windows,
+                contents,
+                o.reference,
+                &places[..count],
+            );
+            outcomes::done(left)
+        }
+    }
+}
+
+// The checks of ALLOC_CONTIG, and the run that they find.
+fn alloc_contig_check(
+    info: Info,
+    flags: &[u8],
+    keys: &[u64],
+    counts: &[u16],
+    pointers: &[u32],
+    windows: &[u64],
+    contents: &[u8],
+    port: Port,
+    o: AllocOperands,
+    places: &[u16],
+) -> RunChecked
+    requires { ⌜ SoundCard (lent info flags keys counts pointers windows contents) ⌝ }
+    ensures { λ r. ⌜ r ≡ runChecked (checked port (atEntry info flags keys counts pointers windows contents) (request (AllocContig o) [] [] (now (places .entry)))) (nearestOf (wanted (o .hint)) (startsIn (now (flags .entry)) (o .count))) ⌝ }
+{
+    let shared = shared_check(
+        info,
+        flags,
+        keys,
+        counts,
+        pointers,
+        windows,
+        contents,
+        port,
+        o,
+        places,
+    );
+    if let Checked::Refused(why) = shared {
+        return RunChecked::Refused(why);
+    }
+    let count = o.count as usize;
+    let NearestRun::From(first) = runs::nearest_run(flags, wanted(o.hint), count) else {
+        return RunChecked::Refused(Refusal::NoRun);
+    };
+    if pointers.len() < info.used + count {
+        return RunChecked::Refused(Refusal::TooFewPlaces);
+    }
+    RunChecked::From(first)
+}
+
+// ALLOC_CONTIG on a card that has been audited.
+pub fn alloc_contig_sound(
+    info: Info,
+    flags: &mut [u8],
+    keys: &[u64],
+    counts: &mut [u16],
+    pointers: &mut [u32],
+    windows: &[u64],
+    contents: &mut [u8],
+    port: Port,
+    o: AllocOperands,
+    places: &mut [u16],
+) -> Outcome
+    requires { ⌜ SoundCard (lent info flags keys counts pointers windows contents) ⌝ }
+    ensures { λ r. ⌜ Performs (λ c. performSound port c (request (AllocContig o) [] [] (now (places .entry)))) info flags keys counts pointers windows contents r [] (now (places .exit)) ⌝ }
+{
+    match alloc_contig_check(
+        info,
+        flags,
+        keys,
+        counts,
+        pointers,
+        windows,
+        contents,
+        port,
+        o,
+        places,
+    ) {
+        RunChecked::Refused(why) => outcomes::refused(info, why),
+        RunChecked::From(first) => {
+            let count = o.count as usize;
+            list_run(first, count, places);
             let left = take_all(
                 info,
                 flags,
