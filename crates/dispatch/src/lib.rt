@@ -62,6 +62,18 @@ pub fn perform_sound(
             o,
             places,
         ),
+        Call::AllocContig(o) => allocation::alloc_contig_sound(
+            info,
+            flags,
+            keys,
+            counts,
+            pointers,
+            windows,
+            contents,
+            port,
+            o,
+            places,
+        ),
         Call::Create(o) => linking::create_sound(
             info,
             flags,

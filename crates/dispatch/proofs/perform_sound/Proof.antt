@@ -1,5 +1,5 @@
 -- `dispatch::perform_sound` meets its contract: each arm by one law.
-use Rattle.card.specs.BuffersLaws.{with-read, with-write, with-alloc, with-create, with-delete, with-key, with-renew, with-force, with-free, with-tick, with-audit}
+use Rattle.card.specs.BuffersLaws.{with-read, with-write, with-alloc, with-alloc-contig, with-create, with-delete, with-key, with-renew, with-force, with-free, with-tick, with-audit}
 use borrow.Author.Needs.{needs}
 use Rattle.dispatch.proofs.perform_sound.Statement.{statement}
 use Rattle.dispatch.proofs.perform_sound.Tie as tie
@@ -25,29 +25,35 @@ alloc-sound-requires c κs = search needs
 enum-known-call-4 : tie.Need-enum-known-call-4
 enum-known-call-4 c = search needs
 
-create-sound-requires : tie.Need-create-sound-requires
-create-sound-requires c κs = search needs
+alloc-contig-sound-requires : tie.Need-alloc-contig-sound-requires
+alloc-contig-sound-requires c κs = search needs
 
 enum-known-call-5 : tie.Need-enum-known-call-5
 enum-known-call-5 c = search needs
 
-delete-sound-requires : tie.Need-delete-sound-requires
-delete-sound-requires c κs = search needs
+create-sound-requires : tie.Need-create-sound-requires
+create-sound-requires c κs = search needs
 
 enum-known-call-6 : tie.Need-enum-known-call-6
 enum-known-call-6 c = search needs
 
-key-sound-requires : tie.Need-key-sound-requires
-key-sound-requires c κs = search needs
+delete-sound-requires : tie.Need-delete-sound-requires
+delete-sound-requires c κs = search needs
 
 enum-known-call-7 : tie.Need-enum-known-call-7
 enum-known-call-7 c = search needs
 
-renew-sound-requires : tie.Need-renew-sound-requires
-renew-sound-requires c κs = search needs
+key-sound-requires : tie.Need-key-sound-requires
+key-sound-requires c κs = search needs
 
 enum-known-call-8 : tie.Need-enum-known-call-8
 enum-known-call-8 c = search needs
+
+renew-sound-requires : tie.Need-renew-sound-requires
+renew-sound-requires c κs = search needs
+
+enum-known-call-9 : tie.Need-enum-known-call-9
+enum-known-call-9 c = search needs
 
 force-sound-requires : tie.Need-force-sound-requires
 force-sound-requires c κs = search needs
@@ -58,8 +64,8 @@ enum-told c = search needs
 free-sound-requires : tie.Need-free-sound-requires
 free-sound-requires c κs = search needs
 
-enum-known-call-9 : tie.Need-enum-known-call-9
-enum-known-call-9 c = search needs
+enum-known-call-10 : tie.Need-enum-known-call-10
+enum-known-call-10 c = search needs
 
 tick-sound-requires : tie.Need-tick-sound-requires
 tick-sound-requires c κs = search needs
@@ -154,11 +160,11 @@ same-length-25 c = search needs
 same-length-26 : tie.Need-same-length-26
 same-length-26 c = search needs
 
-returns-4 : tie.Need-returns-4
-returns-4 c = search with-create
-
 same-length-27 : tie.Need-same-length-27
 same-length-27 c = search needs
+
+returns-4 : tie.Need-returns-4
+returns-4 c = search with-alloc-contig
 
 same-length-28 : tie.Need-same-length-28
 same-length-28 c = search needs
@@ -175,11 +181,11 @@ same-length-31 c = search needs
 same-length-32 : tie.Need-same-length-32
 same-length-32 c = search needs
 
-returns-5 : tie.Need-returns-5
-returns-5 c = search with-delete
-
 same-length-33 : tie.Need-same-length-33
 same-length-33 c = search needs
+
+returns-5 : tie.Need-returns-5
+returns-5 c = search with-create
 
 same-length-34 : tie.Need-same-length-34
 same-length-34 c = search needs
@@ -196,11 +202,11 @@ same-length-37 c = search needs
 same-length-38 : tie.Need-same-length-38
 same-length-38 c = search needs
 
-returns-6 : tie.Need-returns-6
-returns-6 c = search with-key
-
 same-length-39 : tie.Need-same-length-39
 same-length-39 c = search needs
+
+returns-6 : tie.Need-returns-6
+returns-6 c = search with-delete
 
 same-length-40 : tie.Need-same-length-40
 same-length-40 c = search needs
@@ -217,15 +223,11 @@ same-length-43 c = search needs
 same-length-44 : tie.Need-same-length-44
 same-length-44 c = search needs
 
-returns-7 : tie.Need-returns-7
-returns-7 c =
-    let at-call7 : tie.After-call7 = search in
-    let start : tie.Start = search in
-    with-renew (start .args .port) _ (start .args .input .now) (start .args .out .now) (start .args .places .now) (start .args .call) (at-call7 .call7 .given .1)
-    (c .before .before .renew-sound .ensures (start .args .port))
-
 same-length-45 : tie.Need-same-length-45
 same-length-45 c = search needs
+
+returns-7 : tie.Need-returns-7
+returns-7 c = search with-key
 
 same-length-46 : tie.Need-same-length-46
 same-length-46 c = search needs
@@ -242,15 +244,15 @@ same-length-49 c = search needs
 same-length-50 : tie.Need-same-length-50
 same-length-50 c = search needs
 
+same-length-51 : tie.Need-same-length-51
+same-length-51 c = search needs
+
 returns-8 : tie.Need-returns-8
 returns-8 c =
     let at-call8 : tie.After-call8 = search in
     let start : tie.Start = search in
-    with-force (start .args .port) _ (start .args .input .now) (start .args .out .now) (start .args .places .now) (start .args .call) (at-call8 .call8 .given .1)
-    (c .before .before .force-sound .ensures (start .args .port))
-
-same-length-51 : tie.Need-same-length-51
-same-length-51 c = search needs
+    with-renew (start .args .port) _ (start .args .input .now) (start .args .out .now) (start .args .places .now) (start .args .call) (at-call8 .call8 .given .1)
+    (c .before .before .renew-sound .ensures (start .args .port))
 
 same-length-52 : tie.Need-same-length-52
 same-length-52 c = search needs
@@ -267,15 +269,15 @@ same-length-55 c = search needs
 same-length-56 : tie.Need-same-length-56
 same-length-56 c = search needs
 
-returns-9 : tie.Need-returns-9
-returns-9 c =
-    let at-enum-told : tie.After-enum-told = search in
-    let start : tie.Start = search in
-    with-free (start .args .port) _ (start .args .input .now) (start .args .out .now) (start .args .places .now) (start .args .call) (at-enum-told .enum-told .given .1)
-    (c .free-sound .ensures (start .args .port))
-
 same-length-57 : tie.Need-same-length-57
 same-length-57 c = search needs
+
+returns-9 : tie.Need-returns-9
+returns-9 c =
+    let at-call9 : tie.After-call9 = search in
+    let start : tie.Start = search in
+    with-force (start .args .port) _ (start .args .input .now) (start .args .out .now) (start .args .places .now) (start .args .call) (at-call9 .call9 .given .1)
+    (c .before .before .force-sound .ensures (start .args .port))
 
 same-length-58 : tie.Need-same-length-58
 same-length-58 c = search needs
@@ -292,15 +294,43 @@ same-length-61 c = search needs
 same-length-62 : tie.Need-same-length-62
 same-length-62 c = search needs
 
+same-length-63 : tie.Need-same-length-63
+same-length-63 c = search needs
+
 returns-10 : tie.Need-returns-10
 returns-10 c =
-    let at-call9 : tie.After-call9 = search in
+    let at-enum-told : tie.After-enum-told = search in
     let start : tie.Start = search in
-    with-tick (start .args .port) _ (start .args .input .now) (start .args .out .now) (start .args .places .now) (start .args .call) (at-call9 .call9 .given .1)
-    (c .tick-sound .ensures (start .args .port))
+    with-free (start .args .port) _ (start .args .input .now) (start .args .out .now) (start .args .places .now) (start .args .call) (at-enum-told .enum-told .given .1)
+    (c .free-sound .ensures (start .args .port))
+
+same-length-64 : tie.Need-same-length-64
+same-length-64 c = search needs
+
+same-length-65 : tie.Need-same-length-65
+same-length-65 c = search needs
+
+same-length-66 : tie.Need-same-length-66
+same-length-66 c = search needs
+
+same-length-67 : tie.Need-same-length-67
+same-length-67 c = search needs
+
+same-length-68 : tie.Need-same-length-68
+same-length-68 c = search needs
+
+same-length-69 : tie.Need-same-length-69
+same-length-69 c = search needs
 
 returns-11 : tie.Need-returns-11
-returns-11 c = search with-audit
+returns-11 c =
+    let at-call10 : tie.After-call10 = search in
+    let start : tie.Start = search in
+    with-tick (start .args .port) _ (start .args .input .now) (start .args .out .now) (start .args .places .now) (start .args .call) (at-call10 .call10 .given .1)
+    (c .tick-sound .ensures (start .args .port))
+
+returns-12 : tie.Need-returns-12
+returns-12 c = search with-audit
 
 pub perform-sound-spec : {M : Type 1} → statement M
 perform-sound-spec =
@@ -313,18 +343,20 @@ perform-sound-spec =
     enum-known-call-3
     alloc-sound-requires
     enum-known-call-4
-    create-sound-requires
+    alloc-contig-sound-requires
     enum-known-call-5
-    delete-sound-requires
+    create-sound-requires
     enum-known-call-6
-    key-sound-requires
+    delete-sound-requires
     enum-known-call-7
-    renew-sound-requires
+    key-sound-requires
     enum-known-call-8
+    renew-sound-requires
+    enum-known-call-9
     force-sound-requires
     enum-told
     free-sound-requires
-    enum-known-call-9
+    enum-known-call-10
     tick-sound-requires
     enum-told-2
     same-length
@@ -356,47 +388,55 @@ perform-sound-spec =
     same-length-24
     same-length-25
     same-length-26
-    returns-4
     same-length-27
+    returns-4
     same-length-28
     same-length-29
     same-length-30
     same-length-31
     same-length-32
-    returns-5
     same-length-33
+    returns-5
     same-length-34
     same-length-35
     same-length-36
     same-length-37
     same-length-38
-    returns-6
     same-length-39
+    returns-6
     same-length-40
     same-length-41
     same-length-42
     same-length-43
     same-length-44
-    returns-7
     same-length-45
+    returns-7
     same-length-46
     same-length-47
     same-length-48
     same-length-49
     same-length-50
-    returns-8
     same-length-51
+    returns-8
     same-length-52
     same-length-53
     same-length-54
     same-length-55
     same-length-56
-    returns-9
     same-length-57
+    returns-9
     same-length-58
     same-length-59
     same-length-60
     same-length-61
     same-length-62
+    same-length-63
     returns-10
-    returns-11)
+    same-length-64
+    same-length-65
+    same-length-66
+    same-length-67
+    same-length-68
+    same-length-69
+    returns-11
+    returns-12)
