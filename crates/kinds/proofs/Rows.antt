@@ -35,3 +35,7 @@ renew-at-the-service-port = refl
 pub service-kinds-exist-at-the-host-port : allKindsTest Host ≡ true
 unfolding numbersBelow row names kindNumber lengthOf among kindOf kindLength bodyLength sameList
 service-kinds-exist-at-the-host-port = refl
+
+pub alloc-contig-of-kind-13 : allKindsTest Host ≡ true
+unfolding numbersBelow row names kindNumber lengthOf among kindOf kindLength bodyLength sameList
+alloc-contig-of-kind-13 = refl

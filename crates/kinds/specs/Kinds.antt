@@ -1,4 +1,4 @@
--- Document 01, "Call records and the player": the kinds of records, and the lengths of their bodies.
+-- Document 01, "Call records and the player", and 2026-01: the kinds of records, and the lengths of their bodies.
 use Prim.Native.Nat.{ℕ, _+_, _-_}
 use mathlib.Core.Bool.{Bool, true, false, cond}
 use mathlib.Core.List.{List, [], _∷_, map}
