@@ -1,6 +1,7 @@
 /*
  * A short host: formats a card, has a block allotted and keyed by the service port, then writes and reads as a host,
- * by key and by reference within a window, and is refused once the window has ended.
+ * by key and by reference within a window, and is refused once the window has ended. It takes a run of blocks for an
+ * event file.
  *
  *   cc -I include examples/host.c path/to/libinterface.a -o host && ./host
  *
@@ -30,7 +31,7 @@ static void show(const char *what, uint32_t answer)
 
 int main(void)
 {
-	uint16_t places[2] = { 0, 0 };
+	uint16_t places[2] = { 0, 0 }, file[6] = { 0 };
 	const struct negvask_credential nothing = negvask_by_nothing();
 	const struct negvask_credential root = negvask_by_reference(0);
 	const struct negvask_credential reader = negvask_by_key(READ_HIGH, READ_LOW);
@@ -81,6 +82,20 @@ int main(void)
 	show("host: read the second by reference again",
 		negvask_read(CARD, NEGVASK_HOST, places[1], NEGVASK_BYTES(root), 0, out, BYTES));
 	printf("  refused and \"%s\" read at time %lu\n", (const char *)out, (unsigned long)value);
+
+	/* An event file takes three blocks that adjoin, from block 8 on if these are unallocated. */
+	show("host: allot a run of 3 below the first",
+		negvask_alloc_contig(CARD, NEGVASK_HOST, places[0], NEGVASK_BYTES(writer), 8, 3, file, 3));
+	printf("  blocks %u, %u and %u\n", (unsigned)file[0], (unsigned)file[1], (unsigned)file[2]);
+	/* Ten blocks are left, 3 to 7 and 11 to 15: enough for six, but no six of them adjoin. */
+	answer = negvask_alloc_contig(CARD, NEGVASK_HOST, places[0], NEGVASK_BYTES(writer),
+		NEGVASK_NO_HINT, 6, file, 6);
+	show("host: allot a run of 6", answer);
+	if (answer == NEGVASK_NO_RUN)
+		show("host: allot 6 blocks apart",
+			negvask_alloc(CARD, NEGVASK_HOST, places[0], NEGVASK_BYTES(writer),
+				NEGVASK_NO_HINT, 6, file, 6));
+	printf("  blocks %u to %u and %u\n", (unsigned)file[0], (unsigned)file[4], (unsigned)file[5]);
 
 	/* The last pointer to a block goes, and the block with it. */
 	answer = negvask_delete(CARD, NEGVASK_SERVICE, 0, NEGVASK_BYTES(nothing), places[1], &value);

@@ -231,6 +231,9 @@ extern "C" {
     record that does not exist at the port, and a credential that has not
     its length, are such. */
 #define NEGVASK_MALFORMED       13
+/** Enough blocks are unallocated, but no run of them is as long as asked
+    for. */
+#define NEGVASK_NO_RUN          14
 
 /* Why negvask_batch() stops, beside 0, 1 and 13: no refusal has these
    numbers. */
@@ -276,7 +279,8 @@ extern "C" {
 /** The maker's and operator's port, which no host may reach. */
 #define NEGVASK_SERVICE          1
 
-/** No hint: ALLOC takes the lowest unallocated block. */
+/** No hint: ALLOC takes the lowest unallocated block, ALLOC_CONTIG the
+    lowest run. */
 #define NEGVASK_NO_HINT      65535
 /** The longest interval of a window, in seconds. */
 #define NEGVASK_DAY          86400
@@ -599,6 +603,46 @@ uint32_t negvask_alloc(NEGVASK_TABLES,
 	uint16_t hint, uint8_t count, uint16_t *places, size_t places_len);
 
 /**
+ * \brief Allocate blocks that adjoin below a reference block.
+ *
+ * Takes a run, any `count` unallocated blocks that adjoin, also inside a
+ * longer stretch: the one whose first block is nearest the hint, the
+ * lower on a tie; without a hint the lowest. A run that exists is always
+ * found. Each of its blocks is filled with zeros, and the reference block
+ * points to it. Its numbers are put in the first `count` places of
+ * `places`, ascending. Unmodified: the places after the first `count`,
+ * keys, windows, and the contents of all other blocks.
+ *
+ * The caller provides `places` with at least `count` places and keeps it.
+ *
+ * Refusals, in order:
+ *   13  `port` is neither 0 nor 1; the credential is ill formed
+ *   1   out of shape
+ *   2   unsound
+ *   4   `count` is 0 or above 64; `hint` is neither below N nor
+ *       NEGVASK_NO_HINT; `places_len` is less than `count`
+ *   3   `reference` is not below N or not allocated
+ *   6   `reference` is a root and the call is a host's
+ *   5   a host's credential does not open `reference` for writing
+ *   10  fewer than `count` blocks are unallocated
+ *   14  no `count` unallocated blocks adjoin
+ *   11  M + `count` is above P
+ *
+ * \param port            NEGVASK_HOST or NEGVASK_SERVICE.
+ * \param reference       the block that is to point to the new ones.
+ * \param credential      17 bytes that open the block.
+ * \param credential_len  17.
+ * \param hint            a block number, or NEGVASK_NO_HINT.
+ * \param count           how many, 1 to 64.
+ * \param places          receives the numbers, ascending.
+ * \param places_len      the number of places.
+ * \return  0 or a refusal.
+ */
+uint32_t negvask_alloc_contig(NEGVASK_TABLES,
+	uint8_t port, uint16_t reference, NEGVASK_CREDENTIAL,
+	uint16_t hint, uint8_t count, uint16_t *places, size_t places_len);
+
+/**
  * \brief Make a pointer from one block to another.
  *
  * The pointer is added, M and the destination's count grow by 1.
@@ -777,29 +821,30 @@ uint32_t negvask_tick(NEGVASK_TABLES, uint64_t seconds, uint64_t *value);
  * `body` may be longer, and its further bytes are not looked at. Numbers
  * in a body are big-endian. Kinds, and the bytes of their bodies:
  *
- *    1  READ    23    block 2, credential 17, interval 4
- *    2  WRITE  535    block 2, credential 17, interval 4, data 512
- *    3  ALLOC   22    reference 2, credential 17, hint 2, count 1
- *    4  CREATE  38    source 2, credential 17, destination 2,
- *                     credential 17
- *    5  DELETE  21    source 2, credential 17, destination 2
- *    6  KEY     53    block 2, credential 17, new read key 17, new write
- *                     key 17
- *    7  RENEW   23    mode 1, block 2, key 16, interval 4
- *    8  FORCE    2    block 2
- *    9  FREE     0
- *   10  TICK     8    seconds 8
- *   11  AUDIT    0
+ *    1  READ           23    block 2, credential 17, interval 4
+ *    2  WRITE         535    block 2, credential 17, interval 4, data 512
+ *    3  ALLOC          22    reference 2, credential 17, hint 2, count 1
+ *    4  CREATE         38    source 2, credential 17, destination 2,
+ *                            credential 17
+ *    5  DELETE         21    source 2, credential 17, destination 2
+ *    6  KEY            53    block 2, credential 17, new read key 17, new
+ *                            write key 17
+ *    7  RENEW          23    mode 1, block 2, key 16, interval 4
+ *    8  FORCE           2    block 2
+ *    9  FREE            0
+ *   10  TICK            8    seconds 8
+ *   11  AUDIT           0
+ *   12  ALLOC_CONTIG   22    reference 2, credential 17, hint 2, count 1
  *
  * These are a host's calls at either port, and judged as a host's. At
- * NEGVASK_SERVICE there are also kinds 129 to 134, which are 1 to 6 as
- * calls at the service port; at NEGVASK_HOST these do not exist.
- * Credentials and new keys are described at the top of this file.
+ * NEGVASK_SERVICE there are also kinds 129 to 134 and 140, which are 1 to
+ * 6 and 12 as calls at the service port; at NEGVASK_HOST these do not
+ * exist. Credentials and new keys are described at the top of this file.
  *
  * The record's call is performed as by its function above, with `out`
- * lent to READ, `places` to ALLOC and `value` to DELETE, FREE and TICK.
- * WRITE by record needs blocks of 512 bytes: its data are 512, and on a
- * card with another B it is refused 4.
+ * lent to READ, `places` to ALLOC and ALLOC_CONTIG, and `value` to DELETE,
+ * FREE and TICK. WRITE by record needs blocks of 512 bytes: its data are
+ * 512, and on a card with another B it is refused 4.
  *
  * Unmodified: what that function leaves unmodified, `body`, and the
  * buffers that the call does not use.
@@ -808,7 +853,7 @@ uint32_t negvask_tick(NEGVASK_TABLES, uint64_t seconds, uint64_t *value);
  *   13  `port` is neither 0 nor 1; a kind that does not exist at the
  *       port; a body cut short; in a credential or new key a wrong first
  *       byte or filler that is not zero
- *   1 to 12  as the function of that call
+ *   1 to 12 and 14  as the function of that call
  *
  * \param port        the port at which the record arrived: NEGVASK_HOST
  *                    if it comes from a host, else NEGVASK_SERVICE.
@@ -817,9 +862,9 @@ uint32_t negvask_tick(NEGVASK_TABLES, uint64_t seconds, uint64_t *value);
  * \param body_len    the number of bytes in it.
  * \param out         receives READ's block.
  * \param out_len     the number of bytes; READ is refused 4 unless B.
- * \param places      receives ALLOC's block numbers.
- * \param places_len  the number of places; ALLOC is refused 4 if less
- *                    than its count.
+ * \param places      receives the block numbers of ALLOC or ALLOC_CONTIG.
+ * \param places_len  the number of places; these are refused 4 if less
+ *                    than their count.
  * \param value       receives the result of DELETE, FREE or TICK.
  * \return  0 or a refusal.
  */
@@ -845,8 +890,8 @@ uint32_t negvask_serve(NEGVASK_TABLES,
  *   13   in a credential or new key a wrong first byte or filler that is
  *        not zero
  *   257  `answers` has less room left than the longest answer takes:
- *        1 + B bytes for READ, 129 for ALLOC, 9 for DELETE, FREE and
- *        TICK, 1 for the others
+ *        1 + B bytes for READ, 129 for ALLOC and ALLOC_CONTIG, 9 for
+ *        DELETE, FREE and TICK, 1 for the others
  *
  * So a malformed record is 13 even where there is no room for an answer.
  * Where a batch stops with 13, 256 or 257 it has performed the records
@@ -856,13 +901,14 @@ uint32_t negvask_serve(NEGVASK_TABLES,
  * where the next record would start.
  *
  * Else the record is performed as by negvask_serve(), on the card that
- * the one before left, with B bytes lent to READ and 64 places to ALLOC.
- * Its answer is put behind the one before in `answers`:
+ * the one before left, with B bytes lent to READ and 64 places to ALLOC
+ * and ALLOC_CONTIG. Its answer is put behind the one before in `answers`:
  *
- *   1 byte    0 or a refusal 1 to 12
+ *   1 byte    0 or a refusal 1 to 12 or 14
  *   and, if it is 0,
  *   READ                B bytes, the block
  *   ALLOC               2 bytes for each number, in the order taken
+ *   ALLOC_CONTIG        2 bytes for each number, ascending
  *   DELETE, FREE, TICK  8 bytes, the result
  *
  * Numbers are big-endian.

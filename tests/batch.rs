@@ -4,7 +4,7 @@ use crate::damage::{damage, DAMAGES, SHAPE_DAMAGES};
 use crate::library::{Direct, LentBatch, Tables};
 use crate::model::{
     self, answer_bytes, answer_room, body_length, decode, next_record, port_of, Card, Port, Progress, CUT_SHORT,
-    MALFORMED, NO_ROOM, SHAPE,
+    MALFORMED, NO_ROOM, SERVICE_KINDS, SHAPE,
 };
 use crate::random_call::{spoilt_record, Chooser};
 use crate::random_card::{random_card, Random, Size, KEYS};
@@ -78,7 +78,7 @@ pub fn random_record(rnd: &mut Random, card: &Card) -> Option<(u8, Vec<u8>)> {
 
 /// A record with the length of its kind and a credential of no known form.
 fn malformed_record(rnd: &mut Random) -> (u8, Vec<u8>) {
-    let kind = rnd.within(1, 6) as u8 + rnd.of(&[0, 128]);
+    let kind = rnd.of(&SERVICE_KINDS) - rnd.of(&[0, 128]);
     let mut body = vec![0; body_length(Port::Service, kind).unwrap()];
     match rnd.below(3) {
         0 => body[2] = rnd.of(&[3, 4, 128, 255]),

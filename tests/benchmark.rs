@@ -142,13 +142,13 @@ mod plain {
         card.counts[(pointer & 65_535) as usize] += 1;
     }
 
-    pub fn alloc(card: &mut Card, r: u16, key: Key, hint: u16, count: u8, places: &mut [u16]) -> u32 {
+    /// What ALLOC and ALLOC_CONTIG refuse before they look for blocks.
+    fn alloc_refusal(card: &Card, r: u16, key: Key, hint: u16, count: u8, places: &[u16]) -> u32 {
         match audit(card) {
             0 => {}
             refusal => return refusal,
         }
-        let (n, bytes) = (card.flags.len(), card.info[2] as usize);
-        if count == 0 || count > 64 || hint as usize >= n || places.len() < count as usize {
+        if count == 0 || count > 64 || hint as usize >= card.flags.len() || places.len() < count as usize {
             return 4;
         }
         if !allocated(card, r) {
@@ -160,6 +160,15 @@ mod plain {
         if card.flags[r as usize] & WRITE_KEY == 0 || !is_key(card, r, 2, key) {
             return 5;
         }
+        0
+    }
+
+    pub fn alloc(card: &mut Card, r: u16, key: Key, hint: u16, count: u8, places: &mut [u16]) -> u32 {
+        match alloc_refusal(card, r, key, hint, count, places) {
+            0 => {}
+            refusal => return refusal,
+        }
+        let (n, bytes) = (card.flags.len(), card.info[2] as usize);
         if card.flags.iter().filter(|&&f| f & 1 == 0).count() < count as usize {
             return 10;
         }
@@ -182,6 +191,53 @@ mod plain {
             insert(card, word(r as usize, b));
             *place = b as u16;
         }
+        0
+    }
+
+    pub fn alloc_contig(card: &mut Card, r: u16, key: Key, hint: u16, count: u8, places: &mut [u16]) -> u32 {
+        match alloc_refusal(card, r, key, hint, count, places) {
+            0 => {}
+            refusal => return refusal,
+        }
+        let (m, count, bytes) = (card.info[3] as usize, count as usize, card.info[2] as usize);
+        // One walk: how many are free, and at the last block of each run how near its first one is.
+        let (mut free, mut adjoining) = (0, 0);
+        let (mut first, mut nearest) = (0, usize::MAX);
+        for (b, &f) in card.flags.iter().enumerate() {
+            if f & 1 != 0 {
+                adjoining = 0;
+                continue;
+            }
+            free += 1;
+            adjoining += 1;
+            if adjoining >= count {
+                let start = b + 1 - count;
+                let distance = start.abs_diff(hint as usize);
+                if distance < nearest {
+                    (first, nearest) = (start, distance);
+                }
+            }
+        }
+        if free < count {
+            return 10;
+        }
+        if nearest == usize::MAX {
+            return 14;
+        }
+        if m + count > card.pointers.len() {
+            return 11;
+        }
+        // The pointers to the run adjoin too, so the table moves once.
+        let at = card.pointers[..m].partition_point(|&p| p < word(r as usize, first));
+        card.pointers.copy_within(at..m, at + count);
+        for (i, place) in places[..count].iter_mut().enumerate() {
+            card.pointers[at + i] = word(r as usize, first + i);
+            *place = (first + i) as u16;
+        }
+        card.info[3] += count as u64;
+        card.counts[first..first + count].fill(1);
+        card.flags[first..first + count].fill(ALLOCATED);
+        card.contents[first * bytes..][..count * bytes].fill(0);
         0
     }
 
@@ -308,10 +364,25 @@ const SIZES: [Size; 3] = [
     Size { name: "full", blocks: 4_096, places: 16_384, batch: 16 },
 ];
 
-/// A sound card with all non-root blocks under the same two keys, block 1 pointing to none, and `spare` places left.
-fn card(size: Size, spare: usize) -> Card {
+/// Blocks to be allocated, so that the free ones lie scattered and ALLOC has to look for them.
+fn scattered(size: Size) -> Vec<usize> {
     let n = size.blocks;
     let used = if n == 16 { 11 } else { n - n / 8 };
+    let free_every = n / (n - used);
+    (1..n).filter(|b| *b < 6 || b % free_every != free_every - 1).take(used - 1).collect()
+}
+
+/// Blocks to be allocated, so that the free ones lie in stretches of one less than `count`, but for one run of so many
+/// at the end of the card.
+fn one_run(size: Size, count: usize) -> Vec<usize> {
+    let n = size.blocks;
+    let part = (n / 8).max(2 * count).next_power_of_two();
+    (1..n).filter(|b| b % part < part - count + (*b < n - part) as usize).collect()
+}
+
+/// A sound card with these blocks under the same two keys, block 1 pointing to none, and `spare` places left.
+fn card(size: Size, taken: &[usize], spare: usize) -> Card {
+    let n = size.blocks;
     let mut card = Card {
         info: vec![n as u64, 1, 512, 0, 1_000],
         flags: vec![0; n],
@@ -322,10 +393,7 @@ fn card(size: Size, spare: usize) -> Card {
         contents: vec![1; n * 512],
     };
     card.flags[0] = ALLOCATED;
-    // The free blocks lie scattered, so that ALLOC has to look for them.
-    let free_every = n / (n - used);
-    let taken: Vec<usize> = (1..n).filter(|b| *b < 6 || b % free_every != free_every - 1).take(used - 1).collect();
-    for &b in &taken {
+    for &b in taken {
         card.flags[b] = ALLOCATED | READ_KEY | WRITE_KEY;
         card.keys[4 * b..4 * b + 4].copy_from_slice(&[READER.high, READER.low, WRITER.high, WRITER.low]);
         card.windows[2 * b..2 * b + 2].fill(1_000 + b as u64);
@@ -359,8 +427,7 @@ struct Side {
     out: Vec<u8>,
 }
 
-fn side(size: Size, spare: usize) -> Side {
-    let card = card(size, spare);
+fn side(card: Card) -> Side {
     let lent = Buffers { out: vec![0; 512], places: vec![0; 64], value: 0 };
     Side { tables: Tables::new(&card), buffers: LentBuffers::new(&lent), plain: card, out: vec![0; 512] }
 }
@@ -551,7 +618,7 @@ fn batch_table() {
     println!("| --- | --- | ---: | ---: | ---: | ---: | ---: | ---: |");
     for name in ["READ", "mixed"] {
         for size in SIZES {
-            let s = &mut side(size, 1);
+            let s = &mut side(card(size, &scattered(size), 1));
             let card = s.plain.clone();
             let load = if name == "READ" { load(s, reads(&card, BATCH)) } else { load(s, mixed(&card, BATCH)) };
             let [batch, single] = batch_and_single(s, &load);
@@ -574,7 +641,7 @@ fn batch_table() {
 }
 
 fn batch_growth_table() {
-    let s = &mut side(SIZES[2], 0);
+    let s = &mut side(card(SIZES[2], &scattered(SIZES[2]), 0));
     let card = s.plain.clone();
     let loads = BATCHES.map(|count| load(s, reads(&card, count)));
     let works = [0, 1, 2].map(|i| {
@@ -620,13 +687,16 @@ fn stack_of(work: &mut dyn FnMut()) -> usize {
 fn deepest() -> (&'static str, usize) {
     let key = credential_bytes(Credential::Key(WRITER));
     let size = SIZES[2];
-    let mut s = side(size, 64);
+    // Block 2,048 has 63 free ones below it, and the run of 64 is farther than these.
+    let start = card(size, &one_run(size, 64), 128);
+    let mut s = side(start.clone());
     let new = new_key_bytes(Some(WRITER));
     let calls = [
         ("AUDIT", Direct::Audit),
         ("READ", Direct::Read { port: 0, block: 2, credential: key.clone(), interval: 10 }),
         ("WRITE", Direct::Write { port: 0, block: 2, credential: key.clone(), interval: 10, data: vec![3; 512] }),
         ("ALLOC 63", Direct::Alloc { port: 0, reference: 1, credential: key.clone(), hint: 2_048, count: 63 }),
+        ("CONTIG 64", Direct::AllocContig { port: 0, reference: 1, credential: key.clone(), hint: 2_048, count: 64 }),
         (
             "CREATE",
             Direct::Create {
@@ -651,7 +721,7 @@ fn deepest() -> (&'static str, usize) {
     let deepest = depths.max_by_key(|(_, depth)| *depth).unwrap();
 
     // All of them in one batch.
-    let mut s = side(size, 64);
+    let mut s = side(start);
     let input: Vec<u8> =
         calls.iter().filter_map(|(_, call)| call.record()).flat_map(|(k, b)| [vec![k], b].concat()).collect();
     let mut lent = LentBatch::new(&input, &[0; 2_048], Progress::default());
@@ -677,10 +747,14 @@ struct Row {
     target: Option<f64>,
 }
 
+/// ALLOC or ALLOC_CONTIG by the plain version.
+type PlainAlloc = fn(&mut Card, u16, Key, u16, u8, &mut [u16]) -> u32;
+
 fn rows(size: Size) -> Vec<Row> {
     let key = |k: Key| credential_bytes(Credential::Key(k));
     let calls = if size.blocks == 16 { 64 } else { 4 };
-    let mut side_full = side(size, 0);
+    let full = card(size, &scattered(size), 0);
+    let mut side_full = side(full.clone());
     let s = &mut side_full;
     let data = vec![3u8; 512];
 
@@ -707,12 +781,13 @@ fn rows(size: Size) -> Vec<Row> {
     let keys = repeated(s, calls, &key_call, |c, _| done(plain::set_keys(c, 2, WRITER, READER, WRITER)));
     let tick_call = Direct::Tick { seconds: 0 };
     let tick = repeated(s, calls, &tick_call, |c, _| done(plain::tick(c, 0, black_box(&mut 0))));
-    let full_model = |call: &Direct| model_time(&card(size, 0), &[], call);
+    let full_model = |call: &Direct| model_time(&full, &[], call);
     assert_eq!(s.tables.difference(&s.plain), None, "library and plain version differ");
 
     // CREATE from block 1 to a batch of blocks, then DELETE: pointers near the front, so that most of the table moves.
     let batch = size.batch;
-    let mut side_spare = side(size, batch);
+    let spare = card(size, &scattered(size), batch);
+    let mut side_spare = side(spare.clone());
     let s = &mut side_spare;
     let destinations: Vec<u16> =
         (2..size.blocks).filter(|&b| s.plain.flags[b] != 0).take(batch).map(|b| b as u16).collect();
@@ -745,17 +820,17 @@ fn rows(size: Size) -> Vec<Row> {
     );
     assert_eq!(s.tables.difference(&s.plain), None, "library and plain version differ");
 
-    // ALLOC from block 1 by a hint in the middle; the blocks are freed again outside the time.
+    // ALLOC and ALLOC_CONTIG from block 1 by a hint in the middle; the blocks are freed again outside the time.
     let hint = size.blocks as u16 / 2;
-    let alloc = |count: u8| {
-        let mut side = side(size, 64.min(size.places / 4));
-        let request = Direct::Alloc { port: 0, reference: 1, credential: key(WRITER), hint, count };
+    let allot = |taken: &[usize], count: u8, request: &Direct, plain: PlainAlloc| {
+        let spare = card(size, taken, 64.min(size.places / 4));
+        let mut side = side(spare.clone());
         let figures = in_turns(
             &mut side,
             1,
             [
                 &|s| {
-                    let time = timed(|| done(s.tables.call(&request, &mut s.buffers)));
+                    let time = timed(|| done(s.tables.call(request, &mut s.buffers)));
                     for i in 0..count as usize {
                         let destination = s.buffers.places.values()[i];
                         let undo = Direct::Delete {
@@ -770,8 +845,7 @@ fn rows(size: Size) -> Vec<Row> {
                 },
                 &|s| {
                     let mut places = [0u16; 64];
-                    let time =
-                        timed(|| done(plain::alloc(&mut s.plain, 1, WRITER, hint, count, black_box(&mut places))));
+                    let time = timed(|| done(plain(&mut s.plain, 1, WRITER, hint, count, black_box(&mut places))));
                     let mut value = 0;
                     places[..count as usize]
                         .iter()
@@ -781,11 +855,17 @@ fn rows(size: Size) -> Vec<Row> {
             ],
         );
         assert_eq!(side.tables.difference(&side.plain), None, "library and plain version differ");
-        let spare = card(size, 64.min(size.places / 4));
-        (figures, model_time(&spare, &[], &request))
+        (figures, model_time(&spare, &[], request))
+    };
+    let alloc = |count: u8| {
+        let request = Direct::Alloc { port: 0, reference: 1, credential: key(WRITER), hint, count };
+        allot(&scattered(size), count, &request, plain::alloc)
+    };
+    let contig = |count: u8| {
+        let request = Direct::AllocContig { port: 0, reference: 1, credential: key(WRITER), hint, count };
+        allot(&one_run(size, count as usize), count, &request, plain::alloc_contig)
     };
 
-    let spare = card(size, batch);
     let create_model = model_time(&spare, &[], &creates[0]);
     let delete_model = model_time(&spare, &[&creates[0]], &deletes[0]);
 
@@ -810,6 +890,11 @@ fn rows(size: Size) -> Vec<Row> {
     if size.blocks > 80 {
         let ([many, plain_many], model_many) = alloc(64);
         rows.push(row("ALLOC 64", many, plain_many, model_many, pass + 64.0 * copy, plain_many, Some(1.5)));
+        let ([run, plain_run], model_run) = contig(64);
+        rows.push(row("CONTIG 64", run, plain_run, model_run, pass + 64.0 * copy, plain_run, Some(1.5)));
+    } else {
+        let ([run, plain_run], model_run) = contig(3);
+        rows.push(row("CONTIG 3", run, plain_run, model_run, pass + 3.0 * copy, plain_run, None));
     }
     rows.push(row("CREATE", create, plain_create, create_model, pass, plain_create, Some(1.5)));
     rows.push(row("DELETE", delete, plain_delete, delete_model, pass, plain_delete, Some(1.5)));
@@ -851,11 +936,11 @@ fn main() {
     }
     println!();
     println!("Targets: AUDIT against the plain audit; READ and WRITE against the library's own audit plus a copy of");
-    println!("B bytes; ALLOC 64, CREATE and DELETE against the plain call, audit included.");
+    println!("B bytes; ALLOC 64, CONTIG 64, CREATE and DELETE against the plain call, audit included.");
     println!();
     println!("| growth of | from | to | N + P grows | library grows | plain grows |");
     println!("| --- | --- | --- | ---: | ---: | ---: |");
-    for call in ["AUDIT", "READ", "CREATE", "DELETE", "ALLOC 64"] {
+    for call in ["AUDIT", "READ", "CREATE", "DELETE", "ALLOC 64", "CONTIG 64"] {
         let of: Vec<&Row> = all.iter().filter(|r| r.call == call).collect();
         for pair in of.windows(2) {
             let words = |r: &Row| (r.size.blocks + r.size.places) as f64;

@@ -1,7 +1,7 @@
 //! Differential test: the library against the model, call by call.
 //!
 //! In parts, all but the first on random cards from a printed seed:
-//! - the document's own trials and its example of ten records, by the library;
+//! - the documents' own trials and the example of ten records, by the library;
 //! - random calls by the C functions on one card and as records on another, damaged tables among them; after each,
 //!   the answer, the record, every table, every lent buffer and the memory beside them are compared with the model;
 //! - batches of call records, the model with an audit for each record;
@@ -25,7 +25,7 @@ mod wires;
 use batch::{batches, Batches};
 use damage::{damage, DAMAGES, SHAPE_DAMAGES};
 use library::{Direct, LentBuffers, Tables, HOST, SERVICE};
-use model::{number, port_of, Buffers, Call, Card, Port};
+use model::{number, port_of, Buffers, Call, Card, Port, HOST_KINDS, SERVICE_KINDS};
 use random_call::{buffers, random_format, spoilt_record, Chooser};
 use random_card::{random_card, random_size, Random, Size, KEYS};
 use secrecy::{byte_secrecy, secrecy, ByteSecrecy, Secrecy};
@@ -38,8 +38,27 @@ const DEFAULT_SEED: u64 = 1;
 
 // ---- Counting what was reached ----
 
-const CALLS: [&str; 12] =
-    ["FORMAT", "READ", "WRITE", "ALLOC", "CREATE", "DELETE", "KEY", "RENEW", "FORCE", "FREE", "TICK", "AUDIT"];
+/// Each at the place of its host kind.
+const CALLS: [&str; 13] = [
+    "FORMAT",
+    "READ",
+    "WRITE",
+    "ALLOC",
+    "CREATE",
+    "DELETE",
+    "KEY",
+    "RENEW",
+    "FORCE",
+    "FREE",
+    "TICK",
+    "AUDIT",
+    "ALLOC_CONTIG",
+];
+
+/// Whether the call has a port of its own, and so a credential.
+fn has_port(call: usize) -> bool {
+    SERVICE_KINDS.contains(&(call as u8 + 128))
+}
 
 /// Records that have no call, behind the calls: why there is none.
 const NO_CALL: [&str; 3] = ["a kind of the service port at the host port", "another kind", "another port"];
@@ -66,15 +85,16 @@ fn index(call: &Direct) -> (usize, u8) {
         Direct::Free => (9, 0),
         Direct::Tick { .. } => (10, 0),
         Direct::Audit => (11, 0),
+        Direct::AllocContig { port, .. } => (12, *port),
     }
 }
 
 /// The place of a record among the calls, or behind them.
 fn record_index(wire: u8, kind: u8) -> (usize, u8) {
     match (wire, kind) {
-        (HOST | SERVICE, 1..=11) => (kind as usize, 0),
-        (SERVICE, 129..=134) => (kind as usize - 128, 1),
-        (HOST, 129..=134) => (CALLS.len(), 0),
+        (HOST | SERVICE, _) if HOST_KINDS.contains(&kind) => (kind as usize, 0),
+        (SERVICE, _) if SERVICE_KINDS.contains(&kind) => (kind as usize - 128, 1),
+        (HOST, _) if SERVICE_KINDS.contains(&kind) => (CALLS.len(), 0),
         (HOST | SERVICE, _) => (CALLS.len() + 1, 0),
         _ => (CALLS.len() + 2, 0),
     }
@@ -92,6 +112,7 @@ impl Reached {
             "FORMAT" => return if route == 0 { vec![0, 1] } else { vec![] },
             "READ" | "WRITE" => vec![3, 4, 5],
             "ALLOC" => vec![3, 4, 5, 6, 10, 11],
+            "ALLOC_CONTIG" => vec![3, 4, 5, 6, 10, 11, 14],
             "CREATE" => vec![3, 5, 6, 7, 11],
             "DELETE" => vec![3, 5, 6, 8, 9],
             "KEY" => vec![3, 5, 6],
@@ -105,7 +126,7 @@ impl Reached {
             answers.retain(|&a| a != 5 && (a != 6 || CALLS[call] == "CREATE"));
         }
         answers.extend([0, 1, 2]);
-        let formed = (1..=6).contains(&call) || (route == 1 && [7, 8, 10].contains(&call));
+        let formed = has_port(call) || (route == 1 && [7, 8, 10].contains(&call));
         if formed {
             answers.push(13);
         }
@@ -130,24 +151,24 @@ impl Reached {
     /// Prints the table; gives the pairs that can occur and did not.
     fn table(&self) -> Vec<String> {
         let mut missing = Vec::new();
-        let answers = [0, 1, 2, 3, 4, 5, 6, 7, 8, 9, 10, 11, 12, 13];
-        print!("{:<26}", "calls by answer");
+        let answers = [0, 1, 2, 3, 4, 5, 6, 7, 8, 9, 10, 11, 12, 13, 14];
+        print!("{:<33}", "calls by answer");
         answers.iter().for_each(|a| print!("{a:>7}"));
         println!();
         for route in 0..2 {
             for call in 0..CALLS.len() {
-                for port in 0..if (1..=6).contains(&call) { 2 } else { 1 } {
+                for port in 0..if has_port(call) { 2 } else { 1 } {
                     let possible = Self::possible(route, call, port);
                     if possible.is_empty() {
                         continue;
                     }
                     let place = match (call, port) {
-                        (0, _) | (9.., _) => "",
+                        (0 | 9..=11, _) => "",
                         (_, 0) => " host",
                         _ => " service",
                     };
                     let name = format!("{}{} by {}", CALLS[call], place, ["function", "record"][route]);
-                    print!("{name:<26}");
+                    print!("{name:<33}");
                     for a in answers {
                         let count = self.counts.get(&(route, call, port, a)).copied().unwrap_or(0);
                         match (possible.contains(&a), count) {
@@ -496,7 +517,7 @@ impl Seen {
 
 fn run(calls: u64, seed: u64, seen: &mut Seen) -> Result<(), String> {
     let rows = trials()?;
-    println!("trials of the document: {rows} of {rows} as written");
+    println!("trials of the documents: {rows} of {rows} as written");
     let whole = calls >= DEFAULT_CALLS;
     run_calls(calls, seed, whole, &mut seen.reached)?;
     run_batches(calls / 50, seed, whole, &mut seen.batches)?;

@@ -33,6 +33,8 @@ library! {
                   data: *const u8, data_len: usize);
     negvask_alloc(port: u8, block: u16, credential: *const u8, credential_len: usize, hint: u16, count: u8,
                   places: *mut u16, places_len: usize);
+    negvask_alloc_contig(port: u8, block: u16, credential: *const u8, credential_len: usize, hint: u16, count: u8,
+                         places: *mut u16, places_len: usize);
     negvask_create(port: u8, source: u16, credential: *const u8, credential_len: usize,
                    destination: u16, second: *const u8, second_len: usize);
     negvask_delete(port: u8, source: u16, credential: *const u8, credential_len: usize, destination: u16,
@@ -124,6 +126,7 @@ pub enum Direct {
     Read { port: u8, block: u16, credential: Raw, interval: u32 },
     Write { port: u8, block: u16, credential: Raw, interval: u32, data: Vec<u8> },
     Alloc { port: u8, reference: u16, credential: Raw, hint: u16, count: u8 },
+    AllocContig { port: u8, reference: u16, credential: Raw, hint: u16, count: u8 },
     Create { port: u8, source: u16, source_credential: Raw, destination: u16, destination_credential: Raw },
     Delete { port: u8, source: u16, credential: Raw, destination: u16 },
     Key { port: u8, block: u16, credential: Raw, read: Raw, write: Raw },
@@ -304,6 +307,18 @@ impl Tables {
                 lent.places.pointer(),
                 lent.places.length()
             ),
+            Direct::AllocContig { port, reference, credential: c, hint, count } => with_tables!(
+                negvask_alloc_contig,
+                self,
+                *port,
+                *reference,
+                c.as_ptr(),
+                c.len(),
+                *hint,
+                *count,
+                lent.places.pointer(),
+                lent.places.length()
+            ),
             Direct::Create { port, source, source_credential: c, destination, destination_credential: d } => {
                 with_tables!(
                     negvask_create,
@@ -425,6 +440,9 @@ impl Direct {
             Call::Alloc { reference, credential, hint, count } => {
                 Direct::Alloc { port, reference, credential: credential_bytes(credential), hint, count }
             }
+            Call::AllocContig { reference, credential, hint, count } => {
+                Direct::AllocContig { port, reference, credential: credential_bytes(credential), hint, count }
+            }
             Call::Create { source, source_credential, destination, destination_credential } => Direct::Create {
                 port,
                 source,
@@ -472,6 +490,15 @@ impl Direct {
             Direct::Alloc { port, reference, credential, hint, count } => (
                 port_of(*port)?,
                 Call::Alloc {
+                    reference: *reference,
+                    credential: credential_of(credential)?,
+                    hint: *hint,
+                    count: *count,
+                },
+            ),
+            Direct::AllocContig { port, reference, credential, hint, count } => (
+                port_of(*port)?,
+                Call::AllocContig {
                     reference: *reference,
                     credential: credential_of(credential)?,
                     hint: *hint,
@@ -537,6 +564,13 @@ impl Direct {
                 body.extend(hint.to_be_bytes());
                 body.push(*count);
                 (*port, 3)
+            }
+            Direct::AllocContig { port, reference, credential, hint, count } => {
+                body.extend(reference.to_be_bytes());
+                put_bytes(&mut body, credential)?;
+                body.extend(hint.to_be_bytes());
+                body.push(*count);
+                (*port, 12)
             }
             Direct::Create { port, source, source_credential, destination, destination_credential } => {
                 body.extend(source.to_be_bytes());

@@ -1,5 +1,5 @@
-//! An independent model of the storage card, written from document 01 alone; what the port of a wire means, and what a
-//! batch is, from the words of `include/negvask.h`.
+//! An independent model of the storage card, written from document 01 and the requests of document 02 alone; what the
+//! port of a wire means, and what a batch is, from the words of `include/negvask.h`.
 //!
 //! It favours plain rules over speed: a question about pointers is answered by looking through the pointers.
 //! Every call first names its refusal, in the document's order, and changes the card only when there is none.
@@ -25,6 +25,7 @@ pub const NO_SPACE: u32 = 10;
 pub const NO_PLACE: u32 = 11;
 pub const CLOCK: u32 = 12;
 pub const MALFORMED: u32 = 13;
+pub const NO_RUN: u32 = 14;
 
 /// Why a batch stops, besides its end and a malformed record.
 pub const CUT_SHORT: u32 = 256;
@@ -87,6 +88,7 @@ pub enum Call {
     Read { block: u16, credential: Credential, interval: u32 },
     Write { block: u16, credential: Credential, interval: u32, data: Vec<u8> },
     Alloc { reference: u16, credential: Credential, hint: u16, count: u8 },
+    AllocContig { reference: u16, credential: Credential, hint: u16, count: u8 },
     Create { source: u16, source_credential: Credential, destination: u16, destination_credential: Credential },
     Delete { source: u16, credential: Credential, destination: u16 },
     Key { block: u16, credential: Credential, read: Option<Key>, write: Option<Key> },
@@ -303,10 +305,23 @@ impl Card {
         self.counts[destination] -= 1;
     }
 
-    /// The unallocated block nearest the hint, the lower on a tie; the lowest when there is no hint.
-    fn nearest_free(&self, hint: u16) -> usize {
+    /// The block with the property that is nearest the hint, the lower on a tie; the lowest when there is no hint.
+    fn nearest(&self, hint: u16, property: impl Fn(usize) -> bool) -> Option<usize> {
         let distance = |b: usize| if hint == NO_HINT { b } else { b.abs_diff(hint as usize) };
-        (0..self.blocks()).filter(|&b| !self.allocated(b)).min_by_key(|&b| (distance(b), b)).unwrap()
+        (0..self.blocks()).filter(|&b| property(b)).min_by_key(|&b| (distance(b), b))
+    }
+
+    /// Whether `count` unallocated blocks adjoin from this one on.
+    fn run_from(&self, first: usize, count: usize) -> bool {
+        first + count <= self.blocks() && (first..first + count).all(|b| !self.allocated(b))
+    }
+
+    /// Allots an unallocated block below the reference block.
+    fn take(&mut self, reference: usize, b: usize) {
+        self.flags[b] = ALLOCATED;
+        let part = self.part(b);
+        self.contents[part].fill(0);
+        self.add_pointer(reference, b);
     }
 
     // ---- Calls ----
@@ -364,6 +379,25 @@ impl Card {
         Ok(())
     }
 
+    /// What ALLOC and ALLOC_CONTIG check alike, up to the number of unallocated blocks.
+    fn alloc_refusal(
+        &self,
+        port: Port,
+        r: usize,
+        credential: Credential,
+        hint: u16,
+        wanted: usize,
+        places: usize,
+    ) -> Answer {
+        self.audit()?;
+        let hint_fits = (hint as usize) < self.blocks() || hint == NO_HINT;
+        refuse_if(wanted == 0 || wanted > 64 || !hint_fits || places < wanted, BAD_OPERAND)?;
+        refuse_if(!self.allocated(r), NO_BLOCK)?;
+        refuse_if(self.root(r) && port == Port::Host, ROOT)?;
+        refuse_if(!self.admitted(port, credential, r, Writing), NOT_OPENED)?;
+        refuse_if(self.free_blocks() < wanted, NO_SPACE)
+    }
+
     pub fn alloc(
         &mut self,
         port: Port,
@@ -375,20 +409,32 @@ impl Card {
     ) -> Answer {
         let r = reference as usize;
         let wanted = count as usize;
-        self.audit()?;
-        let hint_fits = (hint as usize) < self.blocks() || hint == NO_HINT;
-        refuse_if(wanted == 0 || wanted > 64 || !hint_fits || places.len() < wanted, BAD_OPERAND)?;
-        refuse_if(!self.allocated(r), NO_BLOCK)?;
-        refuse_if(self.root(r) && port == Port::Host, ROOT)?;
-        refuse_if(!self.admitted(port, credential, r, Writing), NOT_OPENED)?;
-        refuse_if(self.free_blocks() < wanted, NO_SPACE)?;
+        self.alloc_refusal(port, r, credential, hint, wanted, places.len())?;
         refuse_if(self.used() + wanted > self.pointers.len(), NO_PLACE)?;
         for place in &mut places[..wanted] {
-            let b = self.nearest_free(hint);
-            self.flags[b] = ALLOCATED;
-            let part = self.part(b);
-            self.contents[part].fill(0);
-            self.add_pointer(r, b);
+            let b = self.nearest(hint, |b| !self.allocated(b)).unwrap();
+            self.take(r, b);
+            *place = b as u16;
+        }
+        Ok(())
+    }
+
+    pub fn alloc_contig(
+        &mut self,
+        port: Port,
+        reference: u16,
+        credential: Credential,
+        hint: u16,
+        count: u8,
+        places: &mut [u16],
+    ) -> Answer {
+        let r = reference as usize;
+        let wanted = count as usize;
+        self.alloc_refusal(port, r, credential, hint, wanted, places.len())?;
+        let first = self.nearest(hint, |b| self.run_from(b, wanted)).ok_or(NO_RUN)?;
+        refuse_if(self.used() + wanted > self.pointers.len(), NO_PLACE)?;
+        for (b, place) in (first..).zip(&mut places[..wanted]) {
+            self.take(r, b);
             *place = b as u16;
         }
         Ok(())
@@ -516,6 +562,9 @@ impl Card {
             Call::Alloc { reference, credential, hint, count } => {
                 self.alloc(port, *reference, *credential, *hint, *count, &mut lent.places)
             }
+            Call::AllocContig { reference, credential, hint, count } => {
+                self.alloc_contig(port, *reference, *credential, *hint, *count, &mut lent.places)
+            }
             Call::Create { source, source_credential, destination, destination_credential } => {
                 self.create(port, *source, *source_credential, *destination, *destination_credential)
             }
@@ -635,12 +684,18 @@ pub fn new_key_of(bytes: &[u8]) -> Option<Option<Key>> {
     (bytes.len() == 17).then(|| Body(bytes).new_key())?
 }
 
+/// The kinds of a host's records, each call once.
+pub const HOST_KINDS: [u8; 12] = [1, 2, 3, 4, 5, 6, 7, 8, 9, 10, 11, 12];
+
+/// The kinds of the service port: 128 more than the host's kind of the same call.
+pub const SERVICE_KINDS: [u8; 7] = [129, 130, 131, 132, 133, 134, 140];
+
 /// The port at which a record's call is performed, by the port of the wire on which the record came: a host's kinds are
 /// a host's calls on either wire, and the service port's exist on the service wire alone.
 fn call_port(wire: Port, kind: u8) -> Option<Port> {
-    match (wire, kind) {
-        (_, 1..=11) => Some(Port::Host),
-        (Port::Service, 129..=134) => Some(Port::Service),
+    match wire {
+        _ if HOST_KINDS.contains(&kind) => Some(Port::Host),
+        Port::Service if SERVICE_KINDS.contains(&kind) => Some(Port::Service),
         _ => None,
     }
 }
@@ -680,6 +735,12 @@ pub fn decode(wire: Port, kind: u8, body: &[u8]) -> Option<(Port, Call)> {
         8 => Call::Force { block: body.block()? },
         9 => Call::Free,
         10 => Call::Tick { seconds: body.number(8)? },
+        12 => Call::AllocContig {
+            reference: body.block()?,
+            credential: body.credential()?,
+            hint: body.block()?,
+            count: body.byte()?,
+        },
         _ => Call::Audit,
     };
     Some((port, call))
@@ -706,6 +767,7 @@ pub fn body_length(wire: Port, kind: u8) -> Option<usize> {
         7 => 23,
         8 => 2,
         10 => 8,
+        12 => 22,
         _ => 0,
     })
 }
@@ -741,7 +803,7 @@ fn lent_bytes(card: &Card) -> usize {
 pub fn answer_room(card: &Card, call: &Call) -> usize {
     match call {
         Call::Read { .. } => 1 + lent_bytes(card),
-        Call::Alloc { .. } => 1 + 2 * 64,
+        Call::Alloc { .. } | Call::AllocContig { .. } => 1 + 2 * 64,
         Call::Delete { .. } | Call::Free | Call::Tick { .. } => 1 + 8,
         _ => 1,
     }
@@ -755,7 +817,7 @@ pub fn answer_bytes(card: &mut Card, port: Port, call: &Call) -> Vec<u8> {
     if number == 0 {
         match call {
             Call::Read { .. } => bytes.extend(&lent.out),
-            Call::Alloc { count, .. } => {
+            Call::Alloc { count, .. } | Call::AllocContig { count, .. } => {
                 bytes.extend(lent.places[..*count as usize].iter().flat_map(|p| p.to_be_bytes()))
             }
             Call::Delete { .. } | Call::Free | Call::Tick { .. } => bytes.extend(lent.value.to_be_bytes()),

@@ -1,7 +1,10 @@
 //! Random calls with operands that fit the card, or nearly, and the buffers to lend to them.
 
 use crate::library::{credential_bytes, new_key_bytes, Direct, Raw};
-use crate::model::{ends, Buffers, Card, Credential, Key, Operation, DAY, NO_HINT, READ_KEY, TIME_END, WRITE_KEY};
+use crate::model::{
+    ends, Buffers, Card, Credential, Key, Operation, ALLOCATED, DAY, HOST_KINDS, NO_HINT, READ_KEY, SERVICE_KINDS,
+    TIME_END, WRITE_KEY,
+};
 use crate::random_card::{Random, KEYS};
 
 /// Chooses operands with an eye on the card, so that calls are often done and often just refused.
@@ -152,10 +155,58 @@ impl Chooser {
         }
     }
 
+    pub fn hint(&self, rnd: &mut Random, card: &Card) -> u16 {
+        let n = card.info[0];
+        match rnd.below(12) {
+            0 | 1 => NO_HINT,
+            2 => n as u16,
+            3 => rnd.of(&[65_534, n as u16 + 1]),
+            4 => 0,
+            5 => n as u16 - 1,
+            _ => rnd.below(n) as u16,
+        }
+    }
+
+    /// How many blocks ALLOC asks for.
+    pub fn count(&self, rnd: &mut Random, card: &Card) -> u8 {
+        let free = card.free_blocks().min(254) as u64;
+        let spare = (card.pointers.len() - card.used()).min(254) as u64;
+        let count = match rnd.below(16) {
+            0 => 0,
+            1 => rnd.of(&[65, 255]),
+            2 => 64,
+            3 => free,
+            4 => free + 1,
+            5 => spare,
+            6 => spare + 1,
+            _ => rnd.within(1, 4),
+        };
+        count as u8
+    }
+
+    /// How many ALLOC_CONTIG asks for: as ALLOC, or just the longest run, or one more than that.
+    pub fn run_count(&self, rnd: &mut Random, card: &Card) -> u8 {
+        let longest = longest_run(card).min(254) as u8;
+        match rnd.below(10) {
+            0 => longest,
+            1 | 2 => longest + 1,
+            _ => self.count(rnd, card),
+        }
+    }
+
+    /// A hint for a run of so many: as for ALLOC, or about the last block at which one has room.
+    pub fn run_hint(&self, rnd: &mut Random, card: &Card, count: u8) -> u16 {
+        let last = (card.blocks() as u16).saturating_sub(count as u16);
+        match rnd.below(10) {
+            0 => last,
+            1 => rnd.of(&[last.saturating_sub(1), last + 1]),
+            _ => self.hint(rnd, card),
+        }
+    }
+
     pub fn call(&self, rnd: &mut Random, card: &Card) -> Direct {
         let port = self.port(rnd);
-        let n = card.info[0];
-        match rnd.below(100) {
+        match rnd.below(110) {
             0..=16 => {
                 let block = self.block(rnd, card);
                 let credential = self.raw(rnd, card, block, Operation::Reading);
@@ -171,27 +222,8 @@ impl Chooser {
             34..=46 => {
                 let reference = self.block(rnd, card);
                 let credential = self.raw(rnd, card, reference, Operation::Writing);
-                let hint = match rnd.below(12) {
-                    0 | 1 => NO_HINT,
-                    2 => n as u16,
-                    3 => rnd.of(&[65_534, n as u16 + 1]),
-                    4 => 0,
-                    5 => n as u16 - 1,
-                    _ => rnd.below(n) as u16,
-                };
-                let free = card.free_blocks().min(254) as u64;
-                let spare = (card.pointers.len() - card.used()).min(254) as u64;
-                let count = match rnd.below(16) {
-                    0 => 0,
-                    1 => rnd.of(&[65, 255]),
-                    2 => 64,
-                    3 => free,
-                    4 => free + 1,
-                    5 => spare,
-                    6 => spare + 1,
-                    _ => rnd.within(1, 4),
-                };
-                Direct::Alloc { port, reference, credential, hint, count: count as u8 }
+                let hint = self.hint(rnd, card);
+                Direct::Alloc { port, reference, credential, hint, count: self.count(rnd, card) }
             }
             47..=59 => {
                 let mut source = self.block(rnd, card);
@@ -258,7 +290,13 @@ impl Chooser {
                 Direct::Tick { seconds }
             }
             98 => Direct::Audit,
-            _ => Direct::Free,
+            99 => Direct::Free,
+            _ => {
+                let reference = self.block(rnd, card);
+                let credential = self.raw(rnd, card, reference, Operation::Writing);
+                let count = self.run_count(rnd, card);
+                Direct::AllocContig { port, reference, credential, hint: self.run_hint(rnd, card, count), count }
+            }
         }
     }
 
@@ -285,6 +323,12 @@ impl Chooser {
     }
 }
 
+/// How many unallocated blocks adjoin at most.
+fn longest_run(card: &Card) -> usize {
+    let runs = card.flags.split(|flag| flag & ALLOCATED != 0);
+    runs.map(|run| run.len()).max().unwrap_or(0)
+}
+
 /// Buffers to lend for the call, of fitting length or nearly, holding what they may.
 pub fn buffers(rnd: &mut Random, card: &Card, call: Option<&Direct>) -> Buffers {
     let b = card.bytes();
@@ -299,7 +343,7 @@ pub fn buffers(rnd: &mut Random, card: &Card, call: Option<&Direct>) -> Buffers 
         _ => rnd.of(&[0, 8, 512]),
     };
     let places = match call {
-        Some(Direct::Alloc { count, .. }) => {
+        Some(Direct::Alloc { count, .. } | Direct::AllocContig { count, .. }) => {
             let count = *count as usize;
             if rnd.percent(90) {
                 rnd.of(&[64, count, count + 3])
@@ -328,10 +372,10 @@ pub fn spoilt_record(rnd: &mut Random, call: &Direct) -> (u8, Vec<u8>) {
         }
         4 => {
             // Right in length for its kind or not, and likely ill formed.
-            kind = rnd.of(&[0, 1, 2, 3, 4, 5, 6, 7, 8, 9, 10, 11, 129, 130, 131, 132, 133, 134]);
+            kind = rnd.of(&[&[0], &HOST_KINDS[..], &SERVICE_KINDS].concat());
             body.resize(rnd.of(&[21, 22, 23, 38, 53, 535]), 0);
         }
-        _ => kind = rnd.of(&[0, 12, 13, 33, 64, 127, 128, 135, 136, 137, 138, 139, 140, 142, 255, rnd.0 as u8]),
+        _ => kind = rnd.of(&[0, 13, 14, 33, 64, 127, 128, 135, 136, 137, 138, 139, 141, 142, 255, rnd.0 as u8]),
     }
     (kind, body)
 }

@@ -39,7 +39,7 @@ build() {
 
 if [ "$mode" = benchmark ]; then
 	build benchmark && "$work/benchmark" && size -t "$work/libnegvask.a" | tail -1 |
-		awk '{ printf "library: %d bytes of code and read-only data, %d bytes of data (target: code under 20480)\n", $1, $2 + $3 }'
+		awk '{ printf "library: %d bytes of code and read-only data, %d bytes of data (target: code under 40960)\n", $1, $2 + $3 }'
 	exit
 fi
 

@@ -6,6 +6,7 @@ use crate::batch::{all_served, random_room};
 use crate::library::{Direct, LentBatch, LentBuffers, Tables, HOST};
 use crate::model::{
     body_length, decode, next_record, Buffers, Call, Card, Credential, Key, Port, Progress, Record, MALFORMED, NO_ROOM,
+    SERVICE_KINDS,
 };
 use crate::random_call::{buffers, Chooser};
 use crate::random_card::{random_card, Random, Size, KEYS};
@@ -27,19 +28,21 @@ pub struct Secrecy {
     hidden: u64,
     freed: u64,
     reads: u64,
+    runs: u64,
 }
 
 impl Secrecy {
     pub fn summary(&self) -> String {
         format!(
-            "{} sessions, {} calls ({} done, {} of them READ), {} hidden blocks ({} of them freed)",
-            self.sessions, self.calls, self.done, self.reads, self.hidden, self.freed
+            "{} sessions, {} calls ({} done, {} of them READ, {} ALLOC_CONTIG), {} hidden blocks ({} of them freed)",
+            self.sessions, self.calls, self.done, self.reads, self.runs, self.hidden, self.freed
         )
     }
 
     pub fn missing(&self) -> Vec<String> {
-        let missing = self.hidden == 0 || self.freed == 0 || self.reads == 0;
-        missing.then(|| "secrecy: no hidden block, none freed or no READ done".to_string()).into_iter().collect()
+        let missing = self.hidden == 0 || self.freed == 0 || self.reads == 0 || self.runs == 0;
+        let what = "secrecy: no hidden block, none freed, no READ or no ALLOC_CONTIG done";
+        missing.then(|| what.to_string()).into_iter().collect()
     }
 }
 
@@ -52,6 +55,7 @@ fn presented_by(call: &Call) -> Vec<Key> {
         Call::Read { credential, .. }
         | Call::Write { credential, .. }
         | Call::Alloc { credential, .. }
+        | Call::AllocContig { credential, .. }
         | Call::Delete { credential, .. }
         | Call::Key { credential, .. } => key(credential),
         Call::Create { source_credential, destination_credential, .. } => {
@@ -138,6 +142,7 @@ impl Pair {
         if answer == 0 {
             seen.done += 1;
             seen.reads += matches!(call, Call::Read { .. }) as u64;
+            seen.runs += matches!(call, Call::AllocContig { .. }) as u64;
             if let Call::Delete { destination, .. } = call {
                 self.freed[*destination as usize] |= value == 1;
             }
@@ -281,7 +286,7 @@ fn host_bytes(rnd: &mut Random, start: &Card, seen: &mut ByteSecrecy) -> Result<
         }
         _ => {
             let mut starts = starts(Port::Host, &input);
-            starts.retain(|&at| input.get(at).is_some_and(|&kind| kind <= 6));
+            starts.retain(|&at| input.get(at).is_some_and(|&kind| SERVICE_KINDS.contains(&(kind + 128))));
             if !starts.is_empty() {
                 input[rnd.of(&starts)] += 128;
                 seen.with_service_kind += 1;
@@ -295,7 +300,7 @@ fn host_bytes(rnd: &mut Random, start: &Card, seen: &mut ByteSecrecy) -> Result<
 fn results_length(call: &Call) -> usize {
     match call {
         Call::Read { .. } => BYTES,
-        Call::Alloc { count, .. } => 2 * *count as usize,
+        Call::Alloc { count, .. } | Call::AllocContig { count, .. } => 2 * *count as usize,
         Call::Delete { .. } | Call::Free | Call::Tick { .. } => 8,
         _ => 0,
     }

@@ -1,4 +1,4 @@
-//! The document's own trials: its example of ten records, and T1 to T12, on library and model.
+//! The documents' own trials, on library and model: the example of ten records, T1 to T12, and rows of request 2026-01.
 
 use crate::compare;
 use crate::library::{self, Direct, LentBatch, LentBuffers, Tables};
@@ -45,7 +45,7 @@ impl Player {
         if given == 0 {
             let results: Vec<u64> = match &call {
                 Call::Read { .. } => buffers.out.values()[..8].iter().map(|&v| v as u64).collect(),
-                Call::Alloc { count, .. } => {
+                Call::Alloc { count, .. } | Call::AllocContig { count, .. } => {
                     buffers.places.values()[..*count as usize].iter().map(|&v| v as u64).collect()
                 }
                 Call::Delete { .. } | Call::Free | Call::Tick { .. } => vec![buffers.value.values()[0]],
@@ -79,6 +79,7 @@ fn example_batch(calls: &[(Port, Call, &str)]) -> Result<(), String> {
 pub fn trials() -> Result<usize, String> {
     use Credential::{Nothing, Reference};
     let alloc = |hint, count| Call::Alloc { reference: 0, credential: Nothing, hint, count };
+    let contig = |hint, count| Call::AllocContig { reference: 0, credential: Nothing, hint, count };
     let alloc_at = |reference, hint, count| Call::Alloc { reference, credential: Nothing, hint, count };
     let read = |block, credential, interval| Call::Read { block, credential, interval };
     let delete = |source, destination| Call::Delete { source, credential: Nothing, destination };
@@ -154,6 +155,41 @@ pub fn trials() -> Result<usize, String> {
                 (SERVICE, read(2, Nothing, 0), "129 0 0 0 0 0 0 0 0 0"),
             ],
         ),
+        ("2026-01, hint 8", vec![(SERVICE, contig(8, 3), "140 0 8 9 10")]),
+        ("2026-01, hint 15", vec![(SERVICE, contig(15, 2), "140 0 14 15")]),
+        // 14 blocks are free, of which 7 adjoin at most.
+        (
+            "2026-01, block 8 taken",
+            vec![
+                (SERVICE, alloc(8, 1), "131 0 8"),
+                (SERVICE, contig(NO_HINT, 15), "140 10"),
+                (SERVICE, contig(8, 8), "140 14"),
+                (SERVICE, contig(NO_HINT, 8), "140 14"),
+                (SERVICE, contig(NO_HINT, 7), "140 0 1 2 3 4 5 6 7"),
+            ],
+        ),
+        // Blocks 7 and 9 are as near to 8, and the runs from 5 and from 9 on to 7.
+        (
+            "2026-01, ties",
+            vec![
+                (SERVICE, alloc(8, 1), "131 0 8"),
+                (SERVICE, contig(8, 1), "140 0 7"),
+                (SERVICE, contig(7, 2), "140 0 5 6"),
+                (SERVICE, contig(7, 2), "140 0 9 10"),
+                (HOST, contig(7, 2), "12 6"),
+                (HOST, Call::Free, "9 0 9"),
+            ],
+        ),
+        (
+            "2026-01, contents",
+            vec![
+                (SERVICE, alloc(NO_HINT, 2), "131 0 1 2"),
+                (SERVICE, Call::Write { block: 2, credential: Nothing, interval: 0, data: vec![7; 512] }, "130 0"),
+                (SERVICE, delete(0, 2), "133 0 1"),
+                (SERVICE, contig(NO_HINT, 2), "140 0 2 3"),
+                (SERVICE, read(2, Nothing, 0), "129 0 0 0 0 0 0 0 0 0"),
+            ],
+        ),
     ];
     example_batch(&rows[0].1)?;
     for (name, calls) in &rows {
@@ -161,7 +197,7 @@ pub fn trials() -> Result<usize, String> {
         for (i, (port, call, expected)) in calls.iter().enumerate() {
             let line = player.play(*port, call.clone()).map_err(|d| format!("{name}, record {}: {d}", i + 1))?;
             if line != *expected {
-                return Err(format!("{name}, record {}: got '{line}', the document has '{expected}'", i + 1));
+                return Err(format!("{name}, record {}: got '{line}', the documents have '{expected}'", i + 1));
             }
         }
     }

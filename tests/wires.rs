@@ -9,8 +9,8 @@ use crate::batch::{all_served, compare, perhaps_damaged, put, put_records, rando
 use crate::damage::{damage, DAMAGES};
 use crate::library::{LentBatch, LentBuffers, Tables, HOST, SERVICE};
 use crate::model::{
-    self, body_length, next_record, number, port_of, Buffers, Card, Port, Progress, CUT_SHORT, MALFORMED, NO_ROOM,
-    SHAPE,
+    self, body_length, next_record, number, port_of, Buffers, Card, Port, Progress, CUT_SHORT, HOST_KINDS, MALFORMED,
+    NO_ROOM, SERVICE_KINDS, SHAPE,
 };
 use crate::random_card::{random_card, Random, Size};
 use std::collections::BTreeMap;
@@ -72,7 +72,7 @@ fn random_bytes(rnd: &mut Random, card: &Card, wire: Port, sort: Sort) -> Vec<u8
 
 /// A kind, most often one that a host may send, and a body of its length.
 fn body_by_chance(rnd: &mut Random) -> (u8, Vec<u8>) {
-    let kind = if rnd.percent(85) { rnd.within(1, 11) } else { rnd.within(129, 134) } as u8;
+    let kind = if rnd.percent(85) { rnd.of(&HOST_KINDS) } else { rnd.of(&SERVICE_KINDS) };
     let mut body = vec![0; body_length(Port::Service, kind).unwrap()];
     for _ in 0..rnd.below(4).min(body.len() as u64) {
         let at = rnd.below(body.len().min(60) as u64) as usize;
@@ -103,7 +103,7 @@ pub fn spoil(rnd: &mut Random, wire: Port, sort: Sort, input: &mut Vec<u8>) {
     match sort {
         Sort::Flipped if at < input.len() => input[at] ^= 1 << rnd.below(8),
         Sort::Cut => input.truncate(at),
-        Sort::Inserted => input.insert(at, rnd.of(&[0, 1, 9, 11, 131, 134, rnd.0 as u8])),
+        Sort::Inserted => input.insert(at, rnd.of(&[0, 1, 9, 11, 12, 131, 134, 140, rnd.0 as u8])),
         _ => {}
     }
 }
@@ -262,9 +262,10 @@ impl ServiceKinds {
     pub fn summary(&self) -> String {
         let taken = |done| self.taken.iter().filter(|((_, d), _)| *d == done).map(|(_, count)| count).sum::<u64>();
         format!(
-            "service kinds: {} batches at the host port, 6 kinds in {} places whole and cut short ({} with no room left), \
+            "service kinds: {} batches at the host port, {} kinds in {} places whole and cut short ({} with no room left), \
              all stopped there at 13, at the service port {} whole ones performed ({} done)",
             self.refused.values().sum::<u64>(),
+            SERVICE_KINDS.len(),
             HOSTS + 1,
             self.without_room,
             taken(true) + taken(false),
@@ -274,7 +275,7 @@ impl ServiceKinds {
 
     pub fn missing(&self) -> Vec<String> {
         let mut missing = Vec::new();
-        for kind in 129..=134 {
+        for kind in SERVICE_KINDS {
             for place in 0..=HOSTS {
                 for form in FORMS.into_iter().filter(|&form| !self.refused.contains_key(&(place, kind, form))) {
                     missing.push(format!("service kinds: {kind} in place {place}, {form:?}"));
@@ -313,7 +314,7 @@ fn host_records(rnd: &mut Random, card: Card) -> (Vec<Vec<u8>>, Vec<Card>) {
     let (mut records, mut cards) = (Vec::new(), vec![card]);
     for i in 0..HOSTS {
         let mut after = cards[i].clone();
-        let kind = rnd.within(1, 11) as u8;
+        let kind = rnd.of(&HOST_KINDS);
         let record = record_of(rnd, &after, kind);
         model::batch(&mut after, HOST, &record, &mut [0; 1_024], &mut Progress::default());
         records.push(record);
@@ -369,7 +370,7 @@ pub fn service_kinds(rnd: &mut Random, seen: &mut ServiceKinds) -> Result<(), St
     let (records, cards) = host_records(rnd, card);
     for place in 0..=HOSTS {
         let (before, behind) = (records[..place].concat(), records[place..].concat());
-        for kind in 129..=134 {
+        for kind in SERVICE_KINDS {
             let whole = record_of(rnd, &cards[place], kind);
             for form in FORMS {
                 let some = rnd.within(1, whole.len() as u64 - 1) as usize;
@@ -453,7 +454,7 @@ pub fn other_ports(rnd: &mut Random, seen: &mut OtherPorts) -> Result<(), String
     put_records(rnd, &sound, Port::Service, 20, &mut records);
     seen.done_at_service += all_served(&sound, SERVICE, &records).iter().filter(|s| s.done).count() as u64;
     for (name, card) in &cards {
-        for input in [&records[..], &[], &[0], &[131], &[9, 11, 9]] {
+        for input in [&records[..], &[], &[0], &[131], &[140], &[9, 11, 9]] {
             for wire in 2..=255 {
                 refused_whole(rnd, card, wire, input)
                     .map_err(|d| format!("{} on the card ({name}): {d}", front(input)))?;
