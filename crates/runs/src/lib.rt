@@ -22,7 +22,11 @@ fn since_after(since: usize, block: usize, flag: u8) -> usize
     requires { ⌜ block < 4096 ⌝ }
     ensures { λ r. ⌜ r ≡ sinceAfter since block flag ⌝ }
 {
-    if flags::allocated(flag) { block + 1 } else { since }
+    if flags::allocated(flag) {
+        block + 1
+    } else {
+        since
+    }
 }
 
 // The nearest of the runs so far and of one more, which starts above them: so on a tie it is not taken.

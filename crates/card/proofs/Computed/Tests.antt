@@ -290,8 +290,7 @@ module _ (port : Port) (c : Card) (o : AllocOperands) (lent : Buffers) where
       let early : NoneHolds (take 6 (refusals port c (contig o lent))) = noneHold-true _ (and-left _ _ h) in
       let rest : leb (o .count) (length (freeBlocks (c .public))) && allBelow (λ first. not (adjoining c (o .count) first)) (c .public .info .blocks) ≡ true =
       and-right (noneHold (take 6 (refusals port c (contig o lent)))) _ h in
-      run-found port c o lent .refusedIff .1
-      (
+      run-found port c o lent .refusedIff .1 (
         early,
         (
           leb-true _ _ (and-left _ _ rest),
