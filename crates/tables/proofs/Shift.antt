@@ -1,4 +1,4 @@
--- The shifts by one place that make room for a pointer and that close the gap of one.
+-- The shifts that make room for pointers and that close the gap of one.
 use Prim.Native.Nat.{ℕ, zero, suc, _+_, _-_, _≤_, _<_}
 use mathlib.Core.Path.{_≡_, refl, sym, ap, _∙_, subst}
 use mathlib.Core.List.{List, [], _∷_, _++_, append-assoc, append-nil}
@@ -12,7 +12,7 @@ use Rattle.card.specs.ListsLaws.{and-left}
 use Rattle.card.specs.Pointers.{insert, remove}
 use Rattle.tables.specs.Rank.{rank}
 use Rattle.tables.specs.RankLaws.{rank-length, contains-rank, insert-rank, remove-rank}
-use Rattle.tables.specs.InUse.{Addable, Removable}
+use Rattle.tables.specs.InUse.{Addable, Removable, Raisable, RaisedFrom}
 
 -- ---- upwards
 
@@ -21,55 +21,70 @@ set-behind [] tail i v l = absurd (not-suc-le-zero l)
 set-behind (x ∷ xs) tail zero v l = refl
 set-behind (x ∷ xs) tail (suc i) v l = ap (λ (t : List ℕ). x ∷ t) (set-behind xs tail i v (le-of-suc-le-suc l))
 
--- The pointers in use from i on stand one place higher, and the others where they were.
-pub record Raised (before now : List ℕ) (used at i : ℕ) : Type 0 where
-  pub room : used < length before
+-- The pointers in use from i on stand `by` places higher, and the others where they were.
+pub record Raised (before now : List ℕ) (used by at i : ℕ) : Type 0 where
+  pub room : used + by ≤ length before
   pub lowest : at ≤ i
   pub most : i ≤ used
   pub same : length now ≡ length before
-  pub holds : now ≡ take (suc i) before ++ (drop i (take used before) ++ drop (suc used) before)
+  pub holds : now ≡ take (i + by) before ++ (drop i (take used before) ++ drop (used + by) before)
 
-pub raised-start : {before : List ℕ} {used at w : ℕ} → Addable before used w → at ≡ rank w (take used before) → Raised before before used at used
-raised-start {before} {used} {at} {w} a e = record {
+pub raised-start : {before : List ℕ} {used by at : ℕ} (w : ℕ) → Raisable before used by → at ≡ rank w (take used before) → Raised before before used by at used
+raised-start {before} {used} {by} {at} w a e = record {
   room = a .room;
   lowest = omega (arith, rank-length w (take used before), length-take-le used before (a .sorted .within));
   most = omega arith;
   same = refl;
-  holds = sym (rw (drop-of-length-le (take used before) {i = used} (simp length-take (omega arith))) (take-append-drop (suc used) before));
+  holds = sym (rw (drop-of-length-le (take used before) {i = used} (simp length-take (omega arith))) (take-append-drop (used + by) before));
 }
 
-raise : (before : List ℕ) (used i : ℕ) → i < used → used < length before
-    → set (take (suc (suc i)) before ++ (drop (suc i) (take used before) ++ drop (suc used) before)) (suc i) (getD before i 0)
-    ≡ take (suc i) before ++ (drop i (take used before) ++ drop (suc used) before)
-raise before used i l room =
-    set-behind before _ (suc i) (getD before i 0) (omega arith)
+raise : (before : List ℕ) (used by i : ℕ) → i < used → used + by ≤ length before
+    → set (take (suc (i + by)) before ++ (drop (suc i) (take used before) ++ drop (used + by) before)) (i + by) (getD before i 0)
+    ≡ take (i + by) before ++ (drop i (take used before) ++ drop (used + by) before)
+raise before used by i l room =
+    set-behind before _ (i + by) (getD before i 0) (omega arith)
     ∙ rw (drop-cons (take used before) i 0 (simp length-take (omega arith)), getD-take used before i 0 l)
 
-pub raised-more : {before now : List ℕ} {used at i : ℕ} → Raised before now used at i → at < i → Raised before (set now i (getD now (i - 1) 0)) used at (i - 1)
-raised-more {before} {now} {used} {at} {i} r l = record {
-  room = r .room;
-  lowest = omega arith;
-  most = omega (arith, r .most);
-  same = length-set now i _ ∙ r .same;
-  holds = go (i - 1) (omega arith);
-}
-  where
-    kept : (k : ℕ) → i ≡ suc k → getD now k 0 ≡ getD before k 0
-    kept k e =
-        rw (r .holds)
-        (List·getD-append (take (suc i) before) _ 0 k (simp length-take (omega (arith, r .room, r .most))) ∙ getD-take (suc i) before k 0 (omega arith))
+module _ {before now : List ℕ} {used by at i : ℕ} (r : Raised before now used by at i) where
+  pub raised-more : at < i → Raised before (set now (i - 1 + by) (getD now (i - 1) 0)) used by at (i - 1)
+  raised-more l = record {
+    room = r .room;
+    lowest = omega arith;
+    most = omega (arith, r .most);
+    same = length-set now (i - 1 + by) _ ∙ r .same;
+    holds = go (i - 1) (omega arith);
+  }
+    where
+      kept : (k : ℕ) → i ≡ suc k → getD now k 0 ≡ getD before k 0
+      kept k e =
+          rw (r .holds)
+          (List·getD-append (take (i + by) before) _ 0 k (simp length-take (omega (arith, r .room, r .most))) ∙ getD-take (i + by) before k 0 (omega arith))
 
-    go : (k : ℕ) → i ≡ suc k → set now i (getD now k 0) ≡ take (suc k) before ++ (drop k (take used before) ++ drop (suc used) before)
-    go k e = rw (kept k e, r .holds, e) (raise before used k (omega (arith, r .most)) (r .room))
+      go : (k : ℕ) → i ≡ suc k → set now (k + by) (getD now k 0) ≡ take (k + by) before ++ (drop k (take used before) ++ drop (used + by) before)
+      go k e = let next : suc k + by ≡ suc (k + by) = omega arith in rw (kept k e, r .holds, e, next) (raise before used by k (omega (arith, r .most)) (r .room))
 
-pub inserted : {before now : List ℕ} {used at i w : ℕ} → Addable before used w → at ≡ rank w (take used before) → Raised before now used at i → i ≤ at
-    → set now at w ≡ insert w (take used before) ++ drop (used + 1) before
-inserted {before} {now} {used} {at} {i} {w} a e r l =
-    let last : i ≡ at = omega (arith, r .lowest) in
-    let low : at ≤ used = omega (arith, r .most) in
-    let room : used < length before = r .room in
-    rw (insert-rank w (take used before) (a .sorted .ascends) (a .absent), ← e, add-one used, r .holds, last, set-behind before _ at w (omega arith), take-take at used before low)
-    (sym (append-assoc (take at before) (w ∷ drop at (take used before)) (drop (suc used) before)))
+  pub raised-whole : {w : ℕ} → at ≡ rank w (take used before) → i ≤ at → RaisedFrom before used by w at now
+  raised-whole e l = let last : i ≡ at = omega (arith, r .lowest) in record { place = e; raised = subst (λ (n : ℕ). now ≡ take (n + by) before ++ (drop n (take used before) ++ drop (used + by) before)) last (r .holds) }
+
+-- What is left of it.
+module _ {before after : List ℕ} {used by w at : ℕ} (a : Raisable before used by) (r : RaisedFrom before used by w at after) where
+  pub raised-place : at ≤ used
+  raised-place = omega (arith, r .place, rank-length w (take used before), length-take-le used before (a .sorted .within))
+
+  pub raised-length : length after ≡ length before
+  raised-length =
+      rw (r .raised) (simp (length-append, length-take, length-drop) (omega (arith, a .room, raised-place)))
+
+pub can-raise-one : {before : List ℕ} {used w : ℕ} → Addable before used w → Raisable before used 1
+can-raise-one a = record { sorted = a .sorted; room = omega (arith, a .room) }
+
+pub inserted : {before after : List ℕ} {used at w : ℕ} → Addable before used w → RaisedFrom before used 1 w at after
+    → set after at w ≡ insert w (take used before) ++ drop (used + 1) before
+inserted {before} {after} {used} {at} {w} a r =
+    let low : at ≤ used = raised-place (can-raise-one a) r in
+    let room : used < length before = a .room in
+    rw (insert-rank w (take used before) (a .sorted .ascends) (a .absent), ← r .place, r .raised, add-one at, set-behind before _ at w (omega arith), take-take at used before low)
+    (sym (append-assoc (take at before) (w ∷ drop at (take used before)) (drop (used + 1) before)))
 
 -- ---- downwards
 

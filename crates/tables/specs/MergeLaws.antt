@@ -3,16 +3,17 @@ use Prim.Native.Nat.{ℕ, zero, suc, _+_, _≤_, _<_}
 use mathlib.Core.Path.{_≡_, refl, sym, ap, _∙_}
 use mathlib.Core.Logic.{_⊎_, ⊎-elim}
 use mathlib.Core.Bool.{Bool, true, false, _||_, cond}
-use mathlib.Core.List.{List, [], _∷_, _++_}
+use mathlib.Core.List.{List, [], _∷_, _++_, append-nil}
 use native.Mathlib.Nat.{le-of-suc-le-suc, not-suc-le-zero}
 use native.Mathlib.Omega.{arith}
 use lib.Dec.{eqb, ltb}
 use lib.ListN.{length, take, getD}
+use lib.Seq.{append-snoc}
 use borrow.Author.Tests.{lt-ltb, le-ltb, ltb-true}
 use Rattle.card.specs.Lists.{all, any}
-use Rattle.card.specs.ListsLaws.{or-left, or-right, or-cases, all-head, all-tail, all-cons, absurd-test, below-or-not}
+use Rattle.card.specs.ListsLaws.{or-left, or-right, or-cases, all-head, all-tail, all-cons, all-map, absurd-test, below-or-not}
 use Rattle.card.specs.Pointers.{ascending, contains, insert}
-use Rattle.card.specs.PointersLaws.{insert-length, ascending-tail}
+use Rattle.card.specs.PointersLaws.{insert-length, ascending-cons, ascending-below, ascending-tail}
 use Rattle.tables.specs.Merge.{insertAll}
 use Rattle.tables.specs.RankLaws.{ascending-first}
 
@@ -66,9 +67,10 @@ insertAll-append (u ∷ us) vs ws = ap (insert u) (insertAll-append us vs ws)
 
 -- ---- the last of the result
 
-insert-before : (v y : ℕ) (ws : List ℕ) → v < y → insert v (ws ++ (y ∷ [])) ≡ insert v ws ++ (y ∷ [])
+insert-before : (v y : ℕ) (ws : List ℕ) → v ≤ y → insert v (ws ++ (y ∷ [])) ≡ insert v ws ++ (y ∷ [])
 unfolding insert
-insert-before v y [] h = rw (lt-ltb v y h)
+insert-before v y [] h =
+    ⊎-elim (λ (l : v < y). rw (lt-ltb v y l)) (λ (l : y ≤ v). let same : v ≡ y = omega arith in rw (le-ltb v y l, same)) (below-or-not v y)
 insert-before v y (x ∷ xs) h = go (ltb v x) (insert-before v y xs h)
   where
     go : (t : Bool) → insert v (xs ++ (y ∷ [])) ≡ insert v xs ++ (y ∷ [])
@@ -83,21 +85,45 @@ insert-last w (x ∷ xs) h =
     let low : x < suc w = ltb-true x (suc w) (all-head (λ x. ltb x (suc w)) x xs h) in
     rw (le-ltb w x (omega arith)) (ap (λ (t : List ℕ). x ∷ t) (insert-last w xs (all-tail (λ x. ltb x (suc w)) x xs h)))
 
--- A number above those inserted stays the last.
-pub insertAll-before : (vs ws : List ℕ) (y : ℕ) → all (λ v. ltb v y) vs ≡ true → insertAll vs (ws ++ (y ∷ [])) ≡ insertAll vs ws ++ (y ∷ [])
+-- A number that is below none of those inserted stays the last.
+insertAll-before : (vs ws : List ℕ) (y : ℕ) → all (λ v. ltb v (suc y)) vs ≡ true → insertAll vs (ws ++ (y ∷ [])) ≡ insertAll vs ws ++ (y ∷ [])
 unfolding insertAll
 insertAll-before [] ws y h = refl
 insertAll-before (v ∷ vs) ws y h =
-    ap (insert v) (insertAll-before vs ws y (all-tail (λ v. ltb v y) v vs h))
-    ∙ insert-before v y (insertAll vs ws) (ltb-true v y (all-head (λ v. ltb v y) v vs h))
+    let low : v < suc y = ltb-true v (suc y) (all-head (λ v. ltb v (suc y)) v vs h) in
+    ap (insert v) (insertAll-before vs ws y (all-tail (λ v. ltb v (suc y)) v vs h)) ∙ insert-before v y (insertAll vs ws) (omega arith)
+
+-- So do several, where w parts them from those inserted.
+pub insertAll-above : (w : ℕ) (vs ws ys : List ℕ) → all (λ v. ltb v (suc w)) vs ≡ true → all (λ y. ltb w (suc y)) ys ≡ true
+    → insertAll vs (ws ++ ys) ≡ insertAll vs ws ++ ys
+insertAll-above w vs ws [] low high = rw (append-nil ws, append-nil (insertAll vs ws))
+insertAll-above w vs ws (y ∷ ys) low high =
+    let above : w < suc y = ltb-true w (suc y) (all-head (λ y. ltb w (suc y)) y ys high) in
+    ap (insertAll vs) (sym (append-snoc ws y ys))
+    ∙ insertAll-above w vs (ws ++ (y ∷ [])) ys low (all-tail (λ y. ltb w (suc y)) y ys high)
+    ∙ ap (λ (zs : List ℕ). zs ++ ys)
+    (insertAll-before vs ws y (all-map (λ v. ltb v (suc w)) (λ v. ltb v (suc y)) (λ v h. lt-ltb v (suc y) (omega (arith, ltb-true v (suc w) h))) vs low))
+    ∙ append-snoc (insertAll vs ws) y ys
 
 -- The highest inserted, where no number of the list is above it, becomes the last.
 pub insertAll-last : (vs ws : List ℕ) (w : ℕ) → all (λ v. ltb v w) vs ≡ true → all (λ x. ltb x (suc w)) ws ≡ true
     → insertAll (vs ++ (w ∷ [])) ws ≡ insertAll vs ws ++ (w ∷ [])
 unfolding insertAll
-insertAll-last vs ws w h g = insertAll-append vs (w ∷ []) ws ∙ ap (insertAll vs) (insert-last w ws g) ∙ insertAll-before vs ws w h
+insertAll-last vs ws w h g =
+    insertAll-append vs (w ∷ []) ws
+    ∙ ap (insertAll vs) (insert-last w ws g)
+    ∙ insertAll-before vs ws w (all-map (λ v. ltb v w) (λ v. ltb v (suc w)) (λ v l. lt-ltb v (suc w) (omega (arith, ltb-true v w l))) vs h)
 
 -- ---- in an ascending list
+
+pub take-ascending : (n : ℕ) (ws : List ℕ) → ascending ws ≡ true → ascending (take n ws) ≡ true
+unfolding ascending
+take-ascending zero ws e = refl
+take-ascending (suc n) [] e = refl
+take-ascending (suc zero) (x ∷ xs) e = refl
+take-ascending (suc (suc n)) (x ∷ []) e = refl
+take-ascending (suc (suc n)) (x ∷ (y ∷ ys)) e =
+    ascending-cons x y (take n ys) (ascending-below x y ys e) (take-ascending (suc n) (y ∷ ys) (ascending-tail x (y ∷ ys) e))
 
 -- Those before a place are below what stands there.
 pub before-below : (ws : List ℕ) (i : ℕ) → ascending ws ≡ true → i < length ws → all (λ x. ltb x (getD ws i 0)) (take i ws) ≡ true

@@ -9,8 +9,8 @@ use native.Mathlib.Omega.{arith}
 use lib.Dec.{eqb, ltb, isLe}
 use lib.ListN.{length, take, drop, getD}
 use borrow.Author.Tests.{lt-ltb, le-ltb, ne-eqb, eqb-false}
-use Rattle.card.specs.Lists.{any}
-use Rattle.card.specs.ListsLaws.{and-right, or-false, or-false-left, or-false-right, absurd-test, below-or-not}
+use Rattle.card.specs.Lists.{all, any}
+use Rattle.card.specs.ListsLaws.{all-cons, and-right, or-false, or-false-left, or-false-right, absurd-test, below-or-not}
 use Rattle.card.specs.Pointers.{source, ascending, contains, pointsFrom, insert, remove}
 use Rattle.card.specs.PointersLaws.{ascending-below, ascending-tail}
 use Rattle.tables.specs.Rank.{rank}
@@ -38,6 +38,14 @@ rank-rest w x (y ∷ ys) e h =
     let below : x < y = ascending-below x y ys e in
     let rest : rank w ys ≡ 0 = rank-rest w y ys (ascending-tail x (y ∷ ys) e) (omega arith) in
     rw (le-ltb y w (omega arith)) (omega arith)
+
+-- In a list that starts from w on, none is below it.
+from-above : (w x : ℕ) (xs : List ℕ) → ascending (x ∷ xs) ≡ true → w ≤ x → all (λ y. ltb w (suc y)) (x ∷ xs) ≡ true
+unfolding all
+from-above w x [] e h = all-cons (λ y. ltb w (suc y)) x [] (lt-ltb w (suc x) (omega arith)) refl
+from-above w x (y ∷ ys) e h =
+    let below : x < y = ascending-below x y ys e in
+    all-cons (λ y. ltb w (suc y)) x (y ∷ ys) (lt-ltb w (suc x) (omega arith)) (from-above w y ys (ascending-tail x (y ∷ ys) e) (omega arith))
 
 pub rank-cons-above : (w x : ℕ) (xs : List ℕ) → ascending (x ∷ xs) ≡ true → w ≤ x → rank w (x ∷ xs) ≡ 0
 unfolding rank
@@ -73,6 +81,20 @@ rank-below w (x ∷ xs) e (suc i) l h =
     ⊎-elim
     (λ (b : x < w). omega (arith, rank-cons-below w x xs b))
     (λ (b : w ≤ x). omega (arith, rank-cons-above w x xs e b))
+    (below-or-not x w)
+
+-- Before the rank each element is.
+pub rank-before : (w : ℕ) (ws : List ℕ) → ascending ws ≡ true → (i : ℕ) → i < length ws → i < rank w ws → getD ws i 0 < w
+rank-before w ws e i l h = ⊎-elim (λ (b : getD ws i 0 < w). b) (λ (b : w ≤ getD ws i 0). absurd (omega (arith, rank-below w ws e i l b))) (below-or-not (getD ws i 0) w)
+
+-- Behind the rank no element is below w.
+pub rank-behind : (w : ℕ) (ws : List ℕ) → ascending ws ≡ true → all (λ y. ltb w (suc y)) (drop (rank w ws) ws) ≡ true
+unfolding rank all
+rank-behind w [] e = refl
+rank-behind w (x ∷ xs) e =
+    ⊎-elim
+    (λ (b : x < w). rw (rank-cons-below w x xs b) (rank-behind w xs (ascending-tail x xs e)))
+    (λ (b : w ≤ x). rw (rank-cons-above w x xs e b) (from-above w x xs e b))
     (below-or-not x w)
 
 -- ---- search

@@ -12,7 +12,7 @@ ghost use Rattle.card.specs.Calls.{freshInfo};
 ghost use Rattle.tables.specs.Rank.{rank};
 ghost use Rattle.tables.specs.Free.{unallocatedBelow};
 ghost use Rattle.tables.specs.Merge.{insertAll};
-ghost use Rattle.tables.specs.InUse.{Sorted, Addable, Mergeable, Removable};
+ghost use Rattle.tables.specs.InUse.{Sorted, Addable, Mergeable, Removable, Raisable, RaisedFrom};
 
 // ---- the record
 
@@ -142,19 +142,26 @@ pub fn points_from(pointers: &[u32], used: usize, block: u16) -> bool
     false
 }
 
+// The pointers in use from the place of `wanted` on move up by so many places. Gives that place.
+fn raise(pointers: &mut [u32], used: usize, by: usize, wanted: u32) -> usize
+    requires { ⌜ Raisable (now pointers) used by ⌝ }
+    ensures { λ r. ⌜ RaisedFrom (now (pointers .entry)) used by wanted r (now (pointers .exit)) ⌝ }
+{
+    let at = place(pointers, used, wanted);
+    let mut i = used;
+    while at < i {
+        i -= 1;
+        pointers[i + by] = pointers[i];
+    }
+    at
+}
+
 // A pointer that is not in use is put into its place, and those behind it move up by one.
 pub fn insert(pointers: &mut [u32], used: usize, wanted: u32)
     requires { ⌜ Addable (now pointers) used wanted ⌝ }
     ensures { λ _. ⌜ now (pointers .exit) ≡ insert wanted (take used (now (pointers .entry))) ++ drop (used + 1) (now (pointers .entry)) ⌝ }
 {
-    let at = place(pointers, used, wanted);
-    // The lowest place that a pointer moves up to.
-    let first = at + 1;
-    let mut i = used;
-    while first <= i {
-        pointers[i] = pointers[i - 1];
-        i -= 1;
-    }
+    let at = raise(pointers, used, 1, wanted);
     pointers[at] = wanted;
 }
 
@@ -167,15 +174,10 @@ pub fn merge(pointers: &mut [u32], used: usize, added: &[u32], count: usize)
     let mut old = used;
     let mut new = count;
     while 0 < new {
-        let last = added[new - 1];
-        let at = old + new - 1;
-        if (0 < old) && (last < pointers[old - 1]) {
-            pointers[at] = pointers[old - 1];
-            old -= 1;
-        } else {
-            pointers[at] = last;
-            new -= 1;
-        }
+        let highest = added[new - 1];
+        old = raise(pointers, old, new, highest);
+        new -= 1;
+        pointers[old + new] = highest;
     }
 }
 
