@@ -1,4 +1,4 @@
--- What the checks that ALLOC shares find, and what taking the blocks asks once they pass, over plain values.
+-- What the checks that ALLOC and ALLOC_CONTIG share find, and what taking the blocks asks once they pass, over plain values.
 use Prim.Native.Nat.{ℕ, _+_, _≤_, _<_}
 use mathlib.Core.Path.{_≡_, sym, ap, _∙_}
 use mathlib.Core.Logic.{⊎-elim}

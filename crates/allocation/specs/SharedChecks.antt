@@ -1,4 +1,4 @@
--- The checks of ALLOC before the last, which looks at the places for pointers.
+-- The checks that ALLOC and ALLOC_CONTIG share: those of ALLOC before the last, which looks at the places for pointers.
 use Prim.Native.Nat.{ℕ}
 use mathlib.Core.Bool.{Bool, _&&_, _||_, not}
 use mathlib.Core.List.{List}
@@ -12,7 +12,7 @@ use Rattle.card.specs.declared.Port.{Port}
 use Rattle.card.specs.declared.Mode.the-variants.{Writing}
 use Rattle.card.specs.declared.AllocOperands.{AllocOperands}
 
--- Document 01's refusal 4 of ALLOC, by N, the hint, the count and the number of places.
+-- Refusal 4 of both, by N, the hint, the count and the number of places.
 abbrev pub badOperands : ℕ → ℕ → ℕ → ℕ → Bool
 badOperands blocks hint count places = eqb count 0 || ltb 64 count || (not (ltb hint blocks) && not (eqb hint noHint)) || ltb places count
 

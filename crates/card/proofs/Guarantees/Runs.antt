@@ -16,7 +16,7 @@ use Rattle.card.specs.ContentsLaws.{overwrite-within}
 use Rattle.card.specs.Card.{Public, Card, allocated, freeBlocks}
 use Rattle.card.specs.Plan.{Check, _⇒_, first, FirstHolds, here, later, NoneHolds, audited, Buffers, Result, done, placesAfter}
 use Rattle.card.specs.PlanLaws.{holds-first}
-use Rattle.card.specs.Calls.{refusalNumber, isDone, noHint, wanted, distance, runStarts, nearestRun, allocContigPlan}
+use Rattle.card.specs.Calls.{refusalNumber, isDone, noHint, wanted, distance, runStarts, nearestRun, allocPlan, allocContigPlan}
 use Rattle.card.specs.RunsLaws.{numbersFrom-length, numbersFrom-at, run-blocks, blocks-run, no-start, start-none, NearestIs, nearest-run}
 use Rattle.card.specs.Session.{Request, plan, refusals, perform}
 use Rattle.card.specs.declared.Port.{Port}
@@ -53,6 +53,12 @@ pub record RunAdjoins (p : Public) (o : AllocOperands) (places : List ℕ) : Typ
 pub record RunNearest (o : AllocOperands) (first other : ℕ) : Type 0 where
   pub hinted : (o .hint ≡ noHint → ⊥) → (distance (o .hint) first ≤ distance (o .hint) other) × (other < first → distance (o .hint) first < distance (o .hint) other)
   pub unhinted : o .hint ≡ noHint → first ≤ other
+
+-- "checks as ALLOC": those of 4, 3, 6, 5 and 10 are ALLOC's.
+pub contig-checks : (port : Port) (p : Public) (opened : Bool) (o : AllocOperands) (places : ℕ)
+    → take 5 (allocContigPlan port p opened o places .checks) ≡ take 5 (allocPlan port p opened o places .checks)
+unfolding allocContigPlan allocPlan
+contig-checks port p opened o places = refl
 
 -- ---- the first condition that holds
 
