@@ -1,5 +1,5 @@
 -- What the rules guarantee of one call: it is refused for the first condition that holds, a refusal changes nothing, a sound card stays sound,
--- nothing unallocated is touched, and a window is set by a host's done call that names it.
+-- nothing unallocated is touched, a window is set by a host's done call that names it, and ALLOC_CONTIG gives the nearest run.
 pub mod Judged
 pub mod Steps
 pub mod PointerSteps

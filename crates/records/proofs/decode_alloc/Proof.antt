@@ -21,7 +21,11 @@ alloc-with-requires : tie.Need-alloc-with-requires
 alloc-with-requires c κs = search needs
 
 returns : tie.Need-returns
-returns c = c .alloc-with .ensures ∙ alloc _ _ (c .before .before .before .before .two .ensures) (c .before .before .before .credential .ensures) (c .before .before .two2 .ensures) refl
+returns c =
+    let at-two : tie.After-two = search in
+    let at-credential : tie.After-credential = search in
+    let at-two2 : tie.After-two2 = search in
+    c .alloc-with .ensures ∙ alloc _ _ (at-two .two .ensures) (at-credential .credential .ensures) (at-two2 .two2 .ensures) refl
 
 pub decode-alloc-spec : {M : Type 1} → statement M
 decode-alloc-spec =

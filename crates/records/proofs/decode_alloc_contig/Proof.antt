@@ -21,7 +21,11 @@ alloc-contig-with-requires : tie.Need-alloc-contig-with-requires
 alloc-contig-with-requires c κs = search needs
 
 returns : tie.Need-returns
-returns c = c .alloc-contig-with .ensures ∙ alloc-contig _ _ (c .before .before .before .before .two .ensures) (c .before .before .before .credential .ensures) (c .before .before .two2 .ensures) refl
+returns c =
+    let at-two : tie.After-two = search in
+    let at-credential : tie.After-credential = search in
+    let at-two2 : tie.After-two2 = search in
+    c .alloc-contig-with .ensures ∙ alloc-contig _ _ (at-two .two .ensures) (at-credential .credential .ensures) (at-two2 .two2 .ensures) refl
 
 pub decode-alloc-contig-spec : {M : Type 1} → statement M
 decode-alloc-contig-spec =
