@@ -115,7 +115,7 @@ returns-11 : tie.Need-returns-11
 returns-11 c = by-name _ _ (c .enum-told11 .given .1) (audit _ _)
 
 returns-12 : tie.Need-returns-12
-returns-12 c = by-name _ _ (c .before .enum-told12 .given .1) (c .decode-alloc-contig .ensures)
+returns-12 c = search by-name
 
 pub decode-call-spec : {M : Type 1} → statement M
 decode-call-spec =
