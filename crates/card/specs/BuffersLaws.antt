@@ -8,8 +8,10 @@ use Rattle.card.specs.Plan.{Shown, nothing, blockPart, numbers, Plan, Bu
 use Rattle.card.specs.PlanLaws.{done-by}
 use Rattle.card.specs.Promises.{Is, is-same}
 use Rattle.card.specs.Calls.{readPlan, writePlan, allocPlan, allocContigPlan, createPlan, deletePlan, keyPlan, renewPlan, forcePlan, freePlan, tickPlan, auditPlan}
-use Rattle.card.specs.Session.{request, plan, performSound}
+use Rattle.card.specs.Session.{keyCall, request, plan, performSound}
 use Rattle.card.specs.declared.Port.{Port}
+use Rattle.card.specs.declared.Mode.{Mode}
+use Rattle.card.specs.declared.Mode.the-variants.{Reading, Writing}
 use Rattle.card.specs.declared.Refusal.{Refusal}
 use Rattle.card.specs.declared.Answer.{Answer}
 use Rattle.card.specs.declared.Answer.the-variants.{Done}
@@ -23,7 +25,7 @@ use Rattle.card.specs.declared.RenewOperands.{RenewOperands}
 use Rattle.card.specs.declared.ForceOperands.{ForceOperands}
 use Rattle.card.specs.declared.TickOperands.{TickOperands}
 use Rattle.card.specs.declared.Call.{Call}
-use Rattle.card.specs.declared.Call.the-variants.{Read, Write, Alloc, AllocContig, Create, Delete, Key, Renew, Force, Free, Tick, Audit}
+use Rattle.card.specs.declared.Call.the-variants.{Read, Write, Alloc, AllocContig, Create, Delete, KeyRead, KeyWrite, Renew, Force, Free, Tick, Audit}
 
 abbrev buffers : List ℕ → List ℕ → List ℕ → Buffers
 buffers input out places = record { input = input; out = out; places = places }
@@ -99,10 +101,11 @@ module _ (port : Port) (c : Card) (input out places : List ℕ) (call : Call) {a
   unfolding performSound plan deletePlan
   with-delete e h = rw e (shows-nothing c _ refl [] input out places h)
 
-  pub with-key : {o : KeyOperands} → call ≡ Key o → Is (performSound port c (request (Key o) [] [] [])) answer after [] []
+  pub with-key : (mode : Mode) (o : KeyOperands) → call ≡ keyCall mode o → Is (performSound port c (request (keyCall mode o) [] [] [])) answer after [] []
       → Is (performSound port c (request call input out places)) answer after out places
   unfolding performSound plan keyPlan
-  with-key e h = rw e (shows-nothing c _ refl [] input out places h)
+  with-key Reading o e h = rw e (shows-nothing c _ refl [] input out places h)
+  with-key Writing o e h = rw e (shows-nothing c _ refl [] input out places h)
 
   pub with-renew : {o : RenewOperands} → call ≡ Renew o → Is (performSound port c (request (Renew o) [] [] [])) answer after [] []
       → Is (performSound port c (request call input out places)) answer after out places

@@ -10,7 +10,7 @@ use Rattle.card.specs.Contents.{zeros, overwrite}
 use Rattle.card.specs.Card.{Public, Card, card, allocated, hasKey, isRoot, freeBlocks, longestInterval, count, pointsTo, hasPointers}
 use Rattle.card.specs.Soundness.{ranges, lengths, timeLimit}
 use Rattle.card.specs.Access.{opens}
-use Rattle.card.specs.Plan.{_⇒_, Change, setWindow, setBlock, setKeys, takeBlock, freeBlock, addPointer, dropPointer, setTime, nothing, blockPart, numbers, Plan, Result, refused}
+use Rattle.card.specs.Plan.{_⇒_, Change, setWindow, setBlock, setKey, takeBlock, freeBlock, addPointer, dropPointer, setTime, nothing, blockPart, numbers, Plan, Result, refused}
 use Rattle.card.specs.declared.Info.{Info}
 use Rattle.card.specs.declared.Port.{Port}
 use Rattle.card.specs.declared.Port.the-variants.{Host, Service}
@@ -270,15 +270,16 @@ deletePlan port p opened o =
       steps = dropPointer (o .source) (o .destination) ∷ cond last (freeBlock (o .destination) ∷ []) [];
     }
 
--- ---- KEY, RENEW and FORCE
+-- ---- KEY_READ and KEY_WRITE, the request 2026-02; RENEW and FORCE
 
 -- Both windows of a block become 0.
 abbrev pub closeWindows : ℕ → List Change
 closeWindows b = setWindow Reading b 0 ∷ (setWindow Writing b 0 ∷ [])
 
--- "KEY(b, credential, new read key or none, new write key or none)"
-unfoldable pub keyPlan : Port → Public → Bool → KeyOperands → Plan
-keyPlan port p opened o = record {
+-- "KEY_READ and KEY_WRITE, each with one new key or none", where the mode says whose key. "Both need the write access that KEY needs", so `opened` says that
+-- b is opened for writing; "and both close the block's two windows".
+unfoldable pub keyPlan : Port → Public → Bool → Mode → KeyOperands → Plan
+keyPlan port p opened mode o = record {
   checks =
       (missing p (o .block) ⇒ NotAllocated)
       ∷ (rootAtHost port p (o .block) ⇒ IsRoot)
@@ -286,7 +287,7 @@ keyPlan port p opened o = record {
       ∷ [];
   answer = Done;
   shown = nothing;
-  steps = setKeys (o .block) (o .read) (o .write) ∷ closeWindows (o .block);
+  steps = setKey mode (o .block) (o .key) ∷ closeWindows (o .block);
 }
 
 -- The operation that a mode number names: 0 reading, 1 writing.

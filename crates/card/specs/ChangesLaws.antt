@@ -2,17 +2,16 @@
 use Prim.Native.Nat.{ℕ, zero, suc, _+_, _-_, _*_, _≤_, _<_}
 use mathlib.Core.Path.{_≡_, refl, sym, ap, _∙_, subst}
 use mathlib.Core.Logic.{_⊎_, inl, inr, ⊎-elim}
-use mathlib.Core.Bool.{true, false, true≢false}
+use mathlib.Core.Bool.{Bool, true, false, true≢false}
 use mathlib.Core.List.{List, [], _∷_, _++_}
 use native.Mathlib.Omega.{arith}
-use lib.ListN.{length, take, drop, getD, set, length-append, length-drop}
+use lib.ListN.{length, take, drop, getD, set, length-set, length-append, length-drop}
 use lib.Seq.{getD-set-same, getD-set-other, take-at, drop-at, drop-drop, length-take-le}
-use Rattle.card.specs.ListsLaws.{below-or-not, same-or-other}
+use Rattle.card.specs.ListsLaws.{same-or-other}
 use Rattle.card.specs.Pointers.{contains, insert, remove}
 use Rattle.card.specs.PointersLaws.{insert-length, remove-length}
-use Rattle.card.specs.ContentsLaws.{overwrite-before, overwrite-within, overwrite-behind}
-use Rattle.card.specs.Card.{allocatedFlag, windowAt, keyHigh, keyLow, keyFlag}
-use Rattle.card.specs.Plan.{keyBit, highWord, lowWord, replaceKeys}
+use Rattle.card.specs.Card.{allocatedFlag, keyFlag, windowAt, keyAt, keyHigh, keyLow}
+use Rattle.card.specs.Plan.{isPresent, highWord, lowWord, otherMode, keyBit, keyedFlags, replaceKey, clearKeys}
 use Rattle.card.specs.declared.Mode.{Mode}
 use Rattle.card.specs.declared.Mode.the-variants.{Reading, Writing}
 use Rattle.card.specs.declared.NewKey.{NewKey}
@@ -61,70 +60,146 @@ windowAt-mode Writing Writing a b e = refl
 
 -- ---- keys
 
--- The new key for the mode.
-abbrev pub chosen : Mode → NewKey → NewKey → NewKey
-chosen Reading read write = read
-chosen Writing read write = write
+pub other-mode : (mode : Mode) → otherMode mode ≡ mode → ⊥
+other-mode Reading e = absurd (true≢false (cc))
+other-mode Writing e = absurd (true≢false (cc))
 
--- The flags of a block with these keys.
-abbrev pub keyedFlag : NewKey → NewKey → ℕ
-keyedFlag read write = 1 + keyBit Reading read + keyBit Writing write
+pub mode-or-other : (m mode : Mode) → (m ≡ mode) ⊎ (m ≡ otherMode mode)
+mode-or-other Reading Reading = inl refl
+mode-or-other Reading Writing = inr refl
+mode-or-other Writing Reading = inr refl
+mode-or-other Writing Writing = inl refl
 
-pub keyedFlag-low : (read write : NewKey) → keyedFlag read write < 8
-keyedFlag-low Absent Absent = omega arith
-keyedFlag-low Absent (Present h l) = omega arith
-keyedFlag-low (Present h l) Absent = omega arith
-keyedFlag-low (Present h l) (Present i m) = omega arith
+-- The flags of an allocated block, by whether it has a key for the mode, and one for the other.
+abbrev keyBits : Mode → Bool → Bool → ℕ
+keyBits mode own rest = 1 + keyBit mode own + keyBit (otherMode mode) rest
 
-pub keyedFlag-allocated : (read write : NewKey) → allocatedFlag (keyedFlag read write) ≡ true
-keyedFlag-allocated Absent Absent = refl
-keyedFlag-allocated Absent (Present h l) = refl
-keyedFlag-allocated (Present h l) Absent = refl
-keyedFlag-allocated (Present h l) (Present i m) = refl
+-- By cases: what holds of a block with both keys, with either one, and with none.
+bits-cases : (P : Mode → Bool → Bool → Type 0)
+    → P Reading false false → P Reading false true → P Reading true false → P Reading true true
+    → P Writing false false → P Writing false true → P Writing true false → P Writing true true
+    → (mode : Mode) (own rest : Bool) → P mode own rest
+bits-cases P a b c d e f g h Reading false false = a
+bits-cases P a b c d e f g h Reading false true = b
+bits-cases P a b c d e f g h Reading true false = c
+bits-cases P a b c d e f g h Reading true true = d
+bits-cases P a b c d e f g h Writing false false = e
+bits-cases P a b c d e f g h Writing false true = f
+bits-cases P a b c d e f g h Writing true false = g
+bits-cases P a b c d e f g h Writing true true = h
 
--- A key whose flag is not set is absent.
-pub keyedFlag-absent : (mode : Mode) (read write : NewKey) → keyFlag mode (keyedFlag read write) ≡ false → chosen mode read write ≡ Absent
-keyedFlag-absent Reading Absent write e = refl
-keyedFlag-absent Reading (Present h l) Absent e = absurd (true≢false e)
-keyedFlag-absent Reading (Present h l) (Present i m) e = absurd (true≢false e)
-keyedFlag-absent Writing read Absent e = refl
-keyedFlag-absent Writing Absent (Present h l) e = absurd (true≢false e)
-keyedFlag-absent Writing (Present h l) (Present i m) e = absurd (true≢false e)
+module _ (f : ℕ) (mode : Mode) (key : NewKey) where
+  pub keyed-low : keyedFlags f mode key < 8
+  keyed-low =
+      bits-cases (λ (m : Mode) (own rest : Bool). keyBits m own rest < 8)
+      (omega arith) (omega arith) (omega arith) (omega arith) (omega arith) (omega arith) (omega arith) (omega arith)
+      mode (isPresent key) (keyFlag (otherMode mode) f)
 
-module _ (keys : List ℕ) (b : ℕ) (read write : NewKey) (fits : 4 * b + 4 ≤ length keys) where
-  abbrev words : List ℕ
-  words = highWord read ∷ lowWord read ∷ highWord write ∷ lowWord write ∷ []
+  pub keyed-allocated : allocatedFlag (keyedFlags f mode key) ≡ true
+  keyed-allocated =
+      bits-cases (λ (m : Mode) (own rest : Bool). allocatedFlag (keyBits m own rest) ≡ true) refl refl refl refl refl refl refl refl mode (isPresent key)
+      (keyFlag (otherMode mode) f)
 
-  -- Word k of the block's four.
-  word : (i k : ℕ) → 4 * b + k ≡ i → k < 4 → getD (replaceKeys keys b read write) i 0 ≡ getD words k 0
-  word i k e h = subst (λ (n : ℕ). getD (replaceKeys keys b read write) n 0 ≡ getD words k 0) e (overwrite-within keys (4 * b) words fits k h)
+  pub keyed-own : keyFlag mode (keyedFlags f mode key) ≡ isPresent key
+  keyed-own =
+      bits-cases (λ (m : Mode) (own rest : Bool). keyFlag m (keyBits m own rest) ≡ own) refl refl refl refl refl refl refl refl mode (isPresent key)
+      (keyFlag (otherMode mode) f)
 
-  pub replaced-high : (mode : Mode) → keyHigh (replaceKeys keys b read write) mode b ≡ highWord (chosen mode read write)
-  replaced-high Reading = word (4 * b) 0 (omega arith) (omega arith)
-  replaced-high Writing = word (4 * b + 2) 2 refl (omega arith)
+  pub keyed-other : keyFlag (otherMode mode) (keyedFlags f mode key) ≡ keyFlag (otherMode mode) f
+  keyed-other =
+      bits-cases (λ (m : Mode) (own rest : Bool). keyFlag (otherMode m) (keyBits m own rest) ≡ rest) refl refl refl refl refl refl refl refl mode (isPresent key)
+      (keyFlag (otherMode mode) f)
 
-  pub replaced-low : (mode : Mode) → keyLow (replaceKeys keys b read write) mode b ≡ lowWord (chosen mode read write)
-  replaced-low Reading = word (4 * b + 1) 1 refl (omega arith)
-  replaced-low Writing = word (4 * b + 2 + 1) 3 (omega arith) (omega arith)
+-- The words of an absent key are 0.
+pub absent-high : (key : NewKey) → isPresent key ≡ false → highWord key ≡ 0
+absent-high Absent e = refl
+absent-high (Present high low) e = absurd (true≢false e)
 
-  -- A word of no key of the block.
-  outside : (i : ℕ) → (i < 4 * b) ⊎ (4 * b + 4 ≤ i) → getD (replaceKeys keys b read write) i 0 ≡ getD keys i 0
-  outside i (inl h) = overwrite-before keys (4 * b) words fits i h
-  outside i (inr h) = overwrite-behind keys (4 * b) words fits i h
+pub absent-low : (key : NewKey) → isPresent key ≡ false → lowWord key ≡ 0
+absent-low Absent e = refl
+absent-low (Present high low) e = absurd (true≢false e)
 
-  apart : (a k : ℕ) → (a ≡ b → ⊥) → k < 4 → (4 * a + k < 4 * b) ⊎ (4 * b + 4 ≤ 4 * a + k)
-  apart a k other h = ⊎-elim (λ (l : a < b). inl (omega arith)) (λ (l : b ≤ a). inr (omega arith)) (below-or-not a b)
+-- Each place of the keys' table holds one word of one block's key for one mode.
+keyAt-block : (m n : Mode) (a b : ℕ) → keyAt m a ≡ keyAt n b → a ≡ b
+keyAt-block Reading Reading a b e = omega arith
+keyAt-block Reading Writing a b e = absurd (omega arith)
+keyAt-block Writing Reading a b e = absurd (omega arith)
+keyAt-block Writing Writing a b e = omega arith
 
-  other-word : (a i k : ℕ) → 4 * a + k ≡ i → (a ≡ b → ⊥) → k < 4 → getD (replaceKeys keys b read write) i 0 ≡ getD keys i 0
-  other-word a i k e other h = subst (λ (n : ℕ). getD (replaceKeys keys b read write) n 0 ≡ getD keys n 0) e (outside (4 * a + k) (apart a k other h))
+keyAt-mode : (m n : Mode) (a b : ℕ) → keyAt m a ≡ keyAt n b → m ≡ n
+keyAt-mode Reading Reading a b e = refl
+keyAt-mode Reading Writing a b e = absurd (omega arith)
+keyAt-mode Writing Reading a b e = absurd (omega arith)
+keyAt-mode Writing Writing a b e = refl
 
-  pub kept-high : (mode : Mode) (a : ℕ) → (a ≡ b → ⊥) → keyHigh (replaceKeys keys b read write) mode a ≡ keyHigh keys mode a
-  kept-high Reading a other = other-word a (4 * a) 0 (omega arith) other (omega arith)
-  kept-high Writing a other = other-word a (4 * a + 2) 2 refl other (omega arith)
+keyAt-word : (m n : Mode) (a b : ℕ) → keyAt m a ≡ keyAt n b + 1 → ⊥
+keyAt-word Reading Reading a b e = omega arith
+keyAt-word Reading Writing a b e = omega arith
+keyAt-word Writing Reading a b e = omega arith
+keyAt-word Writing Writing a b e = omega arith
 
-  pub kept-low : (mode : Mode) (a : ℕ) → (a ≡ b → ⊥) → keyLow (replaceKeys keys b read write) mode a ≡ keyLow keys mode a
-  kept-low Reading a other = other-word a (4 * a + 1) 1 refl other (omega arith)
-  kept-low Writing a other = other-word a (4 * a + 2 + 1) 3 (omega arith) other (omega arith)
+keyAt-high : (mode : Mode) (b : ℕ) → keyAt mode b + 1 < 4 * b + 4
+keyAt-high Reading b = omega arith
+keyAt-high Writing b = omega arith
+
+module _ (keys : List ℕ) (mode : Mode) (b : ℕ) (key : NewKey) where
+  abbrev highSet : List ℕ
+  highSet = set keys (keyAt mode b) (highWord key)
+
+  pub replaceKey-length : length (replaceKey keys mode b key) ≡ length keys
+  replaceKey-length = length-set highSet (keyAt mode b + 1) (lowWord key) ∙ length-set keys (keyAt mode b) (highWord key)
+
+  pub replaced-high : 4 * b + 4 ≤ length keys → keyHigh (replaceKey keys mode b key) mode b ≡ highWord key
+  replaced-high fits =
+      getD-set-other highSet (keyAt mode b + 1) (keyAt mode b) (lowWord key) 0 (keyAt-word mode mode b b)
+      ∙ getD-set-same keys (keyAt mode b) (highWord key) 0 (omega (arith, keyAt-high mode b))
+
+  pub replaced-low : 4 * b + 4 ≤ length keys → keyLow (replaceKey keys mode b key) mode b ≡ lowWord key
+  replaced-low fits =
+      getD-set-same highSet (keyAt mode b + 1) (lowWord key) 0
+      (omega (arith, keyAt-high mode b, length-set keys (keyAt mode b) (highWord key)))
+
+  -- Any other key, of whatever block.
+  module _ (m : Mode) (a : ℕ) (apart : m ≡ mode → a ≡ b → ⊥) where
+    other-place : keyAt m a ≡ keyAt mode b → ⊥
+    other-place e = apart (keyAt-mode m mode a b e) (keyAt-block m mode a b e)
+
+    pub kept-high : keyHigh (replaceKey keys mode b key) m a ≡ keyHigh keys m a
+    kept-high =
+        getD-set-other highSet (keyAt mode b + 1) (keyAt m a) (lowWord key) 0 (keyAt-word m mode a b)
+        ∙ getD-set-other keys (keyAt mode b) (keyAt m a) (highWord key) 0 other-place
+
+    pub kept-low : keyLow (replaceKey keys mode b key) m a ≡ keyLow keys m a
+    kept-low =
+        getD-set-other highSet (keyAt mode b + 1) (keyAt m a + 1) (lowWord key) 0 (λ e. other-place (omega arith))
+        ∙ getD-set-other keys (keyAt mode b) (keyAt m a + 1) (highWord key) 0 (λ e. keyAt-word mode m b a (sym e))
+
+module _ (keys : List ℕ) (b : ℕ) where
+  abbrev readCleared : List ℕ
+  readCleared = replaceKey keys Reading b Absent
+
+  pub clearKeys-length : length (clearKeys keys b) ≡ length keys
+  clearKeys-length = replaceKey-length readCleared Writing b Absent ∙ replaceKey-length keys Reading b Absent
+
+  module _ (fits : 4 * b + 4 ≤ length keys) where
+    still-fits : 4 * b + 4 ≤ length readCleared
+    still-fits = omega (arith, replaceKey-length keys Reading b Absent)
+
+    pub cleared-high : (m : Mode) → keyHigh (clearKeys keys b) m b ≡ 0
+    cleared-high Reading = kept-high readCleared Writing b Absent Reading b (λ e _. other-mode Writing e) ∙ replaced-high keys Reading b Absent fits
+    cleared-high Writing = replaced-high readCleared Writing b Absent still-fits
+
+    pub cleared-low : (m : Mode) → keyLow (clearKeys keys b) m b ≡ 0
+    cleared-low Reading = kept-low readCleared Writing b Absent Reading b (λ e _. other-mode Writing e) ∙ replaced-low keys Reading b Absent fits
+    cleared-low Writing = replaced-low readCleared Writing b Absent still-fits
+
+  -- The keys of another block.
+  module _ (m : Mode) (a : ℕ) (other : a ≡ b → ⊥) where
+    pub uncleared-high : keyHigh (clearKeys keys b) m a ≡ keyHigh keys m a
+    uncleared-high = kept-high readCleared Writing b Absent m a (λ _ e. other e) ∙ kept-high keys Reading b Absent m a (λ _ e. other e)
+
+    pub uncleared-low : keyLow (clearKeys keys b) m a ≡ keyLow keys m a
+    uncleared-low = kept-low readCleared Writing b Absent m a (λ _ e. other e) ∙ kept-low keys Reading b Absent m a (λ _ e. other e)
 
 -- ---- the pointers' table
 

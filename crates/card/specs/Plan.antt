@@ -8,7 +8,7 @@ use mathlib.Core.Option.{Option, none, some}
 use lib.ListN.{drop, set}
 use Rattle.card.specs.Pointers.{pointer, insert, remove}
 use Rattle.card.specs.Contents.{overwrite, fill, zeros}
-use Rattle.card.specs.Card.{Public, Card, count, windowAt, keyAt, inUse, block}
+use Rattle.card.specs.Card.{Public, Card, keyFlag, flag, count, windowAt, keyAt, inUse, block}
 use Rattle.card.specs.Soundness.{shape, sound}
 use Rattle.card.specs.declared.Info.{Info}
 use Rattle.card.specs.declared.Mode.{Mode}
@@ -51,18 +51,17 @@ audited c checks = (not (shape c) ⇒ Misshapen) ∷ ((not (sound c) ⇒ Unsound
 pub data Change : Type 0 where
   setWindow : Mode → ℕ → ℕ → Change
   setBlock : ℕ → List ℕ → Change
-  setKeys : ℕ → NewKey → NewKey → Change
+  setKey : Mode → ℕ → NewKey → Change
   takeBlock : ℕ → Change
   freeBlock : ℕ → Change
   addPointer : ℕ → ℕ → Change
   dropPointer : ℕ → ℕ → Change
   setTime : ℕ → Change
 
--- The flags that a new key adds, and its words: 0 where it is absent.
-abbrev pub keyBit : Mode → NewKey → ℕ
-keyBit mode Absent = 0
-keyBit Reading (Present high low) = 2
-keyBit Writing (Present high low) = 4
+-- A new key is there, or none is; its words are 0 where none is.
+abbrev pub isPresent : NewKey → Bool
+isPresent Absent = false
+isPresent (Present high low) = true
 
 abbrev pub highWord : NewKey → ℕ
 highWord Absent = 0
@@ -71,6 +70,21 @@ highWord (Present high low) = high
 abbrev pub lowWord : NewKey → ℕ
 lowWord Absent = 0
 lowWord (Present high low) = low
+
+-- The operation that is not this one.
+abbrev pub otherMode : Mode → Mode
+otherMode Reading = Writing
+otherMode Writing = Reading
+
+-- The flag of a key for the mode: 0 where there is none.
+abbrev pub keyBit : Mode → Bool → ℕ
+keyBit mode false = 0
+keyBit Reading true = 2
+keyBit Writing true = 4
+
+-- The flags of an allocated block, from those that it had, once its key for the mode is set: the other key's flag is as it was.
+abbrev pub keyedFlags : ℕ → Mode → NewKey → ℕ
+keyedFlags f mode key = 1 + keyBit mode (isPresent key) + keyBit (otherMode mode) (keyFlag (otherMode mode) f)
 
 abbrev pub withUsed : Info → ℕ → Info
 withUsed info used = record { blocks = info .blocks; roots = info .roots; bytes = info .bytes; used = used; time = info .time }
@@ -98,7 +112,7 @@ freedFlag = 0
 unfoldable pub changePublic : Change → Public → Public
 changePublic (setWindow mode b end) p = withWindow p mode b end
 changePublic (setBlock b ys) p = p
-changePublic (setKeys b read write) p = withFlags p (set (p .flags) b (1 + keyBit Reading read + keyBit Writing write))
+changePublic (setKey mode b key) p = withFlags p (set (p .flags) b (keyedFlags (flag p b) mode key))
 changePublic (takeBlock b) p = withFlags p (set (p .flags) b 1)
 changePublic (freeBlock b) p = withWindow (withWindow (withFlags p (set (p .flags) b freedFlag)) Reading b 0) Writing b 0
 changePublic (addPointer a b) p = record {
@@ -117,18 +131,21 @@ changePublic (dropPointer a b) p = record {
 }
 changePublic (setTime time) p = record { info = withTime (p .info) time; flags = p .flags; counts = p .counts; pointers = p .pointers; windows = p .windows }
 
--- The four words of a block's keys.
-abbrev pub replaceKeys : List ℕ → ℕ → NewKey → NewKey → List ℕ
-replaceKeys keys b read write =
-    overwrite keys (keyAt Reading b) (highWord read ∷ lowWord read ∷ highWord write ∷ lowWord write ∷ [])
+-- The two words of a block's key for the mode.
+abbrev pub replaceKey : List ℕ → Mode → ℕ → NewKey → List ℕ
+replaceKey keys mode b key = set (set keys (keyAt mode b) (highWord key)) (keyAt mode b + 1) (lowWord key)
+
+-- Neither key is there any more.
+abbrev pub clearKeys : List ℕ → ℕ → List ℕ
+clearKeys keys b = replaceKey (replaceKey keys Reading b Absent) Writing b Absent
 
 -- What a change does to the keys.
 unfoldable pub changeKeys : Change → List ℕ → List ℕ
 changeKeys (setWindow mode b end) keys = keys
 changeKeys (setBlock b ys) keys = keys
-changeKeys (setKeys b read write) keys = replaceKeys keys b read write
+changeKeys (setKey mode b key) keys = replaceKey keys mode b key
 changeKeys (takeBlock b) keys = keys
-changeKeys (freeBlock b) keys = replaceKeys keys b Absent Absent
+changeKeys (freeBlock b) keys = clearKeys keys b
 changeKeys (addPointer a b) keys = keys
 changeKeys (dropPointer a b) keys = keys
 changeKeys (setTime time) keys = keys
@@ -137,7 +154,7 @@ changeKeys (setTime time) keys = keys
 unfoldable pub changeContents : ℕ → Change → List ℕ → List ℕ
 changeContents bytes (setWindow mode b end) contents = contents
 changeContents bytes (setBlock b ys) contents = fill bytes contents b ys
-changeContents bytes (setKeys b read write) contents = contents
+changeContents bytes (setKey mode b key) contents = contents
 changeContents bytes (takeBlock b) contents = fill bytes contents b (zeros bytes)
 changeContents bytes (freeBlock b) contents = contents
 changeContents bytes (addPointer a b) contents = contents

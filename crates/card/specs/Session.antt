@@ -11,13 +11,20 @@ use Rattle.card.specs.Plan.{Check, audited, Plan, Buffers, Result, judge
 use Rattle.card.specs.Calls.{answerNumber, answerValues, modeOf, readPlan, writePlan, allocPlan, allocContigPlan, createPlan, deletePlan, keyPlan, renewPlan, forcePlan, freePlan, tickPlan, auditPlan}
 use Rattle.card.specs.declared.Port.{Port}
 use Rattle.card.specs.declared.Port.the-variants.{Host}
+use Rattle.card.specs.declared.Mode.{Mode}
 use Rattle.card.specs.declared.Mode.the-variants.{Reading, Writing}
 use Rattle.card.specs.declared.Credential.{Credential}
 use Rattle.card.specs.declared.Credential.the-variants.{Key as KeyCredential}
+use Rattle.card.specs.declared.KeyOperands.{KeyOperands}
 use Rattle.card.specs.declared.TickOperands.{TickOperands}
 use Rattle.card.specs.declared.Answer.{Answer}
 use Rattle.card.specs.declared.Call.{Call}
-use Rattle.card.specs.declared.Call.the-variants.{Read, Write, Alloc, AllocContig, Create, Delete, Key, Renew, Force, Free, Tick, Audit}
+use Rattle.card.specs.declared.Call.the-variants.{Read, Write, Alloc, AllocContig, Create, Delete, KeyRead, KeyWrite, Renew, Force, Free, Tick, Audit}
+
+-- KEY_READ or KEY_WRITE, by the mode whose key it sets.
+abbrev pub keyCall : Mode → KeyOperands → Call
+keyCall Reading o = KeyRead o
+keyCall Writing o = KeyWrite o
 
 -- A call with its operands and its lent buffers with what they hold.
 pub record Request : Type 0 where
@@ -37,7 +44,8 @@ plan port c (Create o) lent =
     (admits port c Writing (o .destination) (o .second))
     o
 plan port c (Delete o) lent = deletePlan port (c .public) (admits port c Writing (o .source) (o .credential)) o
-plan port c (Key o) lent = keyPlan port (c .public) (admits port c Writing (o .block) (o .credential)) o
+plan port c (KeyRead o) lent = keyPlan port (c .public) (admits port c Writing (o .block) (o .credential)) Reading o
+plan port c (KeyWrite o) lent = keyPlan port (c .public) (admits port c Writing (o .block) (o .credential)) Writing o
 plan port c (Renew o) lent = renewPlan (c .public) (opens c (modeOf (o .mode)) (o .block) (KeyCredential (o .high) (o .low))) o
 plan port c (Force o) lent = forcePlan (c .public) o
 plan port c Free lent = freePlan (c .public)
@@ -53,7 +61,8 @@ portOf port (Alloc o) = port
 portOf port (AllocContig o) = port
 portOf port (Create o) = port
 portOf port (Delete o) = port
-portOf port (Key o) = port
+portOf port (KeyRead o) = port
+portOf port (KeyWrite o) = port
 portOf port (Renew o) = Host
 portOf port (Force o) = Host
 portOf port Free = port
@@ -149,7 +158,8 @@ traits (Alloc o) = record { credentials = o .credential ∷ []; values = λ r. t
 traits (AllocContig o) = record { credentials = o .credential ∷ []; values = λ r. take (o .count) (r .places); takesPointerTo = none }
 traits (Create o) = plain (o .credential ∷ o .second ∷ [])
 traits (Delete o) = record { credentials = o .credential ∷ []; values = λ r. []; takesPointerTo = some (o .destination) }
-traits (Key o) = plain (o .credential ∷ [])
+traits (KeyRead o) = plain (o .credential ∷ [])
+traits (KeyWrite o) = plain (o .credential ∷ [])
 traits (Renew o) = plain (KeyCredential (o .high) (o .low) ∷ [])
 traits (Force o) = plain []
 traits Free = plain []

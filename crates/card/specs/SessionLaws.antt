@@ -8,7 +8,7 @@ use lib.Seq.{drop-at}
 use Rattle.card.specs.Card.{Public, Card}
 use Rattle.card.specs.Soundness.{verdict}
 use Rattle.card.specs.SoundnessLaws.{verdict-misshapen, verdict-unsound, verdict-sound}
-use Rattle.card.specs.Plan.{first, audited, Change, setWindow, setBlock, setKeys, takeBlock, freeBlock, addPointer, dropPointer, setTime, changePublic, change, changes, Plan, Buffers, settle, judge}
+use Rattle.card.specs.Plan.{first, audited, Change, setWindow, setBlock, setKey, takeBlock, freeBlock, addPointer, dropPointer, setTime, changePublic, change, changes, Plan, Buffers, settle, judge}
 use Rattle.card.specs.PlanLaws.{judge-misshapen, judge-unsound, judge-sound}
 use Rattle.card.specs.Promises.{Is, is-same}
 use Rattle.card.specs.Session.{Request, Sent, Reply, plan, portOf, EitherPort, free, tick, audit, perform, performSound, reply, performed, replies, afterAll}
@@ -19,7 +19,7 @@ use Rattle.card.specs.declared.Refusal.the-variants.{Misshapen as Missha
 use Rattle.card.specs.declared.Answer.{Answer}
 use Rattle.card.specs.declared.Answer.the-variants.{Refused}
 use Rattle.card.specs.declared.Call.{Call}
-use Rattle.card.specs.declared.Call.the-variants.{Read, Write, Alloc, AllocContig, Create, Delete, Key, Renew, Force, Free, Tick, Audit}
+use Rattle.card.specs.declared.Call.the-variants.{Read, Write, Alloc, AllocContig, Create, Delete, KeyRead, KeyWrite, Renew, Force, Free, Tick, Audit}
 
 module _ (port : Port) (c : Card) (q : Request) where
   pub is-misshapen : verdict c ≡ Misshapen → Is (perform port c q) (Refused MisshapenRefusal) c (q .lent .out) (q .lent .places)
@@ -53,7 +53,8 @@ perform-portOf port c q = ap (judge c (q .lent)) (go (q .call))
     go (AllocContig o) = refl
     go (Create o) = refl
     go (Delete o) = refl
-    go (Key o) = refl
+    go (KeyRead o) = refl
+    go (KeyWrite o) = refl
     go (Renew o) = refl
     go (Force o) = refl
     go Free = refl
@@ -96,7 +97,7 @@ changePublic-bytes : (step : Change) (p : Public) → changePublic step p .info 
 unfolding changePublic
 changePublic-bytes (setWindow mode b end) p = refl
 changePublic-bytes (setBlock b ys) p = refl
-changePublic-bytes (setKeys b read write) p = refl
+changePublic-bytes (setKey mode b key) p = refl
 changePublic-bytes (takeBlock b) p = refl
 changePublic-bytes (freeBlock b) p = refl
 changePublic-bytes (addPointer a b) p = refl

@@ -12,15 +12,17 @@ use Rattle.card.specs.Soundness.{ranges, lengths, shape, flagsBelow8, ro
 use Rattle.card.specs.Access.{keyIs, keyOpens, opensKeyed, opensRoot, opensPointed, opens, admits}
 use Rattle.card.specs.Plan.{first, audited, changePublic, changeKeys, changeContents, change, changes, outAfter, placesAfter, settle, judge, Buffers}
 use Rattle.card.specs.Calls.{rootAtHost, windowAfter, opensWindow, freshInfo, formatResult, format, readPlan, writePlan, wanted, nearest, picks, takeAll, allocPlan, isRun, runStarts, nearestRun, allocContigPlan, createPlan, deletePlan, keyPlan, modeOf, renewPlan, forcePlan, freePlan, tickPlan, auditPlan}
-use Rattle.card.specs.Session.{Sent, plan, perform, reported, reports, traits}
+use Rattle.card.specs.Session.{keyCall, Sent, plan, perform, reported, reports, traits}
 use Rattle.card.specs.declared.Port.{Port}
 use Rattle.card.specs.declared.Port.the-variants.{Host, Service}
+use Rattle.card.specs.declared.Mode.{Mode}
+use Rattle.card.specs.declared.Mode.the-variants.{Reading, Writing}
 use Rattle.card.specs.declared.Credential.{Credential}
 use Rattle.card.specs.declared.Credential.the-variants.{Nothing, Reference, Key as KeyCredential}
 use Rattle.card.specs.declared.NewKey.{NewKey}
 use Rattle.card.specs.declared.NewKey.the-variants.{Absent, Present}
 use Rattle.card.specs.declared.Call.{Call}
-use Rattle.card.specs.declared.Call.the-variants.{Read, Write, Alloc, AllocContig, Create, Delete, Key, Free, Tick}
+use Rattle.card.specs.declared.Call.the-variants.{Read, Write, Alloc, AllocContig, Create, Delete, Free, Tick}
 
 -- To compute by the rules, a proof unfolds this one name.
 unfoldable pub rules : Unit {0}
@@ -72,8 +74,8 @@ module _ (port : Port) where
   abbrev pub delete : ℕ → ℕ → Sent
   delete a b = send port (Delete (record { source = a; credential = Nothing; destination = b }))
 
-  abbrev pub key : ℕ → NewKey → NewKey → Sent
-  key b forReading forWriting = send port (Key (record { block = b; credential = Nothing; read = forReading; write = forWriting }))
+  abbrev pub key : Mode → ℕ → Credential → NewKey → Sent
+  key mode b credential new = send port (keyCall mode (record { block = b; credential = credential; key = new }))
 
 abbrev pub free : Sent
 free = send Host Free
@@ -137,7 +139,7 @@ trialTable =
     yields (0 ∷ 1 ∷ 2 ∷ []) ∷ (0 ∷ []) ∷ (0 ∷ replicate 8 7) ∷ (0 ∷ 1 ∷ []) ∷ (0 ∷ 2 ∷ []) ∷ (0 ∷ zeros8) ∷ [])
     -- the example of ten records
     ∷ (alloc Service 0 65535 2
-    ∷ key Service 1 (Present 1 2) (Present 3 4)
+    ∷ key Service Reading 1 Nothing (Present 1 2)
     ∷ read Host 1 Nothing 0
     ∷ free
     ∷ read Host 0 Nothing 10
@@ -160,15 +162,16 @@ trialTable =
     ∷ [])
     -- CREATE tests the destination for writing: its write key opens it, its read key does not
     ∷ (alloc Service 0 65535 2
-    ∷ key Service 1 Absent (Present 3 4)
-    ∷ key Service 2 (Present 1 2) (Present 3 4)
+    ∷ key Service Writing 1 Nothing (Present 3 4)
+    ∷ key Service Reading 2 Nothing (Present 1 2)
+    ∷ key Service Writing 2 Nothing (Present 3 4)
     ∷ create Host 1 (KeyCredential 3 4) 2 (KeyCredential 1 2)
     ∷ create Host 1 (KeyCredential 3 4) 2 (KeyCredential 3 4)
     ∷ []
-    yields (0 ∷ 1 ∷ 2 ∷ []) ∷ (0 ∷ []) ∷ (0 ∷ []) ∷ (5 ∷ []) ∷ (0 ∷ []) ∷ [])
+    yields (0 ∷ 1 ∷ 2 ∷ []) ∷ (0 ∷ []) ∷ (0 ∷ []) ∷ (0 ∷ []) ∷ (5 ∷ []) ∷ (0 ∷ []) ∷ [])
     -- a reference does not stand in for a key
     ∷ (alloc Service 0 65535 1
-    ∷ key Service 1 (Present 1 2) Absent
+    ∷ key Service Reading 1 Nothing (Present 1 2)
     ∷ read Host 0 Nothing 10
     ∷ read Host 1 (Reference 0) 0
     ∷ read Host 1 (KeyCredential 1 2) 0
@@ -191,6 +194,26 @@ trialTable =
     ∷ allocContig Service 0 65535 7
     ∷ []
     yields (0 ∷ 8 ∷ []) ∷ (10 ∷ []) ∷ (14 ∷ []) ∷ (0 ∷ 1 ∷ 2 ∷ 3 ∷ 4 ∷ 5 ∷ 6 ∷ 7 ∷ []) ∷ [])
+    -- 2026-02: a new read key needs the write key, the old read key is not enough; the write key stays
+    ∷ (alloc Service 0 65535 1
+    ∷ key Service Reading 1 Nothing (Present 1 2)
+    ∷ key Service Writing 1 Nothing (Present 3 4)
+    ∷ key Host Reading 1 (KeyCredential 1 2) (Present 5 6)
+    ∷ key Host Reading 1 (KeyCredential 3 4) (Present 5 6)
+    ∷ read Host 1 (KeyCredential 1 2) 0
+    ∷ read Host 1 (KeyCredential 5 6) 0
+    ∷ writeAll Host 1 (KeyCredential 3 4) 0 7
+    ∷ []
+    yields (0 ∷ 1 ∷ []) ∷ (0 ∷ []) ∷ (0 ∷ []) ∷ (5 ∷ []) ∷ (0 ∷ []) ∷ (5 ∷ []) ∷ (0 ∷ zeros8) ∷ (0 ∷ []) ∷ [])
+    -- 2026-02: between the two calls a reference still opens the block for the operation that has no key
+    ∷ (alloc Service 0 65535 1
+    ∷ writeAll Host 0 Nothing 10 0
+    ∷ key Host Reading 1 (Reference 0) (Present 1 2)
+    ∷ writeAll Host 1 (Reference 0) 0 7
+    ∷ key Host Writing 1 (Reference 0) (Present 3 4)
+    ∷ writeAll Host 1 (Reference 0) 0 7
+    ∷ []
+    yields (0 ∷ 1 ∷ []) ∷ (0 ∷ []) ∷ (0 ∷ []) ∷ (0 ∷ []) ∷ (0 ∷ []) ∷ (5 ∷ []) ∷ [])
     ∷ []
 
 -- What the rules report of a row's calls.

@@ -88,11 +88,11 @@ pub struct DeleteOperands {
     pub destination: u16,
 }
 
+// Of KEY_READ and of KEY_WRITE.
 pub struct KeyOperands {
     pub block: u16,
     pub credential: Credential,
-    pub read: NewKey,
-    pub write: NewKey,
+    pub key: NewKey,
 }
 
 // Mode 0 renews the read window, 1 the write window. The key is given bare, as its two words.
@@ -120,7 +120,8 @@ pub enum Call {
     AllocContig(AllocOperands),
     Create(CreateOperands),
     Delete(DeleteOperands),
-    Key(KeyOperands),
+    KeyRead(KeyOperands),
+    KeyWrite(KeyOperands),
     Renew(RenewOperands),
     Force(ForceOperands),
     Free,

@@ -33,10 +33,9 @@ use Rattle.card.specs.declared.TickOperands.{TickOperands}
 use Rattle.card.specs.declared.Refusal.{Refusal}
 use Rattle.card.specs.declared.Answer.the-variants.{Refused}
 use Rattle.card.specs.declared.Call.{Call}
-use Rattle.card.specs.declared.Call.the-variants.{Read, Write, Alloc, AllocContig, Create, Delete, Key, Renew, Force, Free, Tick, Audit}
-use Rattle.card.specs.ChangesLaws.{keyedFlag, keyedFlag-allocated}
-use Rattle.card.proofs.Guarantees.Steps.{allocated-set, allocated-other, unallocated-flag, setWindow-sound, setBlock-sound, setKeys-sound, setTime-sound}
-use Rattle.card.specs.ChangesLaws.{inserted-length}
+use Rattle.card.specs.declared.Call.the-variants.{Read, Write, Alloc, AllocContig, Create, Delete, KeyRead, KeyWrite, Renew, Force, Free, Tick, Audit}
+use Rattle.card.proofs.Guarantees.Steps.{allocated-set, allocated-other, unallocated-flag, setWindow-sound, setBlock-sound, setKey-sound, setTime-sound}
+use Rattle.card.specs.ChangesLaws.{keyed-allocated, inserted-length}
 use Rattle.card.proofs.Guarantees.PointerSteps.{sound-but, addPointer-sound, takeAdd-sound, dropOne-sound, dropLast-sound}
 use Rattle.card.specs.Takeable.{Without, Takeable}
 use Rattle.card.specs.PicksLaws.{distinct-head, distinct-tail, picks-takeable, picks-length}
@@ -92,15 +91,15 @@ force-sound : (c : Card) (o : ForceOperands) → SoundCard c → NoneHolds (forc
 unfolding forcePlan
 force-sound c o s h = closeWindows-sound (o .block) s (not-missing _ _ (h .0))
 
--- ---- KEY
+-- ---- KEY_READ and KEY_WRITE
 
-key-sound : (port : Port) (c : Card) (opened : Bool) (o : KeyOperands) → SoundCard c → NoneHolds (keyPlan port (c .public) opened o .checks)
-    → SoundCard (changes c (keyPlan port (c .public) opened o .steps))
+key-sound : (port : Port) (c : Card) (opened : Bool) (mode : Mode) (o : KeyOperands) → SoundCard c
+    → NoneHolds (keyPlan port (c .public) opened mode o .checks) → SoundCard (changes c (keyPlan port (c .public) opened mode o .steps))
 unfolding keyPlan changes change changePublic
-key-sound port c opened o s h =
+key-sound port c opened mode o s h =
     let a : allocated (c .public) (o .block) ≡ true = not-missing _ _ (h .0) in
-    closeWindows-sound (o .block) (setKeys-sound (o .block) (o .read) (o .write) s a)
-    (allocated-set (c .public) (o .block) (keyedFlag (o .read) (o .write)) (o .block) (keyedFlag-allocated (o .read) (o .write)) a)
+    closeWindows-sound (o .block) (setKey-sound mode (o .block) (o .key) s a)
+    (allocated-set (c .public) (o .block) _ (o .block) (keyed-allocated (flag (c .public) (o .block)) mode (o .key)) a)
 
 -- ---- TICK
 
@@ -229,7 +228,8 @@ call-sound port c (Alloc o) lent = alloc-sound port c _ o _
 call-sound port c (AllocContig o) lent = contig-sound port c _ o _
 call-sound port c (Create o) lent = create-sound port c _ _ o
 call-sound port c (Delete o) lent = delete-sound port c _ o
-call-sound port c (Key o) lent = key-sound port c _ o
+call-sound port c (KeyRead o) lent = key-sound port c _ Reading o
+call-sound port c (KeyWrite o) lent = key-sound port c _ Writing o
 call-sound port c (Renew o) lent = renew-sound c _ o
 call-sound port c (Force o) lent = force-sound c o
 call-sound port c Free lent = λ s h. s

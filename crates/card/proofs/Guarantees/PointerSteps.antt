@@ -15,16 +15,14 @@ use Rattle.card.specs.ListsLaws.{and-left, and-right, and-true, absurd-t
 use Rattle.card.specs.Pointers.{pointer, source, destination, ascending, contains, adds, pointersTo, insert, remove}
 use Rattle.card.specs.PointersLaws.{source-pointer, destination-pointer, insert-ascending, all-insert, pointersTo-insert, remove-ascending, all-remove, pointersTo-remove, uncounted, contains-all, contains-counted, unpointing}
 use Rattle.card.specs.Contents.{zeros}
-use Rattle.card.specs.ContentsLaws.{overwrite-length}
 use Rattle.card.specs.Card.{Public, Card, flag, allocatedFlag, keyFlag, allocated, windowAt, windowEnd, longestInterval, count, inUse, pointsTo, hasPointers}
 use Rattle.card.specs.Soundness.{pointerRight}
 use Rattle.card.specs.SoundCard.{Shaped, KeyZero, Empty, RightPointer, SoundCard}
 use Rattle.card.specs.SoundnessLaws.{pointerRight-true, true-pointerRight, allocated-below, allocated-flag, flag-allocated}
-use Rattle.card.specs.Plan.{takeBlock, freeBlock, addPointer, dropPointer, highWord, lowWord, withFlags, changePublic, changeKeys, changeContents, change}
+use Rattle.card.specs.Plan.{takeBlock, freeBlock, addPointer, dropPointer, withFlags, changePublic, changeKeys, changeContents, change}
 use Rattle.card.specs.declared.Mode.{Mode}
 use Rattle.card.specs.declared.Mode.the-variants.{Reading, Writing}
-use Rattle.card.specs.declared.NewKey.the-variants.{Absent}
-use Rattle.card.specs.ChangesLaws.{inserted-take, inserted-drop, inserted-length, removed-take, removed-drop, removed-length, getD-set-either, getD-set-cases, chosen, replaced-high, replaced-low, kept-high, kept-low}
+use Rattle.card.specs.ChangesLaws.{inserted-take, inserted-drop, inserted-length, removed-take, removed-drop, removed-length, getD-set-either, getD-set-cases, clearKeys-length, cleared-high, cleared-low, uncleared-high, uncleared-low}
 use Rattle.card.proofs.Guarantees.Steps.{shaped-with, filled-length, keyZero-from, empty-from, not-allocated, allocated-set, allocated-other, right-kept, set-flag-pointers}
 
 -- ---- soundness but for one block
@@ -272,10 +270,6 @@ free-pointers p b ws right from to =
     from
     to)
 
-chosen-absent : (mode : Mode) → chosen mode Absent Absent ≡ Absent
-chosen-absent Reading = refl
-chosen-absent Writing = refl
-
 -- Free a block that is no root, with no pointer to it and none of its own.
 pub freeBlock-sound : {c : Card} (b : ℕ) → SoundBut b c
     → b < c .public .info .blocks
@@ -290,14 +284,11 @@ freeBlock-sound {c} b s below noRoot uncount unpoint =
     let fits : 4 * b + 4 ≤ length (c .keys) = omega (arith, s .shaped .hasLengths .keys) in
     let inWindows : 2 * b + 1 < length (p .windows) = omega (arith, s .shaped .hasLengths .windows) in
     let d : Card = change c (freeBlock b) in
-    let noKeys : (m : Mode) → KeyZero d m b = λ m. record {
-      high = replaced-high (c .keys) b Absent Absent fits m ∙ ap highWord (chosen-absent m);
-      low = replaced-low (c .keys) b Absent Absent fits m ∙ ap lowWord (chosen-absent m);
-    } in
+    let noKeys : (m : Mode) → KeyZero d m b = λ m. record { high = cleared-high (c .keys) b fits m; low = cleared-low (c .keys) b fits m } in
     let keysKept : (m : Mode) (x : ℕ) → (x ≡ b → ⊥) → KeyZero c m x → KeyZero d m x = λ m x other.
-    keyZero-from (kept-high (c .keys) b Absent Absent fits m x other) (kept-low (c .keys) b Absent Absent fits m x other) in
+    keyZero-from (uncleared-high (c .keys) b m x other) (uncleared-low (c .keys) b m x other) in
     record {
-      shaped = shaped-with (s .shaped) (length-set (p .flags) b 0) (overwrite-length (c .keys) (4 * b) _ fits) refl refl
+      shaped = shaped-with (s .shaped) (length-set (p .flags) b 0) (clearKeys-length (c .keys) b) refl refl
           (length-set (set (p .windows) (windowAt Reading b) 0) (windowAt Writing b) 0 ∙ length-set (p .windows) (windowAt Reading b) 0)
           refl
           (s .shaped .usedHigh)

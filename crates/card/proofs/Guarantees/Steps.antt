@@ -1,6 +1,7 @@
 -- Changes of windows, contents, time and keys keep soundness, under the conditions that a call's checks give them.
 use Prim.Native.Nat.{ℕ, _+_, _*_, _≤_, _<_}
 use mathlib.Core.Path.{_≡_, refl, sym, ap, _∙_, subst}
+use mathlib.Core.Logic.{⊎-elim}
 use mathlib.Core.Bool.{true, false, _&&_}
 use mathlib.Core.List.{List}
 use native.Mathlib.Omega.{arith}
@@ -11,15 +12,15 @@ use Rattle.card.specs.Lists.{all}
 use Rattle.card.specs.ListsLaws.{absurd-test, false-unless, all-map}
 use Rattle.card.specs.Pointers.{source, destination}
 use Rattle.card.specs.Contents.{fill}
-use Rattle.card.specs.ContentsLaws.{overwrite-length, fill-length, block-fits}
+use Rattle.card.specs.ContentsLaws.{fill-length, block-fits}
 use Rattle.card.specs.Card.{Public, Card, card, flag, allocatedFlag, keyFlag, allocated, windowAt, windowEnd, longestInterval, count, inUse, keyHigh, keyLow}
 use Rattle.card.specs.Soundness.{timeLimit, pointerRight}
 use Rattle.card.specs.SoundCard.{Shaped, KeyZero, Empty, RightPointer, SoundCard}
 use Rattle.card.specs.SoundnessLaws.{pointerRight-true, true-pointerRight, allocated-below, allocated-flag, flag-allocated}
-use Rattle.card.specs.Plan.{setWindow, setBlock, setKeys, setTime, highWord, lowWord, withFlags, changePublic, changeKeys, changeContents, change}
+use Rattle.card.specs.Plan.{setWindow, setBlock, setKey, setTime, isPresent, otherMode, keyedFlags, withFlags, changePublic, changeKeys, changeContents, change}
 use Rattle.card.specs.declared.Mode.{Mode}
 use Rattle.card.specs.declared.NewKey.{NewKey}
-use Rattle.card.specs.ChangesLaws.{getD-set-either, getD-set-cases, windowAt-block, keyedFlag, keyedFlag-low, keyedFlag-allocated, keyedFlag-absent, replaced-high, replaced-low, kept-high, kept-low}
+use Rattle.card.specs.ChangesLaws.{getD-set-either, getD-set-cases, windowAt-block, other-mode, mode-or-other, keyed-low, keyed-allocated, keyed-own, keyed-other, absent-high, absent-low, replaceKey-length, replaced-high, replaced-low, kept-high, kept-low}
 
 -- ---- shape
 
@@ -188,41 +189,50 @@ set-flag-pointers p b v odd ws h =
     ws
     h
 
--- Set the keys of an allocated block.
-pub setKeys-sound : {c : Card} (b : ℕ) (read write : NewKey) → SoundCard c → allocated (c .public) b ≡ true → SoundCard (change c (setKeys b read write))
+-- Set the key of an allocated block for a mode: the other key, and the keys of other blocks, are as they were.
+pub setKey-sound : {c : Card} (mode : Mode) (b : ℕ) (key : NewKey) → SoundCard c → allocated (c .public) b ≡ true → SoundCard (change c (setKey mode b key))
 unfolding change changePublic changeKeys changeContents pointerRight allocated
-setKeys-sound {c} b read write s a =
+setKey-sound {c} mode b key s a =
     let p : Public = c .public in
-    let d : Card = change c (setKeys b read write) in
-    let v : ℕ = keyedFlag read write in
-    let odd : allocatedFlag v ≡ true = keyedFlag-allocated read write in
+    let d : Card = change c (setKey mode b key) in
+    let f : ℕ = flag p b in
+    let v : ℕ = keyedFlags f mode key in
+    let odd : allocatedFlag v ≡ true = keyed-allocated f mode key in
     let below : b < p .info .blocks = allocated-below p b a in
     let inFlags : b < length (p .flags) = omega (arith, s .shaped .hasLengths .flags) in
     let fits : 4 * b + 4 ≤ length (c .keys) = omega (arith, s .shaped .hasLengths .keys) in
+    let keysKept : (m : Mode) (x : ℕ) → (m ≡ mode → x ≡ b → ⊥) → KeyZero c m x → KeyZero d m x = λ m x apart.
+    keyZero-from (kept-high (c .keys) mode b key m x apart) (kept-low (c .keys) mode b key m x apart) in
+    let own : keyFlag mode v ≡ false → KeyZero d mode b = λ e.
+    let none : isPresent key ≡ false = sym (keyed-own f mode key) ∙ e in
     record {
-      shaped = shaped-with (s .shaped) (length-set (p .flags) b v) (overwrite-length (c .keys) (4 * b) _ fits) refl refl refl refl (s .shaped .usedHigh) (s .shaped .timeHigh);
+      high = replaced-high (c .keys) mode b key fits ∙ absent-high key none;
+      low = replaced-low (c .keys) mode b key fits ∙ absent-low key none;
+    } in
+    let rest : keyFlag (otherMode mode) v ≡ false → KeyZero d (otherMode mode) b = λ e.
+    keysKept (otherMode mode) b (λ q _. other-mode mode q) (s .isSound .absentKey (otherMode mode) b below (sym (keyed-other f mode key) ∙ e)) in
+    record {
+      shaped = shaped-with (s .shaped) (length-set (p .flags) b v) (replaceKey-length (c .keys) mode b key) refl refl refl refl (s .shaped .usedHigh) (s .shaped .timeHigh);
       isSound = record {
-        flagsLow = λ x l. getD-set-either (λ (f : ℕ). f < 8) (p .flags) b v x (keyedFlag-low read write) (s .isSound .flagsLow x l);
+        flagsLow = λ x l. getD-set-either (λ (f : ℕ). f < 8) (p .flags) b v x (keyed-low f mode key) (s .isSound .flagsLow x l);
         rootsAllocated = λ x l r. getD-set-either (λ (f : ℕ). allocatedFlag f ≡ true) (p .flags) b v x odd (s .isSound .rootsAllocated x l r);
         unallocated = λ x l.
             getD-set-cases (λ (x f : ℕ). allocatedFlag f ≡ false → Empty d x) (p .flags) b v x inFlags
             (λ e. absurd-test odd e)
             (λ other e.
             empty-from (getD-set-other (p .flags) b x v 0 other)
-            (λ m. kept-high (c .keys) b read write fits m x other)
-            (λ m. kept-low (c .keys) b read write fits m x other)
+            (λ m. kept-high (c .keys) mode b key m x (λ _ q. other q))
+            (λ m. kept-low (c .keys) mode b key m x (λ _ q. other q))
             refl
             (λ m. refl)
             (s .isSound .unallocated x l e));
         absentKey = λ m x l.
             getD-set-cases (λ (x f : ℕ). keyFlag m f ≡ false → KeyZero d m x) (p .flags) b v x inFlags
-            (λ e. record {
-              high = replaced-high (c .keys) b read write fits m ∙ ap highWord (keyedFlag-absent m read write e);
-              low = replaced-low (c .keys) b read write fits m ∙ ap lowWord (keyedFlag-absent m read write e);
-            })
-            (λ other e.
-            keyZero-from (kept-high (c .keys) b read write fits m x other) (kept-low (c .keys) b read write fits m x other)
-            (s .isSound .absentKey m x l e));
+            (⊎-elim
+            (λ (q : m ≡ mode). subst (λ (n : Mode). keyFlag n v ≡ false → KeyZero d n b) (sym q) own)
+            (λ (q : m ≡ otherMode mode). subst (λ (n : Mode). keyFlag n v ≡ false → KeyZero d n b) (sym q) rest)
+            (mode-or-other m mode))
+            (λ other e. keysKept m x (λ _ q. other q) (s .isSound .absentKey m x l e));
         ascends = s .isSound .ascends;
         restZero = s .isSound .restZero;
         pointersRight = set-flag-pointers p b v odd (inUse p) (s .isSound .pointersRight);

@@ -12,7 +12,7 @@ use Rattle.card.specs.declared.Port.{Port}
 use Rattle.card.specs.declared.Refusal.{Refusal}
 use Rattle.card.specs.declared.Answer.the-variants.{Refused, Done}
 use Rattle.card.specs.declared.Call.{Call}
-use Rattle.card.specs.declared.Call.the-variants.{Read, Write, Alloc, AllocContig, Create, Delete, Key, Renew, Force, Free, Tick, Audit}
+use Rattle.card.specs.declared.Call.the-variants.{Read, Write, Alloc, AllocContig, Create, Delete, KeyRead, KeyWrite, Renew, Force, Free, Tick, Audit}
 use Rattle.card.proofs.Guarantees.Judged.{judge-cases}
 
 -- A result that leaves the card and the lent buffers as they were.
@@ -30,7 +30,8 @@ plan-done port c (Alloc o) lent = refl
 plan-done port c (AllocContig o) lent = refl
 plan-done port c (Create o) lent = refl
 plan-done port c (Delete o) lent = refl
-plan-done port c (Key o) lent = refl
+plan-done port c (KeyRead o) lent = refl
+plan-done port c (KeyWrite o) lent = refl
 plan-done port c (Renew o) lent = refl
 plan-done port c (Force o) lent = refl
 plan-done port c Free lent = refl

@@ -27,8 +27,7 @@ use Rattle.card.specs.declared.DeleteOperands.{DeleteOperands}
 use Rattle.card.specs.declared.AllocOperands.{AllocOperands}
 use Rattle.card.specs.declared.KeyOperands.{KeyOperands}
 use Rattle.card.specs.declared.Call.{Call}
-use Rattle.card.specs.declared.Call.the-variants.{Read, Write, Alloc, AllocContig, Create, Delete, Key, Renew, Force, Free, Tick, Audit}
-use Rattle.card.specs.ChangesLaws.{keyedFlag}
+use Rattle.card.specs.declared.Call.the-variants.{Read, Write, Alloc, AllocContig, Create, Delete, KeyRead, KeyWrite, Renew, Force, Free, Tick, Audit}
 use Rattle.card.proofs.Guarantees.Steps.{block-within, allocated-other}
 use Rattle.card.specs.Takeable.{Takeable}
 use Rattle.card.specs.PicksLaws.{picks-takeable}
@@ -84,7 +83,7 @@ write-left port c opened o input b free s h =
           (other-block (c .public) free held);
     }
 
--- ---- DELETE and KEY
+-- ---- DELETE, KEY_READ and KEY_WRITE
 
 delete-left : (port : Port) (c : Card) (opened : Bool) (o : DeleteOperands) (b : ℕ) → allocated (c .public) b ≡ false
     → NoneHolds (deletePlan port (c .public) opened o .checks) → LeftAlone c (changes c (deletePlan port (c .public) opened o .steps)) b
@@ -98,11 +97,11 @@ delete-left port c opened o b free h = go (eqb (count (c .public) (o .destinatio
     }
     go false = record { notAllocated = free; same = refl }
 
-key-left : (port : Port) (c : Card) (opened : Bool) (o : KeyOperands) (b : ℕ) → allocated (c .public) b ≡ false
-    → NoneHolds (keyPlan port (c .public) opened o .checks) → LeftAlone c (changes c (keyPlan port (c .public) opened o .steps)) b
+key-left : (port : Port) (c : Card) (opened : Bool) (mode : Mode) (o : KeyOperands) (b : ℕ) → allocated (c .public) b ≡ false
+    → NoneHolds (keyPlan port (c .public) opened mode o .checks) → LeftAlone c (changes c (keyPlan port (c .public) opened mode o .steps)) b
 unfolding keyPlan changes change changePublic changeContents allocated
-key-left port c opened o b free h = record {
-  notAllocated = allocated-other (c .public) (o .block) (keyedFlag (o .read) (o .write)) b (other-block (c .public) free (not-missing (c .public) (o .block) (h .0))) ∙ free;
+key-left port c opened mode o b free h = record {
+  notAllocated = allocated-other (c .public) (o .block) _ b (other-block (c .public) free (not-missing (c .public) (o .block) (h .0))) ∙ free;
   same = refl;
 }
 
@@ -204,7 +203,8 @@ call-untouched port c (Alloc o) lent b free s h = allotted-untouched c (o .refer
 call-untouched port c (AllocContig o) lent b free s h = allotted-untouched c (o .reference) _ b free s (run-takeable (c .public) (o .count) (wanted (o .hint)))
 call-untouched port c (Create o) lent b free s h = inl (record { notAllocated = free; same = refl })
 call-untouched port c (Delete o) lent b free s h = inl (delete-left port c _ o b free h)
-call-untouched port c (Key o) lent b free s h = inl (key-left port c _ o b free h)
+call-untouched port c (KeyRead o) lent b free s h = inl (key-left port c _ Reading o b free h)
+call-untouched port c (KeyWrite o) lent b free s h = inl (key-left port c _ Writing o b free h)
 call-untouched port c (Renew o) lent b free s h = inl (record { notAllocated = free; same = refl })
 call-untouched port c (Force o) lent b free s h = inl (record { notAllocated = free; same = refl })
 call-untouched port c Free lent b free s h = inl (record { notAllocated = free; same = refl })

@@ -8,7 +8,7 @@ use mathlib.Core.Option.{Option, none, some}
 use lib.Dec.{eqb}
 use lib.ListN.{set}
 use Rattle.card.specs.Card.{Public, Card, freeBlocks, windowAt, windowEnd, count}
-use Rattle.card.specs.Plan.{first, audited, Change, setWindow, setBlock, setKeys, takeBlock, freeBlock, addPointer, dropPointer, setTime, withFlags, withWindow, freedFlag, changePublic, change, changes, Buffers, Result, done, settle, judge}
+use Rattle.card.specs.Plan.{first, audited, Change, setWindow, setBlock, setKey, takeBlock, freeBlock, addPointer, dropPointer, setTime, withFlags, withWindow, freedFlag, changePublic, change, changes, Buffers, Result, done, settle, judge}
 use Rattle.card.specs.ChangesLaws.{getD-set-either, getD-set-changed, windowAt-block, windowAt-mode}
 use Rattle.card.specs.Calls.{windowAfter, opensWindow, wanted, picks, takeAll, modeOf, readPlan, writePlan, allocPlan, runStarts, nearestRun, allocContigPlan, createPlan, deletePlan, keyPlan, renewPlan, forcePlan, freePlan, tickPlan, auditPlan}
 use Rattle.card.specs.Session.{Request, plan, portOf, perform}
@@ -22,7 +22,7 @@ use Rattle.card.specs.declared.RenewOperands.{RenewOperands}
 use Rattle.card.specs.declared.Refusal.{Refusal}
 use Rattle.card.specs.declared.Answer.the-variants.{Done}
 use Rattle.card.specs.declared.Call.{Call}
-use Rattle.card.specs.declared.Call.the-variants.{Read, Write, Alloc, AllocContig, Create, Delete, Key, Renew, Force, Free, Tick, Audit}
+use Rattle.card.specs.declared.Call.the-variants.{Read, Write, Alloc, AllocContig, Create, Delete, KeyRead, KeyWrite, Renew, Force, Free, Tick, Audit}
 
 -- ---- the statement
 
@@ -58,7 +58,7 @@ then-kept p q r m b k l = ⊎-elim (λ e. ⊎-elim (λ f. inl (e ∙ f)) (λ z. 
 abbrev Closes : Change → Type 0
 Closes (setWindow mode b end) = end ≡ 0
 Closes (setBlock b ys) = Unit {0}
-Closes (setKeys b read write) = Unit {0}
+Closes (setKey mode b key) = Unit {0}
 Closes (takeBlock b) = Unit {0}
 Closes (freeBlock b) = Unit {0}
 Closes (addPointer a b) = Unit {0}
@@ -78,7 +78,7 @@ module _ (m : Mode) (b : ℕ) where
   unfolding changePublic
   change-kept (setWindow mode a end) z p = rw z (zeroed p mode a)
   change-kept (setBlock a ys) z p = inl refl
-  change-kept (setKeys a read write) z p = inl refl
+  change-kept (setKey mode a key) z p = inl refl
   change-kept (takeBlock a) z p = inl refl
   change-kept (freeBlock a) z p =
       let q = withFlags p (set (p .flags) a freedFlag) in
@@ -158,7 +158,8 @@ plan-set port c (Delete o) lent m b s = never-set m b c (plan port c (Delete o) 
     go : (t : Bool) → AllClose (cond t (freeBlock (o .destination) ∷ []) [])
     go true = (tt, tt)
     go false = tt
-plan-set port c (Key o) lent m b s = never-set m b c (plan port c (Key o) lent .steps) (tt, (refl, (refl, tt))) s
+plan-set port c (KeyRead o) lent m b s = never-set m b c (plan port c (KeyRead o) lent .steps) (tt, (refl, (refl, tt))) s
+plan-set port c (KeyWrite o) lent m b s = never-set m b c (plan port c (KeyWrite o) lent .steps) (tt, (refl, (refl, tt))) s
 plan-set port c (Renew o) lent m b s =
     let r = window-one (c .public) (modeOf (o .mode)) (o .block) (o .interval) m b s in
     record { atHost = refl; answer = refl; interval = o .interval; sets = byRenew (r .sameMode) (r .sameBlock); end = r .end }

@@ -14,16 +14,15 @@ use Rattle.card.specs.ListsLaws.{and-right, absurd-test, same-or-other, 
 use Rattle.card.specs.Pointers.{pointer, source, destination, contains, insert, remove}
 use Rattle.card.specs.PointersLaws.{source-pointer, destination-pointer, contains-insert, contains-remove, contains-all}
 use Rattle.card.specs.Contents.{part, zeros}
-use Rattle.card.specs.ContentsLaws.{overwrite-length, fill-length, block-fits}
+use Rattle.card.specs.ContentsLaws.{fill-length, block-fits}
 use Rattle.card.specs.Card.{Public, Card, flag, allocated, hasKey, isRoot, windowAt, windowEnd, windowOpen, inUse, pointsTo, keyHigh, keyLow}
 use Rattle.card.specs.SoundnessLaws.{allocated-below}
-use Rattle.card.specs.Plan.{Change, setWindow, setBlock, setKeys, takeBlock, freeBlock, addPointer, dropPointer, setTime, changePublic, changeKeys, changeContents, change}
-use Rattle.card.specs.ChangesLaws.{windowAt-block, kept-high, kept-low, inserted-long, inserted-take, removed-take, removed-length}
+use Rattle.card.specs.Plan.{Change, setWindow, setBlock, setKey, takeBlock, freeBlock, addPointer, dropPointer, setTime, changePublic, changeKeys, changeContents, change}
+use Rattle.card.specs.ChangesLaws.{windowAt-block, kept-high, kept-low, uncleared-high, uncleared-low, inserted-long, inserted-take, removed-take, removed-length}
 use Rattle.card.specs.Reach.{keyPresented, sealed}
 use Rattle.card.specs.declared.Mode.{Mode}
 use Rattle.card.specs.declared.Mode.the-variants.{Reading, Writing}
 use Rattle.card.specs.declared.NewKey.{NewKey}
-use Rattle.card.specs.declared.NewKey.the-variants.{Absent}
 
 -- The set satisfies the four rules of "within reach" on the card.
 pub record Closed (K : ℕ → ℕ → Bool) (G : ℕ → Type 0) (c : Card) : Type 0 where
@@ -36,7 +35,6 @@ pub record Closed (K : ℕ → ℕ → Bool) (G : ℕ → Type 0) (c : Card) : T
 pub record Regular (c : Card) : Type 0 where
   pub blocksHigh : c .public .info .blocks ≤ 4096
   pub flags : length (c .public .flags) ≡ c .public .info .blocks
-  pub keys : length (c .keys) ≡ 4 * c .public .info .blocks
   pub contents : length (c .contents) ≡ c .public .info .blocks * c .public .info .bytes
   pub usedHigh : c .public .info .used ≤ length (c .public .pointers)
 
@@ -44,7 +42,7 @@ pub record Regular (c : Card) : Type 0 where
 abbrev pub Allowed : (ℕ → Type 0) → Public → Change → Type 0
 Allowed G p (setWindow mode b end) = G b ⊎ (end ≤ p .info .time)
 Allowed G p (setBlock b ys) = G b × (b < p .info .blocks) × (length ys ≡ p .info .bytes)
-Allowed G p (setKeys b r w) = G b × (b < p .info .blocks)
+Allowed G p (setKey mode b key) = G b
 Allowed G p (takeBlock b) = (b < p .info .blocks) × (allocated p b ≡ false) × (all (λ w. not (eqb (source w) b)) (inUse p) ≡ true)
 Allowed G p (freeBlock b) = b < p .info .blocks
 Allowed G p (addPointer a b) = G b × (b < p .info .blocks)
@@ -55,7 +53,7 @@ Allowed G p (setTime t) = p .info .time ≤ t
 abbrev pub TakenBy : Change → ℕ → Type 0
 TakenBy (setWindow mode b end) x = ⊥
 TakenBy (setBlock b ys) x = ⊥
-TakenBy (setKeys b r w) x = ⊥
+TakenBy (setKey mode b key) x = ⊥
 TakenBy (takeBlock b) x = x ≡ b
 TakenBy (freeBlock b) x = ⊥
 TakenBy (addPointer a b) x = ⊥
@@ -87,56 +85,46 @@ module _ (p : Public) (a b : ℕ) (h : p .info .used ≤ length (p .pointers)) w
 
 -- ---- lengths are kept
 
--- A block's four words lie within the keys of N blocks.
-keys-fit : (c : Card) (b : ℕ) → Regular c → b < c .public .info .blocks → 4 * b + 4 ≤ length (c .keys)
-keys-fit c b r h = omega (arith, r .keys)
-
 pub regular-change : (G : ℕ → Type 0) (c : Card) (step : Change) → Regular c → Allowed G (c .public) step → Regular (change c step)
 unfolding change changePublic changeKeys changeContents
-regular-change G c (setWindow mode b end) r h = record { blocksHigh = r .blocksHigh; flags = r .flags; keys = r .keys; contents = r .contents; usedHigh = r .usedHigh }
+regular-change G c (setWindow mode b end) r h = record { blocksHigh = r .blocksHigh; flags = r .flags; contents = r .contents; usedHigh = r .usedHigh }
 regular-change G c (setBlock b ys) r h = record {
   blocksHigh = r .blocksHigh;
   flags = r .flags;
-  keys = r .keys;
   contents = fill-length (c .public .info .bytes) (c .contents) b ys (omega (arith, r .contents, block-fits (c .public .info .bytes) (h .1))) (h .2) ∙ r .contents;
   usedHigh = r .usedHigh;
 }
-regular-change G c (setKeys b read write) r h = record {
+regular-change G c (setKey mode b key) r h = record {
   blocksHigh = r .blocksHigh;
   flags = length-set (c .public .flags) b _ ∙ r .flags;
-  keys = overwrite-length (c .keys) (4 * b) _ (keys-fit c b r (h .1)) ∙ r .keys;
   contents = r .contents;
   usedHigh = r .usedHigh;
 }
 regular-change G c (takeBlock b) r h = record {
   blocksHigh = r .blocksHigh;
   flags = length-set (c .public .flags) b _ ∙ r .flags;
-  keys = r .keys;
   contents = fill-length (c .public .info .bytes) (c .contents) b (zeros (c .public .info .bytes)) (omega (arith, r .contents, block-fits (c .public .info .bytes) (h .0))) (lib.ListN.length-replicate _ 0) ∙ r .contents;
   usedHigh = r .usedHigh;
 }
 regular-change G c (freeBlock b) r h = record {
   blocksHigh = r .blocksHigh;
   flags = length-set (c .public .flags) b _ ∙ r .flags;
-  keys = overwrite-length (c .keys) (4 * b) _ (keys-fit c b r h) ∙ r .keys;
   contents = r .contents;
   usedHigh = r .usedHigh;
 }
 regular-change G c (addPointer a b) r h = record {
   blocksHigh = r .blocksHigh;
   flags = r .flags;
-  keys = r .keys;
   contents = r .contents;
   usedHigh = used-added (c .public) a b (r .usedHigh);
 }
 regular-change G c (dropPointer a b) r h = record {
   blocksHigh = r .blocksHigh;
   flags = r .flags;
-  keys = r .keys;
   contents = r .contents;
   usedHigh = used-dropped (c .public) a b (r .usedHigh) h;
 }
-regular-change G c (setTime t) r h = record { blocksHigh = r .blocksHigh; flags = r .flags; keys = r .keys; contents = r .contents; usedHigh = r .usedHigh }
+regular-change G c (setTime t) r h = record { blocksHigh = r .blocksHigh; flags = r .flags; contents = r .contents; usedHigh = r .usedHigh }
 
 -- ---- the frame
 
@@ -237,21 +225,21 @@ module _ (K : ℕ → ℕ → Bool) (G : ℕ → Type 0) (c : Card) (r : Regular
         wasPointed = λ y g p. (same-set G y g, p);
       }))
 
-  closed-setKeys : (b : ℕ) (read write : NewKey) → Allowed G (c .public) (setKeys b read write) → Closed K (Grown G (setKeys b read write)) (change c (setKeys b read write))
+  closed-setKey : (mode : Mode) (b : ℕ) (key : NewKey) → Allowed G (c .public) (setKey mode b key) → Closed K (Grown G (setKey mode b key)) (change c (setKey mode b key))
   unfolding change changePublic changeKeys changeContents allocated windowOpen pointsTo
-  closed-setKeys b read write h =
-      frame K G (Grown G (setKeys b read write)) c (change c (setKeys b read write)) closed refl (λ x g. inl g)
-      (λ x a. ⊎-elim (λ (e : x ≡ b). inl (inl (subst G (sym e) (h .0)))) (λ (n : x ≡ b → ⊥). inr (framed x a n)) (same-or-other x b))
+  closed-setKey mode b key h =
+      frame K G (Grown G (setKey mode b key)) c (change c (setKey mode b key)) closed refl (λ x g. inl g)
+      (λ x a. ⊎-elim (λ (e : x ≡ b). inl (inl (subst G (sym e) h))) (λ (n : x ≡ b → ⊥). inr (framed x a n)) (same-or-other x b))
     where
-      same : (x : ℕ) → (x ≡ b → ⊥) → SameKeys c (change c (setKeys b read write)) x
+      same : (x : ℕ) → (x ≡ b → ⊥) → SameKeys c (change c (setKey mode b key)) x
       same x n = record {
         sameFlag = getD-set-other (c .public .flags) b x _ 0 n;
-        sameHigh = λ m. kept-high (c .keys) b read write (keys-fit c b r (h .1)) m x n;
-        sameLow = λ m. kept-low (c .keys) b read write (keys-fit c b r (h .1)) m x n;
+        sameHigh = λ m. kept-high (c .keys) mode b key m x (λ _ e. n e);
+        sameLow = λ m. kept-low (c .keys) mode b key m x (λ _ e. n e);
       }
 
-      framed : (x : ℕ) → allocated (change c (setKeys b read write) .public) x ≡ true → (x ≡ b → ⊥)
-          → Framed K G (Grown G (setKeys b read write)) c (change c (setKeys b read write)) x
+      framed : (x : ℕ) → allocated (change c (setKey mode b key) .public) x ≡ true → (x ≡ b → ⊥)
+          → Framed K G (Grown G (setKey mode b key)) c (change c (setKey mode b key)) x
       framed x a n = record {
         wasAllocated = rw (getD-set-other (c .public .flags) b x _ 0 n) at a;
         wasUnsealed = λ s. sym (sealed-same K c _ x (same x n)) ∙ s;
@@ -303,8 +291,8 @@ module _ (K : ℕ → ℕ → Bool) (G : ℕ → Type 0) (c : Card) (r : Regular
       same : (x : ℕ) → (x ≡ b → ⊥) → SameKeys c (change c (freeBlock b)) x
       same x n = record {
         sameFlag = getD-set-other (c .public .flags) b x 0 0 n;
-        sameHigh = λ m. kept-high (c .keys) b Absent Absent (keys-fit c b r h) m x n;
-        sameLow = λ m. kept-low (c .keys) b Absent Absent (keys-fit c b r h) m x n;
+        sameHigh = λ m. uncleared-high (c .keys) b m x n;
+        sameLow = λ m. uncleared-low (c .keys) b m x n;
       }
 
       -- Both windows of the block were set to 0.
@@ -383,7 +371,7 @@ module _ (K : ℕ → ℕ → Bool) (G : ℕ → Type 0) (c : Card) (r : Regular
   pub closed-change : (step : Change) → Allowed G (c .public) step → Closed K (Grown G step) (change c step)
   closed-change (setWindow mode b end) h = closed-setWindow mode b end h
   closed-change (setBlock b ys) h = closed-setBlock b ys
-  closed-change (setKeys b read write) h = closed-setKeys b read write h
+  closed-change (setKey mode b key) h = closed-setKey mode b key h
   closed-change (takeBlock b) h = closed-takeBlock b h
   closed-change (freeBlock b) h = closed-freeBlock b h
   closed-change (addPointer a b) h = closed-addPointer a b h

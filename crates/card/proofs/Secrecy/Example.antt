@@ -19,7 +19,8 @@ use Rattle.card.specs.Session.{Request, Sent, afterAll, reports, hostSes
 use Rattle.card.specs.Reach.{shows, presents, someShows, presented, keyPresented, sealed, Reach, Hidden, takesLast, isOne, lastTaken}
 use Rattle.card.specs.Trials.{rules, playerCard, read, alloc, key, lending}
 use Rattle.card.specs.declared.Port.the-variants.{Service}
-use Rattle.card.specs.declared.Credential.the-variants.{Reference, Key as KeyCredential}
+use Rattle.card.specs.declared.Mode.the-variants.{Reading, Writing}
+use Rattle.card.specs.declared.Credential.the-variants.{Nothing, Reference, Key as KeyCredential}
 use Rattle.card.specs.declared.NewKey.the-variants.{Present}
 use Rattle.card.specs.declared.Call.{Call}
 use Rattle.card.specs.declared.Call.the-variants.{Read, Write, Delete, Free}
@@ -34,9 +35,12 @@ abbrev sealedBlocks : List Sent
 sealedBlocks =
     alloc Service 0 65535 1
     ∷ alloc Service 1 65535 2
-    ∷ key Service 1 (Present 1 2) (Present 3 4)
-    ∷ key Service 2 (Present 5 6) (Present 7 8)
-    ∷ key Service 3 (Present 5 6) (Present 7 8)
+    ∷ key Service Reading 1 Nothing (Present 1 2)
+    ∷ key Service Writing 1 Nothing (Present 3 4)
+    ∷ key Service Reading 2 Nothing (Present 5 6)
+    ∷ key Service Writing 2 Nothing (Present 7 8)
+    ∷ key Service Reading 3 Nothing (Present 5 6)
+    ∷ key Service Writing 3 Nothing (Present 7 8)
     ∷ []
 
 unfoldable pub prepared : Card

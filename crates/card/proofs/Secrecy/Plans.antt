@@ -18,9 +18,9 @@ use Rattle.card.specs.Soundness.{pointerRight}
 use Rattle.card.specs.SoundCard.{SoundCard}
 use Rattle.card.specs.SoundnessLaws.{pointerRight-true, allocated-below}
 use Rattle.card.specs.Access.{opens, admits}
-use Rattle.card.specs.Plan.{NoneHolds, setWindow, setBlock, setKeys, takeBlock, freeBlock, addPointer, dropPointer, changePublic, change, Shown, nothing, blockPart, numbers, Plan, Buffers}
-use Rattle.card.specs.Calls.{windowAfter, opensWindow, modeOf, wanted, picks, takeAll, readPlan, writePlan, allocPlan, runStarts, nearestRun, allocContigPlan, createPlan, deletePlan, keyPlan, renewPlan, forcePlan, freePlan, tickPlan, auditPlan}
-use Rattle.card.specs.Session.{plan, traits}
+use Rattle.card.specs.Plan.{NoneHolds, setWindow, setBlock, setKey, takeBlock, freeBlock, addPointer, dropPointer, changePublic, change, Shown, nothing, blockPart, numbers, Plan, Buffers}
+use Rattle.card.specs.Calls.{windowAfter, opensWindow, closeWindows, modeOf, wanted, picks, takeAll, readPlan, writePlan, allocPlan, runStarts, nearestRun, allocContigPlan, createPlan, deletePlan, keyPlan, renewPlan, forcePlan, freePlan, tickPlan, auditPlan}
+use Rattle.card.specs.Session.{keyCall, plan, traits}
 use Rattle.card.specs.Reach.{shows, presents, someShows}
 use Rattle.card.specs.declared.Port.the-variants.{Host}
 use Rattle.card.specs.declared.Mode.{Mode}
@@ -36,7 +36,7 @@ use Rattle.card.specs.declared.RenewOperands.{RenewOperands}
 use Rattle.card.specs.declared.ForceOperands.{ForceOperands}
 use Rattle.card.specs.declared.TickOperands.{TickOperands}
 use Rattle.card.specs.declared.Call.{Call}
-use Rattle.card.specs.declared.Call.the-variants.{Read, Write, Alloc, AllocContig, Create, Delete, Key, Renew, Force, Free, Tick, Audit}
+use Rattle.card.specs.declared.Call.the-variants.{Read, Write, Alloc, AllocContig, Create, Delete, KeyRead, KeyWrite, Renew, Force, Free, Tick, Audit}
 use Rattle.card.specs.Takeable.{Without, Distinct, none, more, Takeable}
 use Rattle.card.specs.PicksLaws.{picks-takeable}
 use Rattle.card.specs.RunsLaws.{run-takeable}
@@ -49,7 +49,6 @@ pub sound-regular : {c : Card} → SoundCard c → Regular c
 sound-regular s = record {
   blocksHigh = s .shaped .inRanges .blocksHigh;
   flags = s .shaped .hasLengths .flags;
-  keys = s .shaped .hasLengths .keys;
   contents = s .shaped .hasLengths .contents;
   usedHigh = s .shaped .usedHigh;
 }
@@ -216,16 +215,17 @@ module _ (K : ℕ → ℕ → Bool) (G : ℕ → Type 0) (c : Card) (s : SoundCa
       go true = (below (o .destination) (n .1 .0), tt)
       go false = tt
 
-  closing-allowed : (H : ℕ → Type 0) (p : Public) (b : ℕ) → AllowedAll H p (setWindow Reading b 0 ∷ (setWindow Writing b 0 ∷ []))
+  closing-allowed : (H : ℕ → Type 0) (p : Public) (b : ℕ) → AllowedAll H p (closeWindows b)
   closing-allowed H p b = (inr (omega arith), (inr (omega arith), tt))
 
-  safe-key : (o : KeyOperands) (lent : Buffers) → CallPresents K (Key o) → NoneHolds (plan Host c (Key o) lent .checks) → Safe G c (plan Host c (Key o) lent)
+  key-allowed : (mode : Mode) (o : KeyOperands) → G (o .block) → AllowedAll G (c .public) (setKey mode (o .block) (o .key) ∷ closeWindows (o .block))
+  key-allowed mode o g = (g, closing-allowed (Grown G (setKey mode (o .block) (o .key))) _ (o .block))
+
+  safe-key : (mode : Mode) (o : KeyOperands) (lent : Buffers) → CallPresents K (keyCall mode o) → NoneHolds (plan Host c (keyCall mode o) lent .checks)
+      → Safe G c (plan Host c (keyCall mode o) lent)
   unfolding plan keyPlan presents someShows traits
-  safe-key o lent k n = record {
-    shownIn = tt;
-    allowed =
-        ((within Writing (o .block) (o .credential) (n .0) (n .1 .1 .0) k, below (o .block) (n .0)), closing-allowed (Grown G (setKeys (o .block) (o .read) (o .write))) _ (o .block));
-  }
+  safe-key Reading o lent k n = record { shownIn = tt; allowed = key-allowed Reading o (within Writing (o .block) (o .credential) (n .0) (n .1 .1 .0) k) }
+  safe-key Writing o lent k n = record { shownIn = tt; allowed = key-allowed Writing o (within Writing (o .block) (o .credential) (n .0) (n .1 .1 .0) k) }
 
   safe-renew : (o : RenewOperands) (lent : Buffers) → CallPresents K (Renew o) → NoneHolds (plan Host c (Renew o) lent .checks) → Safe G c (plan Host c (Renew o) lent)
   unfolding plan renewPlan presents someShows traits
@@ -260,7 +260,8 @@ module _ (K : ℕ → ℕ → Bool) (G : ℕ → Type 0) (c : Card) (s : SoundCa
   safe (AllocContig o) lent k n = safe-contig o lent n
   safe (Create o) lent k n = safe-create o lent k n
   safe (Delete o) lent k n = safe-delete o lent n
-  safe (Key o) lent k n = safe-key o lent k n
+  safe (KeyRead o) lent k n = safe-key Reading o lent k n
+  safe (KeyWrite o) lent k n = safe-key Writing o lent k n
   safe (Renew o) lent k n = safe-renew o lent k n
   safe (Force o) lent k n = safe-force o lent
   safe Free lent k n = safe-free lent

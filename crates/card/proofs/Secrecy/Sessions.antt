@@ -24,7 +24,7 @@ use Rattle.card.specs.declared.Credential.{Credential}
 use Rattle.card.specs.declared.Credential.the-variants.{Key as KeyCredential}
 use Rattle.card.specs.declared.Refusal.{Refusal}
 use Rattle.card.specs.declared.Call.{Call}
-use Rattle.card.specs.declared.Call.the-variants.{Read, Write, Alloc, AllocContig, Create, Delete, Key, Renew, Force, Free, Tick, Audit}
+use Rattle.card.specs.declared.Call.the-variants.{Read, Write, Alloc, AllocContig, Create, Delete, KeyRead, KeyWrite, Renew, Force, Free, Tick, Audit}
 use Rattle.card.proofs.Secrecy.Closed.{Closed}
 use Rattle.card.proofs.Secrecy.StepsAlike.{Alike, Kept, GrownAll, grows, closed-changes, alike-changes, covered, FreesNone, KeptApart, apart-changes}
 use Rattle.card.proofs.Secrecy.Opened.{AllPresented}
@@ -69,7 +69,8 @@ module _ (K : ℕ → ℕ → Bool) (L : Public → List ℕ → List ℕ → Ty
       ap₂ (λ (p : Public) (t : Bool). createPlan Host p t (opens c Writing (o .destination) (o .second)) o) (alike .samePublic) source
       ∙ ap (λ (t : Bool). createPlan Host (d .public) (opens d Writing (o .source) (o .credential)) t o) destination
   plan-same (Delete o) lent k = ap₂ (λ (p : Public) (t : Bool). deletePlan Host p t o) (alike .samePublic) (same-opens Writing (o .source) (o .credential) k)
-  plan-same (Key o) lent k = ap₂ (λ (p : Public) (t : Bool). keyPlan Host p t o) (alike .samePublic) (same-opens Writing (o .block) (o .credential) k)
+  plan-same (KeyRead o) lent k = ap₂ (λ (p : Public) (t : Bool). keyPlan Host p t Reading o) (alike .samePublic) (same-opens Writing (o .block) (o .credential) k)
+  plan-same (KeyWrite o) lent k = ap₂ (λ (p : Public) (t : Bool). keyPlan Host p t Writing o) (alike .samePublic) (same-opens Writing (o .block) (o .credential) k)
   plan-same (Renew o) lent k =
       ap₂ (λ (p : Public) (t : Bool). renewPlan p t o) (alike .samePublic) (same-opens (modeOf (o .mode)) (o .block) (KeyCredential (o .high) (o .low)) k)
   plan-same (Force o) lent k = ap (λ (p : Public). forcePlan p o) (alike .samePublic)
@@ -189,7 +190,8 @@ frees-none c (Delete o) lent x e = (λ f. f, go (eqb (count (c .public) (o .dest
     go : (t : Bool) → eqb (o .destination) x && eqb (cond t 1 0) 1 ≡ false → FreesNone (cond t (freeBlock (o .destination) ∷ []) []) x
     go true h = (λ f. absurd-test (and-true _ _ (eq-eqb (o .destination) x (sym f)) refl) h, tt)
     go false h = tt
-frees-none c (Key o) lent x e = (λ f. f, (λ f. f, (λ f. f, tt)))
+frees-none c (KeyRead o) lent x e = (λ f. f, (λ f. f, (λ f. f, tt)))
+frees-none c (KeyWrite o) lent x e = (λ f. f, (λ f. f, (λ f. f, tt)))
 frees-none c (Renew o) lent x e = (λ f. f, tt)
 frees-none c (Force o) lent x e = (λ f. f, (λ f. f, tt))
 frees-none c Free lent x e = tt

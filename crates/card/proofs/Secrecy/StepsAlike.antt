@@ -12,8 +12,7 @@ use Rattle.card.specs.ListsLaws.{and-right, absurd-test, same-or-other}
 use Rattle.card.specs.Contents.{zeros}
 use Rattle.card.specs.ContentsLaws.{part-fill-same, part-fill-other, block-fits}
 use Rattle.card.specs.Card.{Public, Card, allocated, block}
-use Rattle.card.specs.Plan.{Change, setWindow, setBlock, setKeys, takeBlock, freeBlock, addPointer, dropPointer, setTime, changePublic, changeKeys, changeContents, change, changes}
-use Rattle.card.specs.declared.NewKey.{NewKey}
+use Rattle.card.specs.Plan.{Change, setWindow, setBlock, setKey, takeBlock, freeBlock, addPointer, dropPointer, setTime, changePublic, changeKeys, changeContents, change, changes}
 use Rattle.card.proofs.Secrecy.Closed.{Closed, Regular, Allowed, Grown, regular-change, closed-change}
 
 -- ---- the contents of a block after one change
@@ -22,7 +21,7 @@ use Rattle.card.proofs.Secrecy.Closed.{Closed, Regular, Allowed, Grown,
 abbrev pub WrittenBy : Change → ℕ → Type 0
 WrittenBy (setWindow mode b end) x = ⊥
 WrittenBy (setBlock b ys) x = x ≡ b
-WrittenBy (setKeys b r w) x = ⊥
+WrittenBy (setKey mode b key) x = ⊥
 WrittenBy (takeBlock b) x = x ≡ b
 WrittenBy (freeBlock b) x = ⊥
 WrittenBy (addPointer a b) x = ⊥
@@ -38,7 +37,7 @@ block-kept : (G : ℕ → Type 0) (c : Card) (step : Change) → Regular c → A
 unfolding change changePublic changeContents
 block-kept G c (setWindow mode b end) r h x n = refl
 block-kept G c (setBlock b ys) r h x n = part-fill-other (c .public .info .bytes) (c .contents) b ys (fits c b r (h .1)) (h .2) x n
-block-kept G c (setKeys b read write) r h x n = refl
+block-kept G c (setKey mode b key) r h x n = refl
 block-kept G c (takeBlock b) r h x n =
     part-fill-other (c .public .info .bytes) (c .contents) b (zeros (c .public .info .bytes)) (fits c b r (h .0)) (length-replicate _ 0) x n
 block-kept G c (freeBlock b) r h x n = refl
@@ -68,7 +67,7 @@ module _ (L : Public → List ℕ → List ℕ → Type 0) (kept : Kept L) (G : 
       rw w
       (part-fill-same (c .public .info .bytes) (c .contents) b ys (fits c b rc (h .1)) (h .2)
       ∙ sym (part-fill-same (d .public .info .bytes) (d .contents) b ys (fits d b rd (h′ .1)) (h′ .2)))
-  same-written (setKeys b read write) h x w = absurd w
+  same-written (setKey mode b key) h x w = absurd w
   same-written (takeBlock b) h x w =
       let h′ = subst (λ (p : Public). Allowed G p (takeBlock b)) (alike .samePublic) h in
       rw w
@@ -84,7 +83,7 @@ module _ (L : Public → List ℕ → List ℕ → Type 0) (kept : Kept L) (G : 
   joins : (step : Change) (x : ℕ) → Grown G step x → G x ⊎ WrittenBy step x
   joins (setWindow mode b end) x g = g
   joins (setBlock b ys) x g = ⊎-elim (λ k. inl k) (λ k. absurd k) g
-  joins (setKeys b read write) x g = g
+  joins (setKey mode b key) x g = g
   joins (takeBlock b) x g = g
   joins (freeBlock b) x g = g
   joins (addPointer a b) x g = g
@@ -94,7 +93,7 @@ module _ (L : Public → List ℕ → List ℕ → Type 0) (kept : Kept L) (G : 
   written-or-not : (step : Change) (x : ℕ) → WrittenBy step x ⊎ (WrittenBy step x → ⊥)
   written-or-not (setWindow mode b end) x = inr (λ w. w)
   written-or-not (setBlock b ys) x = same-or-other x b
-  written-or-not (setKeys b read write) x = inr (λ w. w)
+  written-or-not (setKey mode b key) x = inr (λ w. w)
   written-or-not (takeBlock b) x = same-or-other x b
   written-or-not (freeBlock b) x = inr (λ w. w)
   written-or-not (addPointer a b) x = inr (λ w. w)
@@ -159,8 +158,8 @@ allocated-before : (c : Card) (step : Change) (G : ℕ → Type 0) → Regular c
 unfolding changePublic allocated
 allocated-before c (setWindow mode b end) G r h x a = inr a
 allocated-before c (setBlock b ys) G r h x a = inr a
-allocated-before c (setKeys b read write) G r h x a =
-    ⊎-elim (λ (e : x ≡ b). inl (inl (subst G (sym e) (h .0)))) (λ (n : x ≡ b → ⊥). inr (rw (getD-set-other (c .public .flags) b x _ 0 n) at a)) (same-or-other x b)
+allocated-before c (setKey mode b key) G r h x a =
+    ⊎-elim (λ (e : x ≡ b). inl (inl (subst G (sym e) h))) (λ (n : x ≡ b → ⊥). inr (rw (getD-set-other (c .public .flags) b x _ 0 n) at a)) (same-or-other x b)
 allocated-before c (takeBlock b) G r h x a =
     ⊎-elim (λ (e : x ≡ b). inl (inr e)) (λ (n : x ≡ b → ⊥). inr (rw (getD-set-other (c .public .flags) b x 1 0 n) at a)) (same-or-other x b)
 allocated-before c (freeBlock b) G r h x a =
@@ -188,7 +187,7 @@ covered G c (step ∷ steps) r h x a =
 abbrev pub Frees : Change → ℕ → Type 0
 Frees (setWindow mode b end) x = ⊥
 Frees (setBlock b ys) x = ⊥
-Frees (setKeys b r w) x = ⊥
+Frees (setKey mode b key) x = ⊥
 Frees (takeBlock b) x = ⊥
 Frees (freeBlock b) x = x ≡ b
 Frees (addPointer a b) x = ⊥
@@ -210,7 +209,7 @@ module _ (G : ℕ → Type 0) (c : Card) (r : Regular c) (x : ℕ) (a : allocate
   unwritten : (step : Change) → Allowed G (c .public) step → WrittenBy step x → ⊥
   unwritten (setWindow mode b end) h w = w
   unwritten (setBlock b ys) h w = out (subst G (sym w) (h .0))
-  unwritten (setKeys b read write) h w = w
+  unwritten (setKey mode b key) h w = w
   unwritten (takeBlock b) h w = absurd-test a (subst (λ (k : ℕ). allocated (c .public) k ≡ false) (sym w) (h .1))
   unwritten (freeBlock b) h w = w
   unwritten (addPointer y b) h w = w
@@ -220,7 +219,7 @@ module _ (G : ℕ → Type 0) (c : Card) (r : Regular c) (x : ℕ) (a : allocate
   still-outside : (step : Change) → Allowed G (c .public) step → Grown G step x → ⊥
   still-outside (setWindow mode b end) h g = ⊎-elim out (λ k. k) g
   still-outside (setBlock b ys) h g = ⊎-elim out (λ k. k) g
-  still-outside (setKeys b read write) h g = ⊎-elim out (λ k. k) g
+  still-outside (setKey mode b key) h g = ⊎-elim out (λ k. k) g
   still-outside (takeBlock b) h g = ⊎-elim out (λ k. unwritten (takeBlock b) h k) g
   still-outside (freeBlock b) h g = ⊎-elim out (λ k. k) g
   still-outside (addPointer y b) h g = ⊎-elim out (λ k. k) g
@@ -231,7 +230,7 @@ module _ (G : ℕ → Type 0) (c : Card) (r : Regular c) (x : ℕ) (a : allocate
   unfolding changePublic allocated
   still-allocated (setWindow mode b end) h n = a
   still-allocated (setBlock b ys) h n = a
-  still-allocated (setKeys b read write) h n = rw (getD-set-other (c .public .flags) b x _ 0 (λ e. out (subst G (sym e) (h .0)))) a
+  still-allocated (setKey mode b key) h n = rw (getD-set-other (c .public .flags) b x _ 0 (λ e. out (subst G (sym e) h))) a
   still-allocated (takeBlock b) h n = rw (getD-set-other (c .public .flags) b x 1 0 (λ e. unwritten (takeBlock b) h e)) a
   still-allocated (freeBlock b) h n = rw (getD-set-other (c .public .flags) b x 0 0 n) a
   still-allocated (addPointer y b) h n = a
