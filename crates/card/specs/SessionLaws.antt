@@ -11,8 +11,13 @@ use Rattle.card.specs.SoundnessLaws.{verdict-misshapen, verdict-unsound,
 use Rattle.card.specs.Plan.{first, audited, Change, setWindow, setBlock, setKey, takeBlock, freeBlock, addPointer, dropPointer, setTime, changePublic, change, changes, Plan, Buffers, settle, judge}
 use Rattle.card.specs.PlanLaws.{judge-misshapen, judge-unsound, judge-sound}
 use Rattle.card.specs.Promises.{Is, is-same}
-use Rattle.card.specs.Session.{Request, Sent, Reply, plan, portOf, EitherPort, free, tick, audit, perform, performSound, reply, performed, replies, afterAll}
+use Rattle.card.specs.Access.{admits}
+use Rattle.card.specs.Calls.{keyPlan}
+use Rattle.card.specs.Session.{keyCall, Request, Sent, Reply, plan, portOf, EitherPort, free, tick, audit, perform, performSound, reply, performed, replies, afterAll}
 use Rattle.card.specs.declared.Port.{Port}
+use Rattle.card.specs.declared.Mode.{Mode}
+use Rattle.card.specs.declared.Mode.the-variants.{Reading, Writing}
+use Rattle.card.specs.declared.KeyOperands.{KeyOperands}
 use Rattle.card.specs.declared.Verdict.the-variants.{Misshapen, Unsound, Sound}
 use Rattle.card.specs.declared.Refusal.{Refusal}
 use Rattle.card.specs.declared.Refusal.the-variants.{Misshapen as MisshapenRefusal, Unsound as UnsoundRefusal}
@@ -40,6 +45,13 @@ module _ (port : Port) (c : Card) (q : Request) where
       → Is (perform port c q) answer after out places
   unfolding perform performSound
   is-audited e i = is-same (judge-sound c (q .lent) (plan port c (q .call) (q .lent)) (verdict-sound c e)) i
+
+-- The two calls that set a key have one paragraph.
+pub plan-key : (port : Port) (c : Card) (mode : Mode) (o : KeyOperands) (lent : Buffers)
+    → plan port c (keyCall mode o) lent ≡ keyPlan port (c .public) (admits port c Writing (o .block) (o .credential)) mode o
+unfolding plan
+plan-key port c Reading o lent = refl
+plan-key port c Writing o lent = refl
 
 -- A call does at its port what it does at the port by whose rules it is judged.
 pub perform-portOf : (port : Port) (c : Card) (q : Request) → perform port c q ≡ perform (portOf port (q .call)) c q

@@ -14,15 +14,18 @@ use Rattle.card.specs.Session.{Request, refusals, portOf, replies, after
 use Rattle.card.specs.Reach.{shows, someShows, presents, presented, keyPresented, sealed, isOne, takesLast, lastTaken}
 use Rattle.card.specs.Trials.{rules, blankCard, playerCard, lending, read, writeAll, alloc, create, delete, free, trialTable, trialReports}
 use Rattle.card.specs.declared.Port.the-variants.{Host, Service}
-use Rattle.card.specs.declared.Mode.the-variants.{Reading}
+use Rattle.card.specs.declared.Mode.the-variants.{Reading, Writing}
 use Rattle.card.specs.declared.Credential.{Credential}
 use Rattle.card.specs.declared.Credential.the-variants.{Nothing, Reference, Key as KeyCredential}
+use Rattle.card.specs.declared.NewKey.{NewKey}
+use Rattle.card.specs.declared.NewKey.the-variants.{Absent, Present}
 use Rattle.card.specs.declared.AllocOperands.{AllocOperands}
+use Rattle.card.specs.declared.KeyOperands.{KeyOperands}
 use Rattle.card.specs.declared.Call.the-variants.{Alloc, Delete, Renew, Free, Tick}
 use Rattle.card.proofs.Secrecy.Bounds.{bounds}
 use Rattle.card.proofs.Secrecy.Example.{hosted}
 use Rattle.card.proofs.Computed.Same.{sameList, sameLists, replyNumbers, allLines}
-use Rattle.card.proofs.Computed.Tests.{refusalUnchangedTest, portsAlikeTest, doneSoundTest, countsRightTest, pointersAscendingTest, formatSoundTest, untouchedTest, firstNumber, refusedIffTest, noneHold, runFoundTest, runAdjoinsTest, runNearestTest, windowSetByTest, withContents, sameHiddenTest, secrecyTest, trialsTest}
+use Rattle.card.proofs.Computed.Tests.{refusalUnchangedTest, portsAlikeTest, doneSoundTest, countsRightTest, pointersAscendingTest, formatSoundTest, untouchedTest, firstNumber, refusedIffTest, noneHold, runFoundTest, runAdjoinsTest, runNearestTest, oneKeyUnsealedTest, otherKeyKeptTest, ownKeySetTest, bothWindowsClosedTest, writeAccessNeededTest, windowSetByTest, withContents, sameHiddenTest, secrecyTest, trialsTest}
 
 -- To compute a row, its proof unfolds this one name. A wrong rule makes use of `orElse`.
 unfoldable pub computing : Unit {0}
@@ -64,6 +67,13 @@ apart left =
 -- The root points to block 1, which has both keys.
 abbrev keyed : List ℕ → Card
 keyed contents = drawn 1 (1 ∷ 7 ∷ zeros 14) (zeros 4 ++ (1 ∷ 2 ∷ 3 ∷ 4 ∷ zeros 56)) (0 ∷ 1 ∷ zeros 14) (1 ∷ zeros 31) contents
+
+-- The root points to block 1, which has a read key alone, or a write key alone.
+abbrev readKeyed : Card
+readKeyed = drawn 1 (1 ∷ 3 ∷ zeros 14) (zeros 4 ++ (1 ∷ 2 ∷ zeros 58)) (0 ∷ 1 ∷ zeros 14) (1 ∷ zeros 31) (zeros 8192)
+
+abbrev writeKeyed : Card
+writeKeyed = drawn 1 (1 ∷ 5 ∷ zeros 14) (zeros 6 ++ (3 ∷ 4 ∷ zeros 56)) (0 ∷ 1 ∷ zeros 14) (1 ∷ zeros 31) (zeros 8192)
 
 -- The root has both keys, and there is no other block.
 abbrev keyedRoot : List ℕ → Card
@@ -211,6 +221,60 @@ nearest-block-for-the-first = refl
 pub hint-passed-over : runNearestTest Service playerCard (below0 8 3) (lending []) 8 ≡ true
 unfolding computing
 hint-passed-over = refl
+
+-- ---- one-key-unsealed
+
+pub sealed-by-one-key : oneKeyUnsealedTest (λ high low. false) readKeyed Reading 1 ≡ true
+unfolding computing
+sealed-by-one-key = refl
+
+pub sealed-by-the-write-key : oneKeyUnsealedTest (λ high low. false) writeKeyed Writing 1 ≡ true
+unfolding computing
+sealed-by-the-write-key = refl
+
+-- ---- other-key-kept, own-key-set, both-windows-closed and write-access-needed: a key of block 1, by its credential and the new key
+
+abbrev of1 : Credential → NewKey → KeyOperands
+of1 credential key = record { block = 1; credential = credential; key = key }
+
+-- Block 1 has both keys, and both of its windows are open.
+abbrev keyedOpen : Card
+keyedOpen =
+    card (withUsed (freshInfo 16 1 512) 1) (1 ∷ 7 ∷ zeros 14) (zeros 4 ++ (1 ∷ 2 ∷ 3 ∷ 4 ∷ zeros 56)) (0 ∷ 1 ∷ zeros 14) (1 ∷ zeros 31)
+    (0 ∷ 0 ∷ 10 ∷ 10 ∷ zeros 28)
+    (zeros 8192)
+
+pub write-key-cleared-with-the-read-key : otherKeyKeptTest Service (keyed (zeros 8192)) Reading (of1 Nothing (Present 5 6)) (lending []) ≡ true
+unfolding computing
+write-key-cleared-with-the-read-key = refl
+
+pub flag-of-the-other-key-cleared : otherKeyKeptTest Service (keyed (zeros 8192)) Reading (of1 Nothing (Present 5 6)) (lending []) ≡ true
+unfolding computing
+flag-of-the-other-key-cleared = refl
+
+pub flag-of-an-absent-key-kept : ownKeySetTest Service (keyed (zeros 8192)) Writing (of1 Nothing Absent) (lending []) ≡ true
+unfolding computing
+flag-of-an-absent-key-kept = refl
+
+pub low-word-set-first : ownKeySetTest Service twoBelow Writing (of1 Nothing (Present 3 4)) (lending []) ≡ true
+unfolding computing
+low-word-set-first = refl
+
+pub window-of-its-own-mode-closed : bothWindowsClosedTest Host keyedOpen Writing (of1 (KeyCredential 3 4) (Present 3 4)) (lending []) ≡ true
+unfolding computing
+window-of-its-own-mode-closed = refl
+
+pub windows-left-by-an-absent-key : bothWindowsClosedTest Service keyedOpen Reading (of1 Nothing Absent) (lending []) ≡ true
+unfolding computing
+windows-left-by-an-absent-key = refl
+
+pub old-read-key-sets-a-new-one : writeAccessNeededTest (keyed (zeros 8192)) Reading (of1 (KeyCredential 1 2) (Present 5 6)) (lending []) ≡ true
+unfolding computing
+old-read-key-sets-a-new-one = refl
+
+pub key-taken-away-without-access : writeAccessNeededTest twoBelow Writing (of1 Nothing Absent) (lending []) ≡ true
+unfolding computing
+key-taken-away-without-access = refl
 
 -- ---- window-set-by
 

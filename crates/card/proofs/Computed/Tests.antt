@@ -13,11 +13,12 @@ use Rattle.card.specs.Lists.{every, all, allBelow}
 use Rattle.card.specs.ListsLaws.{and-left, and-right, and-true, or-left, or-right, or-cases, or-else, absurd-test, false-unless, not-cases, every-true, true-every, allBelow-true, true-allBelow}
 use Rattle.card.specs.Pointers.{ascending, pointersTo}
 use Rattle.card.specs.Contents.{zeros}
-use Rattle.card.specs.Card.{Card, allocated, isRoot, freeBlocks, windowEnd, count, inUse, block}
+use Rattle.card.specs.Card.{Card, allocated, hasKey, isRoot, freeBlocks, windowEnd, windowOpen, count, inUse, pointsTo, keyHigh, keyLow, block}
 use Rattle.card.specs.Soundness.{ranges, lengths, shape, sound}
 use Rattle.card.specs.SoundCard.{SoundCard}
 use Rattle.card.specs.SoundnessLaws.{shape-true, true-shape, sound-true, true-sound}
-use Rattle.card.specs.Plan.{Check, _⇒_, FirstHolds, here, later, NoneHolds, Buffers, Result}
+use Rattle.card.specs.Plan.{Check, _⇒_, FirstHolds, here, later, NoneHolds, isPresent, highWord, lowWord, otherMode, keyBit, Buffers, Result}
+use Rattle.card.specs.ChangesLaws.{other-mode}
 use Rattle.card.specs.Calls.{refusalNumber, answerNumber, answerValues, isDone, format, noHint, distance, isRun}
 use Rattle.card.specs.RunsLaws.{run-blocks, blocks-run}
 use Rattle.card.specs.Session.{Request, Sent, portOf, EitherPort, refusals, perform, performed, replies, afterAll, hostSession}
@@ -27,18 +28,24 @@ use Rattle.card.specs.Trials.{Trial, trialTable, trialReports, trials}
 use Rattle.card.specs.declared.Port.{Port}
 use Rattle.card.specs.declared.Port.the-variants.{Host, Service}
 use Rattle.card.specs.declared.Mode.{Mode}
+use Rattle.card.specs.declared.Mode.the-variants.{Reading, Writing}
+use Rattle.card.specs.declared.Credential.{Credential}
+use Rattle.card.specs.declared.Credential.the-variants.{Nothing, Reference, Key}
+use Rattle.card.specs.declared.NewKey.{NewKey}
 use Rattle.card.specs.declared.Refusal.{Refusal}
 use Rattle.card.specs.declared.Answer.{Answer}
 use Rattle.card.specs.declared.Answer.the-variants.{Refused, Done, Value}
 use Rattle.card.specs.declared.Refusal.the-variants.{Misshapen, Unsound, NotAllocated, BadOperand, NotOpened, IsRoot, PointerExists, NoPointer, HasPointers, TooFewBlocks, TooFewPlaces, TimeEnds, BadRecord, NoRun}
 use Rattle.card.specs.declared.Call.{Call}
 use Rattle.card.specs.declared.AllocOperands.{AllocOperands}
+use Rattle.card.specs.declared.KeyOperands.{KeyOperands}
 use Rattle.card.proofs.Guarantees.Unchanged.{Unchanged, refusal-unchanged}
 use Rattle.card.proofs.Guarantees.KeepsSound.{done-sound, counts-right, pointers-ascending}
 use Rattle.card.proofs.Guarantees.Format.{format-sound}
 use Rattle.card.proofs.Guarantees.Untouched.{LeftAlone, AllottedZeroed, untouched}
 use Rattle.card.proofs.Guarantees.RefusedIff.{refused-iff}
 use Rattle.card.proofs.Guarantees.Runs.{Run, contig, RunFound, RunAdjoins, RunNearest, some-blocks, run-found, run-adjoins, run-nearest}
+use Rattle.card.proofs.Guarantees.Keys.{setting, WriteAccess, byWriteKey, byReference, one-key-unsealed, other-key-kept, own-key-set, both-windows-closed, write-access-needed}
 use Rattle.card.proofs.Guarantees.WindowSet.{SetBy, window-set-by}
 use Rattle.card.proofs.Secrecy.Theorem.{EqualBut, HiddenOrFree, Secret, same-hidden, secrecy}
 use Rattle.card.proofs.Secrecy.Bounds.{bounds, reach-inside}
@@ -329,6 +336,72 @@ run-nearest-tested port c o lent other =
     let near = r .hinted (eqb-false _ _ (not-true _ n)) in
     and-true _ _ (le-leb _ _ (near .0)) (true-implies (ltb other (given port c o lent 0)) _ (λ l. lt-ltb _ _ (near .1 (ltb-true _ _ l))))))
     (true-implies (eqb (o .hint) noHint) _ (λ e. le-leb _ _ (r .unhinted (eqb-true _ _ e)))))
+
+-- ---- one-key-unsealed, other-key-kept, own-key-set, both-windows-closed and write-access-needed
+
+abbrev pub oneKeyUnsealedTest : (ℕ → ℕ → Bool) → Card → Mode → ℕ → Bool
+oneKeyUnsealedTest K c mode b = implies (hasKey (c .public) mode b && not (hasKey (c .public) (otherMode mode) b)) (not (sealed K c b))
+
+pub one-key-unsealed-tested : (K : ℕ → ℕ → Bool) (c : Card) (mode : Mode) (b : ℕ) → oneKeyUnsealedTest K c mode b ≡ true
+one-key-unsealed-tested K c mode b =
+    true-implies (hasKey (c .public) mode b && not (hasKey (c .public) (otherMode mode) b)) _
+    (λ h. ap not (one-key-unsealed K c mode b (and-left _ _ h) (not-true _ (and-right (hasKey (c .public) mode b) _ h))))
+
+-- A block's key for the mode: its flag and its words.
+abbrev keyNumbers : Card → Mode → ℕ → List ℕ
+keyNumbers c m b = keyBit m (hasKey (c .public) m b) ∷ keyHigh (c .keys) m b ∷ keyLow (c .keys) m b ∷ []
+
+abbrev newKeyNumbers : Mode → NewKey → List ℕ
+newKeyNumbers m key = keyBit m (isPresent key) ∷ highWord key ∷ lowWord key ∷ []
+
+-- It is worked out apart from the rules' own access test.
+abbrev hasWriteAccess : Card → ℕ → Credential → Bool
+hasWriteAccess c b Nothing = false
+hasWriteAccess c b (Reference r) =
+    not (hasKey (c .public) Writing b) && (allocated (c .public) r && (pointsTo (c .public) r b && windowOpen (c .public) Writing r))
+hasWriteAccess c b (Key high low) = hasKey (c .public) Writing b && (eqb (keyHigh (c .keys) Writing b) high && eqb (keyLow (c .keys) Writing b) low)
+
+true-hasWriteAccess : (c : Card) (b : ℕ) {credential : Credential} → WriteAccess c b credential → hasWriteAccess c b credential ≡ true
+true-hasWriteAccess c b (byWriteKey k h l) = and-true _ _ k (and-true _ _ (eq-eqb _ _ h) (eq-eqb _ _ l))
+true-hasWriteAccess c b (byReference k a p w) = and-true _ _ (ap not k) (and-true _ _ a (and-true _ _ p w))
+
+module _ (port : Port) (c : Card) (mode : Mode) (o : KeyOperands) (lent : Buffers) where
+  abbrev keySet : Result
+  keySet = perform port c (setting mode o lent)
+
+  -- The other key of the block that is named.
+  abbrev pub otherKeyKeptTest : Bool
+  otherKeyKeptTest = sameList (keyNumbers (keySet .after) (otherMode mode) (o .block)) (keyNumbers c (otherMode mode) (o .block))
+
+  abbrev pub ownKeySetTest : Bool
+  ownKeySetTest = implies (isDone (keySet .answer)) (sameList (keyNumbers (keySet .after) mode (o .block)) (newKeyNumbers mode (o .key)))
+
+  abbrev pub bothWindowsClosedTest : Bool
+  bothWindowsClosedTest =
+      implies (isDone (keySet .answer))
+      (eqb (windowEnd (keySet .after .public) Reading (o .block)) 0 && eqb (windowEnd (keySet .after .public) Writing (o .block)) 0)
+
+  pub other-key-kept-tested : otherKeyKeptTest ≡ true
+  other-key-kept-tested =
+      let k = other-key-kept port c mode o lent (otherMode mode) (o .block) (λ e _. other-mode mode e) in
+      true-sameList (λ i. keyBit (otherMode mode) (k .there i) ∷ k .high i ∷ k .low i ∷ [])
+
+  pub own-key-set-tested : ownKeySetTest ≡ true
+  own-key-set-tested =
+      true-implies (isDone (keySet .answer)) _
+      (λ d. let k = own-key-set port c mode o lent d in true-sameList (λ i. keyBit mode (k .there i) ∷ k .high i ∷ k .low i ∷ []))
+
+  pub both-windows-closed-tested : bothWindowsClosedTest ≡ true
+  both-windows-closed-tested =
+      true-implies (isDone (keySet .answer)) _
+      (λ d. let w = both-windows-closed port c mode o lent d in and-true _ _ (eq-eqb _ _ (w Reading)) (eq-eqb _ _ (w Writing)))
+
+abbrev pub writeAccessNeededTest : Card → Mode → KeyOperands → Buffers → Bool
+writeAccessNeededTest c mode o lent = implies (isDone (perform Host c (setting mode o lent) .answer)) (hasWriteAccess c (o .block) (o .credential))
+
+pub write-access-needed-tested : (c : Card) (mode : Mode) (o : KeyOperands) (lent : Buffers) → writeAccessNeededTest c mode o lent ≡ true
+write-access-needed-tested c mode o lent =
+    true-implies (isDone (perform Host c (setting mode o lent) .answer)) _ (λ d. true-hasWriteAccess c (o .block) (write-access-needed c mode o lent d))
 
 -- ---- window-set-by
 

@@ -244,7 +244,7 @@ closed-either P windows b j new old =
     getD-set-either P (set windows (windowAt Reading b) 0) (windowAt Writing b) 0 j new
     (getD-set-either P windows (windowAt Reading b) 0 j new old)
 
-closed-same : (windows : List ℕ) (b : ℕ) → 2 * b + 1 < length windows → (mode : Mode) → getD (closed windows b) (windowAt mode b) 0 ≡ 0
+pub closed-same : (windows : List ℕ) (b : ℕ) → 2 * b + 1 < length windows → (mode : Mode) → getD (closed windows b) (windowAt mode b) 0 ≡ 0
 closed-same windows b fits Reading =
     getD-set-other (set windows (2 * b) 0) (2 * b + 1) (2 * b) 0 0 (λ e. omega arith) ∙ getD-set-same windows (2 * b) 0 0 (omega arith)
 closed-same windows b fits Writing =
