@@ -276,8 +276,8 @@ deletePlan port p opened o =
 abbrev pub closeWindows : ℕ → List Change
 closeWindows b = setWindow Reading b 0 ∷ (setWindow Writing b 0 ∷ [])
 
--- "KEY_READ and KEY_WRITE, each with one new key or none", where the mode says whose key. "Both need the write access that KEY needs", so `opened` says that
--- b is opened for writing; "and both close the block's two windows".
+-- "KEY_READ and KEY_WRITE, each with one new key or none": the mode is that of the key. "Both need the write access that KEY needs", so `opened` says
+-- that the block is opened for writing, "and both close the block's two windows".
 unfoldable pub keyPlan : Port → Public → Bool → Mode → KeyOperands → Plan
 keyPlan port p opened mode o = record {
   checks =

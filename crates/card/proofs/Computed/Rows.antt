@@ -252,9 +252,9 @@ pub flag-of-the-other-key-cleared : otherKeyKeptTest Service (keyed (zeros 8192)
 unfolding computing
 flag-of-the-other-key-cleared = refl
 
-pub flag-of-an-absent-key-kept : ownKeySetTest Service (keyed (zeros 8192)) Writing (of1 Nothing Absent) (lending []) ≡ true
+pub absent-key-flagged : ownKeySetTest Service (keyed (zeros 8192)) Writing (of1 Nothing Absent) (lending []) ≡ true
 unfolding computing
-flag-of-an-absent-key-kept = refl
+absent-key-flagged = refl
 
 pub low-word-set-first : ownKeySetTest Service twoBelow Writing (of1 Nothing (Present 3 4)) (lending []) ≡ true
 unfolding computing

@@ -381,20 +381,20 @@ module _ (port : Port) (c : Card) (mode : Mode) (o : KeyOperands) (lent : Buffer
       implies (isDone (keySet .answer))
       (eqb (windowEnd (keySet .after .public) Reading (o .block)) 0 && eqb (windowEnd (keySet .after .public) Writing (o .block)) 0)
 
-  pub other-key-kept-tested : otherKeyKeptTest ≡ true
-  other-key-kept-tested =
-      let k = other-key-kept port c mode o lent (otherMode mode) (o .block) (λ e _. other-mode mode e) in
-      true-sameList (λ i. keyBit (otherMode mode) (k .there i) ∷ k .high i ∷ k .low i ∷ [])
+pub other-key-kept-tested : (port : Port) (c : Card) (mode : Mode) (o : KeyOperands) (lent : Buffers) → otherKeyKeptTest port c mode o lent ≡ true
+other-key-kept-tested port c mode o lent =
+    let k = other-key-kept port c mode o lent (otherMode mode) (o .block) (λ e _. other-mode mode e) in
+    true-sameList (λ i. keyBit (otherMode mode) (k .there i) ∷ k .high i ∷ k .low i ∷ [])
 
-  pub own-key-set-tested : ownKeySetTest ≡ true
-  own-key-set-tested =
-      true-implies (isDone (keySet .answer)) _
-      (λ d. let k = own-key-set port c mode o lent d in true-sameList (λ i. keyBit mode (k .there i) ∷ k .high i ∷ k .low i ∷ []))
+pub own-key-set-tested : (port : Port) (c : Card) (mode : Mode) (o : KeyOperands) (lent : Buffers) → ownKeySetTest port c mode o lent ≡ true
+own-key-set-tested port c mode o lent =
+    true-implies (isDone (keySet port c mode o lent .answer)) _
+    (λ d. let k = own-key-set port c mode o lent d in true-sameList (λ i. keyBit mode (k .there i) ∷ k .high i ∷ k .low i ∷ []))
 
-  pub both-windows-closed-tested : bothWindowsClosedTest ≡ true
-  both-windows-closed-tested =
-      true-implies (isDone (keySet .answer)) _
-      (λ d. let w = both-windows-closed port c mode o lent d in and-true _ _ (eq-eqb _ _ (w Reading)) (eq-eqb _ _ (w Writing)))
+pub both-windows-closed-tested : (port : Port) (c : Card) (mode : Mode) (o : KeyOperands) (lent : Buffers) → bothWindowsClosedTest port c mode o lent ≡ true
+both-windows-closed-tested port c mode o lent =
+    true-implies (isDone (keySet port c mode o lent .answer)) _
+    (λ d. let w = both-windows-closed port c mode o lent d in and-true _ _ (eq-eqb _ _ (w Reading)) (eq-eqb _ _ (w Writing)))
 
 abbrev pub writeAccessNeededTest : Card → Mode → KeyOperands → Buffers → Bool
 writeAccessNeededTest c mode o lent = implies (isDone (perform Host c (setting mode o lent) .answer)) (hasWriteAccess c (o .block) (o .credential))
