@@ -20,7 +20,7 @@ use Rattle.card.specs.declared.Mode.the-variants.{Reading, Writing}
 use Rattle.card.specs.declared.Credential.{Credential}
 use Rattle.card.specs.declared.Credential.the-variants.{Nothing, Reference, Key as KeyCredential}
 use Rattle.card.specs.declared.NewKey.{NewKey}
-use Rattle.card.specs.declared.NewKey.the-variants.{Absent, Present}
+use Rattle.card.specs.declared.NewKey.the-variants.{Present}
 use Rattle.card.specs.declared.Call.{Call}
 use Rattle.card.specs.declared.Call.the-variants.{Read, Write, Alloc, AllocContig, Create, Delete, Free, Tick}
 
@@ -137,7 +137,7 @@ trialTable =
     ∷ read Service 2 Nothing 0
     ∷ []
     yields (0 ∷ 1 ∷ 2 ∷ []) ∷ (0 ∷ []) ∷ (0 ∷ replicate 8 7) ∷ (0 ∷ 1 ∷ []) ∷ (0 ∷ 2 ∷ []) ∷ (0 ∷ zeros8) ∷ [])
-    -- the example of ten records
+    -- the example of ten records, its second as 2026-02 has it
     ∷ (alloc Service 0 65535 2
     ∷ key Service Reading 1 Nothing (Present 1 2)
     ∷ read Host 1 Nothing 0

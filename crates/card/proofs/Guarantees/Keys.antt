@@ -3,21 +3,21 @@
 use Prim.Native.Nat.{ℕ, _+_, _*_, _≤_, _<_}
 use mathlib.Core.Path.{_≡_, refl, sym, ap, _∙_, subst}
 use mathlib.Core.Logic.{⊎-elim}
-use mathlib.Core.Bool.{Bool, true, false, _&&_, not, cond}
+use mathlib.Core.Bool.{Bool, true, false, _&&_, cond}
 use native.Mathlib.Omega.{arith}
 use lib.Dec.{eqb}
 use lib.ListN.{length, getD, set}
 use lib.Seq.{getD-set-same, getD-set-other}
 use borrow.Author.Tests.{eqb-true, not-false}
 use Rattle.card.specs.ListsLaws.{and-left, and-right, and-false-left, and-false-right, absurd-test, same-or-other}
-use Rattle.card.specs.Card.{Public, Card, flag, keyFlag, allocated, hasKey, isRoot, windowEnd, windowOpen, pointsTo, keyHigh, keyLow}
+use Rattle.card.specs.Card.{Card, flag, keyFlag, allocated, hasKey, isRoot, windowEnd, windowOpen, pointsTo, keyHigh, keyLow}
 use Rattle.card.specs.SoundCard.{SoundCard}
 use Rattle.card.specs.SoundnessLaws.{allocated-below}
 use Rattle.card.specs.Access.{keyIs, keyOpens, opensKeyed, opensRoot, opensPointed, opens, admits}
-use Rattle.card.specs.Plan.{NoneHolds, isPresent, highWord, lowWord, otherMode, keyedFlags, setKey, changePublic, changeKeys, change, changes, Plan, Buffers, Result, refused, done, settle}
-use Rattle.card.specs.ChangesLaws.{getD-set-either, other-mode, mode-or-other, keyed-own, keyed-other, replaced-high, replaced-low, kept-high, kept-low}
+use Rattle.card.specs.Plan.{NoneHolds, isPresent, highWord, lowWord, otherMode, keyedFlags, changePublic, changeKeys, change, changes, Plan, Buffers, Result, refused, done, settle}
+use Rattle.card.specs.ChangesLaws.{getD-set-either, mode-or-other, keyed-own, keyed-other, replaced-high, replaced-low, kept-high, kept-low}
 use Rattle.card.specs.Calls.{isDone, rootAtHost, keyPlan}
-use Rattle.card.specs.Session.{keyCall, Request, plan, perform}
+use Rattle.card.specs.Session.{keyCall, Request, perform}
 use Rattle.card.specs.SessionLaws.{plan-key}
 use Rattle.card.specs.Reach.{sealed}
 use Rattle.card.specs.declared.Port.{Port}
