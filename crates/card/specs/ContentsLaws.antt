@@ -18,7 +18,7 @@ module _ (xs : List ℕ) (at : ℕ) (ys : List ℕ) (fits : at + length ys ≤ l
   overwrite-length = simp (length-append, length-take, length-drop) (omega arith)
 
   -- Before the part.
-  pub overwrite-before : (i : ℕ) → i < at → getD (overwrite xs at ys) i 0 ≡ getD xs i 0
+  overwrite-before : (i : ℕ) → i < at → getD (overwrite xs at ys) i 0 ≡ getD xs i 0
   unfolding overwrite
   overwrite-before i h =
       List·getD-append (take at xs) (ys ++ drop (at + length ys) xs) 0 i (simp length-take (omega arith)) ∙ getD-take at xs i 0 h
