@@ -714,7 +714,7 @@ uint32_t negvask_delete(NEGVASK_TABLES,
  *
  * The block's read key is set to the new key, or taken away if there is
  * none. Both windows of the block become 0, also where the new key is the
- * same or there was none. Unmodified: the write key, counts, pointers,
+ * one that it had, or none. Unmodified: the write key, counts, pointers,
  * contents, the record, and the rows of all other blocks.
  *
  * A host needs what opens the block for writing: its write key or, without
@@ -746,7 +746,7 @@ uint32_t negvask_key_read(NEGVASK_TABLES,
  *
  * The block's write key is set to the new key, or taken away if there is
  * none. Both windows of the block become 0, also where the new key is the
- * same or there was none. Unmodified: the read key, counts, pointers,
+ * one that it had, or none. Unmodified: the read key, counts, pointers,
  * contents, the record, and the rows of all other blocks.
  *
  * A host needs what opens the block for writing: its present write key

@@ -792,9 +792,7 @@ fn rows(size: Size) -> Vec<Row> {
     let write_call = Direct::Write { port: 0, block: 2, credential: key(WRITER), interval: 10, data: data.clone() };
     let write = repeated(s, calls, &write_call, |c, _| done(plain::write(c, 2, WRITER, 10, black_box(&data))));
     let new = |k| new_key_bytes(Some(k));
-    let plain_key = |c: &mut Card, operation, k| {
-        done(plain::set_key(c, operation, 2, WRITER, black_box(Some(k))));
-    };
+    let plain_key = |c: &mut Card, operation, k| done(plain::set_key(c, operation, 2, WRITER, black_box(Some(k))));
     let read_key_call = Direct::KeyRead { port: 0, block: 2, credential: key(WRITER), key: new(READER) };
     let read_key = repeated(s, calls, &read_key_call, |c, _| plain_key(c, Operation::Reading, READER));
     let write_key_call = Direct::KeyWrite { port: 0, block: 2, credential: key(WRITER), key: new(WRITER) };
@@ -958,9 +956,8 @@ fn main() {
     }
     println!();
     println!("Targets: AUDIT against the plain audit; READ and WRITE against the library's own audit plus a copy of");
-    println!(
-        "B bytes; ALLOC 64, CONTIG 64, CREATE, DELETE and the two key calls against the plain call, audit included."
-    );
+    println!("B bytes; ALLOC 64, CONTIG 64, CREATE, DELETE, KEY_READ and KEY_WRITE against the plain call, audit");
+    println!("included.");
     println!();
     println!("| growth of | from | to | N + P grows | library grows | plain grows |");
     println!("| --- | --- | --- | ---: | ---: | ---: |");
