@@ -113,6 +113,25 @@ impl Chooser {
         self.perhaps_wrong(rnd, raw, &[3, 4, 128, 255])
     }
 
+    /// Whether a host with the known keys may write the block.
+    fn writable(&self, card: &Card, b: usize) -> bool {
+        let open = |p| ends(p).1 == b && card.window_open(ends(p).0, Operation::Writing);
+        match card.key(b, Operation::Writing) {
+            Some(k) => self.known.contains(&k),
+            None => card.pointers[..card.used()].iter().any(|&p| open(p)),
+        }
+    }
+
+    /// A block to set a key of: any, or one with both windows open, which few have, that a host may write.
+    pub fn key_block(&self, rnd: &mut Random, card: &Card) -> u16 {
+        let open = |b| card.window_open(b, Operation::Reading) && card.window_open(b, Operation::Writing);
+        let found = self.some(rnd, card, |b| !card.root(b) && open(b) && self.writable(card, b));
+        match found {
+            Some(b) if rnd.percent(40) => b as u16,
+            _ => self.block(rnd, card),
+        }
+    }
+
     /// A new key of the block for the operation: none, the one that it has, or any.
     pub fn new_key(&self, rnd: &mut Random, card: &Card, block: u16, operation: Operation) -> Raw {
         let key = match rnd.below(20) {
@@ -259,7 +278,7 @@ impl Chooser {
             }
             73..=80 => {
                 let operation = rnd.of(&[Operation::Reading, Operation::Writing]);
-                let block = self.block(rnd, card);
+                let block = self.key_block(rnd, card);
                 let credential = self.raw(rnd, card, block, Operation::Writing);
                 let key = self.new_key(rnd, card, block, operation);
                 match operation {
