@@ -1,7 +1,7 @@
 /*
  * Two wires: the operator's records arrive at the service port and a host's at the host port, each lot performed with
- * one check of the card. They are the ten records of the example in document 01, and one more: the host sends a record
- * of the service port, which does not exist at its port.
+ * one check of the card. They are the ten records of the example in document 01, the second as request 2026-02 has it,
+ * and one more: the host sends a record of the service port, which does not exist at its port.
  *
  *   cc -I include examples/batch.c path/to/libinterface.a -o batch && ./batch
  *
@@ -24,7 +24,7 @@ NEGVASK_STORAGE(card, BLOCKS, BYTES, PLACES);
 
 static const uint8_t allot[] = {
 	131, 0, 0, NOTHING, 255, 255, 2,                                  /* service ALLOC at 0, no hint, count 2 */
-	134, 0, 1, NOTHING, 1, ZEROS_8, ZEROS_8, 1, ZEROS_8, ZEROS_8,     /* service KEY of 1 with both keys */
+	134, 0, 1, NOTHING, 1, ZEROS_8, ZEROS_8,                          /* service KEY_READ of 1 */
 };
 
 static const uint8_t host[] = {

@@ -1,7 +1,7 @@
 /*
  * A short host: formats a card, has a block allotted and keyed by the service port, then writes and reads as a host,
- * by key and by reference within a window, and is refused once the window has ended. It takes a run of blocks for an
- * event file.
+ * by key and by reference within a window, and is refused once the window has ended. It sets the read key of a new
+ * season, and takes a run of blocks for an event file.
  *
  *   cc -I include examples/host.c path/to/libinterface.a -o host && ./host
  *
@@ -23,6 +23,9 @@ NEGVASK_STORAGE(card, BLOCKS, BYTES, PLACES);
 #define READ_LOW   0x0000000000000001u
 #define WRITE_HIGH 0x0123456789ABCDEFu
 #define WRITE_LOW  0x0000000000000002u
+/* Its read key of the next season. */
+#define NEXT_HIGH  0x0123456789ABCDEFu
+#define NEXT_LOW   0x0000000000000003u
 
 static void show(const char *what, uint32_t answer)
 {
@@ -36,8 +39,10 @@ int main(void)
 	const struct negvask_credential root = negvask_by_reference(0);
 	const struct negvask_credential reader = negvask_by_key(READ_HIGH, READ_LOW);
 	const struct negvask_credential writer = negvask_by_key(WRITE_HIGH, WRITE_LOW);
+	const struct negvask_credential next_reader = negvask_by_key(NEXT_HIGH, NEXT_LOW);
 	const struct negvask_new_key read_key = negvask_set_key(READ_HIGH, READ_LOW);
 	const struct negvask_new_key write_key = negvask_set_key(WRITE_HIGH, WRITE_LOW);
+	const struct negvask_new_key next_read_key = negvask_set_key(NEXT_HIGH, NEXT_LOW);
 	uint8_t data[BYTES] = { 0 }, out[BYTES] = { 0 };
 	uint64_t value = 0;
 	uint32_t answer;
@@ -48,9 +53,10 @@ int main(void)
 	show("service: allot 2 blocks below root 0",
 		negvask_alloc(CARD, NEGVASK_SERVICE, 0, NEGVASK_BYTES(nothing), NEGVASK_NO_HINT, 2, places, 2));
 	printf("  blocks %u and %u\n", (unsigned)places[0], (unsigned)places[1]);
-	show("service: set both keys of the first",
-		negvask_key(CARD, NEGVASK_SERVICE, places[0], NEGVASK_BYTES(nothing),
-			NEGVASK_BYTES(read_key), NEGVASK_BYTES(write_key)));
+	show("service: set the read key of the first",
+		negvask_key_read(CARD, NEGVASK_SERVICE, places[0], NEGVASK_BYTES(nothing), NEGVASK_BYTES(read_key)));
+	show("service: set its write key",
+		negvask_key_write(CARD, NEGVASK_SERVICE, places[0], NEGVASK_BYTES(nothing), NEGVASK_BYTES(write_key)));
 	memcpy(data, "listing of the second block", 28);
 	show("service: write the second block",
 		negvask_write(CARD, NEGVASK_SERVICE, places[1], NEGVASK_BYTES(nothing), 0, data, BYTES));
@@ -65,6 +71,20 @@ int main(void)
 	printf("  \"%s\"\n", (const char *)out);
 	show("host: write it by its read key",
 		negvask_write(CARD, NEGVASK_HOST, places[0], NEGVASK_BYTES(reader), 0, data, BYTES));
+
+	/* A new season: the write key, and not the read key, sets another read key. The write key stays as it is. */
+	show("host: set a new read key by the read key",
+		negvask_key_read(CARD, NEGVASK_HOST, places[0], NEGVASK_BYTES(reader), NEGVASK_BYTES(next_read_key)));
+	show("host: set a new read key by the write key",
+		negvask_key_read(CARD, NEGVASK_HOST, places[0], NEGVASK_BYTES(writer), NEGVASK_BYTES(next_read_key)));
+	show("host: read it by the last season's key",
+		negvask_read(CARD, NEGVASK_HOST, places[0], NEGVASK_BYTES(reader), 0, out, BYTES));
+	memcpy(data, "waveform 18", 12);
+	show("host: write it by its write key",
+		negvask_write(CARD, NEGVASK_HOST, places[0], NEGVASK_BYTES(writer), 0, data, BYTES));
+	show("host: read it by its new read key",
+		negvask_read(CARD, NEGVASK_HOST, places[0], NEGVASK_BYTES(next_reader), 0, out, BYTES));
+	printf("  \"%s\"\n", (const char *)out);
 
 	/* The second block has no key: it is read by reference to the root, while the root's read window is open. */
 	show("host: read the second by reference to root 0",

@@ -143,7 +143,10 @@
  *
  * A new key is 17 bytes too: 1 and the key's 16 bytes, or 0 and 16 zeros
  * for none. A key has 128 bits, and 0 is one too. negvask_set_key() and
- * negvask_set_no_key() make the bytes.
+ * negvask_set_no_key() make the bytes. A block's read key and its write
+ * key are set separately, by negvask_key_read() and negvask_key_write().
+ * With one key alone, a block is open to a reference, or a root to every
+ * host, for the other operation.
  *
  * Worked example
  * --------------
@@ -168,8 +171,10 @@
  *   // The operator allots a block below root 0 and gives it two keys.
  *   negvask_alloc(CARD, NEGVASK_SERVICE, 0, NEGVASK_BYTES(nothing),
  *                 NEGVASK_NO_HINT, 1, place, 1);
- *   negvask_key(CARD, NEGVASK_SERVICE, place[0], NEGVASK_BYTES(nothing),
- *               NEGVASK_BYTES(read_key), NEGVASK_BYTES(write_key));
+ *   negvask_key_read(CARD, NEGVASK_SERVICE, place[0],
+ *                    NEGVASK_BYTES(nothing), NEGVASK_BYTES(read_key));
+ *   negvask_key_write(CARD, NEGVASK_SERVICE, place[0],
+ *                     NEGVASK_BYTES(nothing), NEGVASK_BYTES(write_key));
  *
  *   // A host writes by the write key and reads by the read key.
  *   negvask_write(CARD, NEGVASK_HOST, place[0], NEGVASK_BYTES(writer),
@@ -705,14 +710,18 @@ uint32_t negvask_delete(NEGVASK_TABLES,
 	uint16_t destination, uint64_t *value);
 
 /**
- * \brief Replace both keys of a block.
+ * \brief Replace the read key of a block.
  *
- * Each of the two is set to the new key, or taken away if there is none.
- * Both windows of the block become 0. Unmodified: counts, pointers,
+ * The block's read key is set to the new key, or taken away if there is
+ * none. Both windows of the block become 0, also where the new key is the
+ * one that it had, or none. Unmodified: the write key, counts, pointers,
  * contents, the record, and the rows of all other blocks.
  *
+ * A host needs what opens the block for writing: its write key or, without
+ * one, a reference whose write window is open. The read key does not do.
+ *
  * Refusals, in order:
- *   13  `port` is neither 0 nor 1; the credential or a new key is ill
+ *   13  `port` is neither 0 nor 1; the credential or the new key is ill
  *       formed
  *   1   out of shape
  *   2   unsound
@@ -724,16 +733,46 @@ uint32_t negvask_delete(NEGVASK_TABLES,
  * \param block           the block's number.
  * \param credential      17 bytes that open the block.
  * \param credential_len  17.
- * \param read            17 bytes, the new read key or none.
- * \param read_len        17.
- * \param write           17 bytes, the new write key or none.
- * \param write_len       17.
+ * \param key             17 bytes, the new read key or none.
+ * \param key_len         17.
  * \return  0 or a refusal.
  */
-uint32_t negvask_key(NEGVASK_TABLES,
+uint32_t negvask_key_read(NEGVASK_TABLES,
 	uint8_t port, uint16_t block, NEGVASK_CREDENTIAL,
-	const uint8_t *read, size_t read_len,
-	const uint8_t *write, size_t write_len);
+	const uint8_t *key, size_t key_len);
+
+/**
+ * \brief Replace the write key of a block.
+ *
+ * The block's write key is set to the new key, or taken away if there is
+ * none. Both windows of the block become 0, also where the new key is the
+ * one that it had, or none. Unmodified: the read key, counts, pointers,
+ * contents, the record, and the rows of all other blocks.
+ *
+ * A host needs what opens the block for writing: its present write key
+ * or, without one, a reference whose write window is open. The read key
+ * does not do.
+ *
+ * Refusals, in order:
+ *   13  `port` is neither 0 nor 1; the credential or the new key is ill
+ *       formed
+ *   1   out of shape
+ *   2   unsound
+ *   3   `block` is not below N or not allocated
+ *   6   `block` is a root and the call is a host's
+ *   5   a host's credential does not open `block` for writing
+ *
+ * \param port            NEGVASK_HOST or NEGVASK_SERVICE.
+ * \param block           the block's number.
+ * \param credential      17 bytes that open the block.
+ * \param credential_len  17.
+ * \param key             17 bytes, the new write key or none.
+ * \param key_len         17.
+ * \return  0 or a refusal.
+ */
+uint32_t negvask_key_write(NEGVASK_TABLES,
+	uint8_t port, uint16_t block, NEGVASK_CREDENTIAL,
+	const uint8_t *key, size_t key_len);
 
 /**
  * \brief Renew a window by a key, without reading or writing: a host's
@@ -827,19 +866,20 @@ uint32_t negvask_tick(NEGVASK_TABLES, uint64_t seconds, uint64_t *value);
  *    4  CREATE         38    source 2, credential 17, destination 2,
  *                            credential 17
  *    5  DELETE         21    source 2, credential 17, destination 2
- *    6  KEY            53    block 2, credential 17, new read key 17, new
- *                            write key 17
+ *    6  KEY_READ       36    block 2, credential 17, new read key 17
  *    7  RENEW          23    mode 1, block 2, key 16, interval 4
  *    8  FORCE           2    block 2
  *    9  FREE            0
  *   10  TICK            8    seconds 8
  *   11  AUDIT           0
  *   12  ALLOC_CONTIG   22    reference 2, credential 17, hint 2, count 1
+ *   13  KEY_WRITE      36    block 2, credential 17, new write key 17
  *
  * These are a host's calls at either port, and judged as a host's. At
- * NEGVASK_SERVICE there are also kinds 129 to 134 and 140, which are 1 to
- * 6 and 12 as calls at the service port; at NEGVASK_HOST these do not
- * exist. Credentials and new keys are described at the top of this file.
+ * NEGVASK_SERVICE there are also kinds 129 to 134, 140 and 141, which are
+ * 1 to 6, 12 and 13 as calls at the service port; at NEGVASK_HOST these
+ * do not exist. Credentials and new keys are described at the top of this
+ * file.
  *
  * The record's call is performed as by its function above, with `out`
  * lent to READ, `places` to ALLOC and ALLOC_CONTIG, and `value` to DELETE,

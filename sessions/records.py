@@ -189,15 +189,16 @@ CALLS: dict[str, tuple[int, tuple[Field, ...]]] = {
     "ALLOC": (3, (BLOCK, CREDENTIAL, HINT, COUNT)),
     "CREATE": (4, (BLOCK, CREDENTIAL, BLOCK, CREDENTIAL)),
     "DELETE": (5, (BLOCK, CREDENTIAL, BLOCK)),
-    "KEY": (6, (BLOCK, CREDENTIAL, NEW_KEY, NEW_KEY)),
+    "KEY_READ": (6, (BLOCK, CREDENTIAL, NEW_KEY)),
     "RENEW": (7, (MODE, BLOCK, KEY, INTERVAL)),
     "FORCE": (8, (BLOCK,)),
     "FREE": (9, ()),
     "TICK": (10, (SECONDS,)),
     "AUDIT": (11, ()),
     "ALLOC_CONTIG": (12, (BLOCK, CREDENTIAL, HINT, COUNT)),
+    "KEY_WRITE": (13, (BLOCK, CREDENTIAL, NEW_KEY)),
 }
-SERVICE_FORMS = {1, 2, 3, 4, 5, 6, 12}
+SERVICE_FORMS = {1, 2, 3, 4, 5, 6, 12, 13}
 
 
 def name_of(kind: int) -> str:

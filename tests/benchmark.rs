@@ -14,7 +14,8 @@ mod model;
 
 use library::{credential_bytes, new_key_bytes, Direct, LentBatch, LentBuffers, Tables, HOST};
 use model::{
-    ends, word, Buffers, Call, Card, Credential, Key, Port, Progress, ALLOCATED, DAY, READ_KEY, TIME_END, WRITE_KEY,
+    ends, word, Buffers, Call, Card, Credential, Key, Operation, Port, Progress, ALLOCATED, DAY, READ_KEY, TIME_END,
+    WRITE_KEY,
 };
 use std::cell::RefCell;
 use std::collections::BTreeSet;
@@ -303,7 +304,7 @@ mod plain {
         0
     }
 
-    pub fn set_keys(card: &mut Card, b: u16, key: Key, read: Key, write: Key) -> u32 {
+    pub fn set_key(card: &mut Card, operation: Operation, b: u16, key: Key, new: Option<Key>) -> u32 {
         match audit(card) {
             0 => {}
             refusal => return refusal,
@@ -318,8 +319,21 @@ mod plain {
             return 5;
         }
         let b = b as usize;
-        card.flags[b] = ALLOCATED | READ_KEY | WRITE_KEY;
-        card.keys[4 * b..4 * b + 4].copy_from_slice(&[read.high, read.low, write.high, write.low]);
+        let (flag, at) = match operation {
+            Operation::Reading => (READ_KEY, 4 * b),
+            Operation::Writing => (WRITE_KEY, 4 * b + 2),
+        };
+        let words = match new {
+            Some(key) => {
+                card.flags[b] |= flag;
+                [key.high, key.low]
+            }
+            None => {
+                card.flags[b] &= !flag;
+                [0, 0]
+            }
+        };
+        card.keys[at..at + 2].copy_from_slice(&words);
         card.windows[2 * b..2 * b + 2].fill(0);
         0
     }
@@ -708,7 +722,8 @@ fn deepest() -> (&'static str, usize) {
             },
         ),
         ("DELETE", Direct::Delete { port: 0, source: 1, credential: key.clone(), destination: 2 }),
-        ("KEY", Direct::Key { port: 0, block: 2, credential: key.clone(), read: new.clone(), write: new }),
+        ("KEY_READ", Direct::KeyRead { port: 0, block: 2, credential: key.clone(), key: new.clone() }),
+        ("KEY_WRITE", Direct::KeyWrite { port: 0, block: 2, credential: key.clone(), key: new }),
         ("RENEW", Direct::Renew { mode: 1, block: 2, key: credential_bytes(Credential::Key(WRITER)), interval: 10 }),
         ("FORCE", Direct::Force { block: 2 }),
         ("FREE", Direct::Free),
@@ -777,8 +792,11 @@ fn rows(size: Size) -> Vec<Row> {
     let write_call = Direct::Write { port: 0, block: 2, credential: key(WRITER), interval: 10, data: data.clone() };
     let write = repeated(s, calls, &write_call, |c, _| done(plain::write(c, 2, WRITER, 10, black_box(&data))));
     let new = |k| new_key_bytes(Some(k));
-    let key_call = Direct::Key { port: 0, block: 2, credential: key(WRITER), read: new(READER), write: new(WRITER) };
-    let keys = repeated(s, calls, &key_call, |c, _| done(plain::set_keys(c, 2, WRITER, READER, WRITER)));
+    let plain_key = |c: &mut Card, operation, k| done(plain::set_key(c, operation, 2, WRITER, black_box(Some(k))));
+    let read_key_call = Direct::KeyRead { port: 0, block: 2, credential: key(WRITER), key: new(READER) };
+    let read_key = repeated(s, calls, &read_key_call, |c, _| plain_key(c, Operation::Reading, READER));
+    let write_key_call = Direct::KeyWrite { port: 0, block: 2, credential: key(WRITER), key: new(WRITER) };
+    let write_key = repeated(s, calls, &write_key_call, |c, _| plain_key(c, Operation::Writing, WRITER));
     let tick_call = Direct::Tick { seconds: 0 };
     let tick = repeated(s, calls, &tick_call, |c, _| done(plain::tick(c, 0, black_box(&mut 0))));
     let full_model = |call: &Direct| model_time(&full, &[], call);
@@ -898,7 +916,9 @@ fn rows(size: Size) -> Vec<Row> {
     }
     rows.push(row("CREATE", create, plain_create, create_model, pass, plain_create, Some(1.5)));
     rows.push(row("DELETE", delete, plain_delete, delete_model, pass, plain_delete, Some(1.5)));
-    rows.push(row("KEY", keys[0], keys[1], full_model(&key_call), pass, keys[1], None));
+    let (read_model, write_model) = (full_model(&read_key_call), full_model(&write_key_call));
+    rows.push(row("KEY_READ", read_key[0], read_key[1], read_model, pass, read_key[1], Some(1.5)));
+    rows.push(row("KEY_WRITE", write_key[0], write_key[1], write_model, pass, write_key[1], Some(1.5)));
     rows.push(row("TICK", tick[0], tick[1], full_model(&tick_call), pass, tick[1], None));
     rows
 }
@@ -936,7 +956,8 @@ fn main() {
     }
     println!();
     println!("Targets: AUDIT against the plain audit; READ and WRITE against the library's own audit plus a copy of");
-    println!("B bytes; ALLOC 64, CONTIG 64, CREATE and DELETE against the plain call, audit included.");
+    println!("B bytes; ALLOC 64, CONTIG 64, CREATE, DELETE, KEY_READ and KEY_WRITE against the plain call, audit");
+    println!("included.");
     println!();
     println!("| growth of | from | to | N + P grows | library grows | plain grows |");
     println!("| --- | --- | --- | ---: | ---: | ---: |");

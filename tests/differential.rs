@@ -25,7 +25,7 @@ mod wires;
 use batch::{batches, Batches};
 use damage::{damage, DAMAGES, SHAPE_DAMAGES};
 use library::{Direct, LentBuffers, Tables, HOST, SERVICE};
-use model::{number, port_of, Buffers, Call, Card, Port, HOST_KINDS, SERVICE_KINDS};
+use model::{number, port_of, Buffers, Call, Card, Operation, Port, HOST_KINDS, READ_KEY, SERVICE_KINDS, WRITE_KEY};
 use random_call::{buffers, random_format, spoilt_record, Chooser};
 use random_card::{random_card, random_size, Random, Size, KEYS};
 use secrecy::{byte_secrecy, secrecy, ByteSecrecy, Secrecy};
@@ -39,20 +39,21 @@ const DEFAULT_SEED: u64 = 1;
 // ---- Counting what was reached ----
 
 /// Each at the place of its host kind.
-const CALLS: [&str; 13] = [
+const CALLS: [&str; 14] = [
     "FORMAT",
     "READ",
     "WRITE",
     "ALLOC",
     "CREATE",
     "DELETE",
-    "KEY",
+    "KEY_READ",
     "RENEW",
     "FORCE",
     "FREE",
     "TICK",
     "AUDIT",
     "ALLOC_CONTIG",
+    "KEY_WRITE",
 ];
 
 /// Whether the call has a port of its own, and so a credential.
@@ -63,10 +64,61 @@ fn has_port(call: usize) -> bool {
 /// Records that have no call, behind the calls: why there is none.
 const NO_CALL: [&str; 3] = ["a kind of the service port at the host port", "another kind", "another port"];
 
+/// A new key beside the one that it replaces.
+#[derive(Clone, Copy, Debug, PartialEq, Eq, PartialOrd, Ord)]
+enum NewKey {
+    None,
+    Same,
+    Other,
+}
+
+/// What KEY_READ or KEY_WRITE finds: the call, its port, the flags of the block's keys, the new key, and whether both
+/// windows of the block are open. That the other key stays and both windows close shows in the cards, which are
+/// compared whole.
+type KeyChange = (&'static str, Port, u8, NewKey, bool);
+
+/// The change of a key that the call makes, if it is done.
+fn key_change(card: &Card, port: Port, call: &Call) -> Option<KeyChange> {
+    let (name, operation, block, new) = match call {
+        Call::KeyRead { block, key, .. } => ("KEY_READ", Operation::Reading, *block, *key),
+        Call::KeyWrite { block, key, .. } => ("KEY_WRITE", Operation::Writing, *block, *key),
+        _ => return None,
+    };
+    let b = block as usize;
+    if !card.shaped() || !card.allocated(b) {
+        return None;
+    }
+    let sort = match new {
+        None => NewKey::None,
+        Some(_) if new == card.key(b, operation) => NewKey::Same,
+        Some(_) => NewKey::Other,
+    };
+    let open = [Operation::Reading, Operation::Writing].into_iter().all(|o| card.window_open(b, o));
+    Some((name, port, card.flags[b] & (READ_KEY | WRITE_KEY), sort, open))
+}
+
+/// Every change of a key: a new key is the same only where there is one.
+fn key_changes() -> Vec<KeyChange> {
+    let mut changes = Vec::new();
+    for (name, own) in [("KEY_READ", READ_KEY), ("KEY_WRITE", WRITE_KEY)] {
+        for port in [Port::Host, Port::Service] {
+            for keys in [0, READ_KEY, WRITE_KEY, READ_KEY | WRITE_KEY] {
+                for new in [NewKey::None, NewKey::Same, NewKey::Other] {
+                    if new != NewKey::Same || keys & own != 0 {
+                        changes.extend([false, true].map(|open| (name, port, keys, new, open)));
+                    }
+                }
+            }
+        }
+    }
+    changes
+}
+
 /// Counts by route (0 by function, 1 by record), call, port and answer.
 #[derive(Default)]
 struct Reached {
     counts: BTreeMap<(usize, usize, u8, u32), u64>,
+    key_changes: BTreeMap<KeyChange, u64>,
     damages: BTreeMap<usize, u64>,
     calls: u64,
 }
@@ -79,13 +131,14 @@ fn index(call: &Direct) -> (usize, u8) {
         Direct::Alloc { port, .. } => (3, *port),
         Direct::Create { port, .. } => (4, *port),
         Direct::Delete { port, .. } => (5, *port),
-        Direct::Key { port, .. } => (6, *port),
+        Direct::KeyRead { port, .. } => (6, *port),
         Direct::Renew { .. } => (7, 0),
         Direct::Force { .. } => (8, 0),
         Direct::Free => (9, 0),
         Direct::Tick { .. } => (10, 0),
         Direct::Audit => (11, 0),
         Direct::AllocContig { port, .. } => (12, *port),
+        Direct::KeyWrite { port, .. } => (13, *port),
     }
 }
 
@@ -115,7 +168,7 @@ impl Reached {
             "ALLOC_CONTIG" => vec![3, 4, 5, 6, 10, 11, 14],
             "CREATE" => vec![3, 5, 6, 7, 11],
             "DELETE" => vec![3, 5, 6, 8, 9],
-            "KEY" => vec![3, 5, 6],
+            "KEY_READ" | "KEY_WRITE" => vec![3, 5, 6],
             "RENEW" => vec![3, 4, 5],
             "FORCE" => vec![3],
             "TICK" => vec![12],
@@ -185,6 +238,14 @@ impl Reached {
         }
         missing.extend(self.without_call());
         println!(
+            "key changes: {} sorts, each done {} times or more",
+            self.key_changes.len(),
+            self.key_changes.values().min().unwrap_or(&0)
+        );
+        for change in key_changes().iter().filter(|change| !self.key_changes.contains_key(change)) {
+            missing.push(format!("key change: {change:?}"));
+        }
+        println!(
             "damage: {} ways, each refused {} times or more",
             self.damages.len(),
             self.damages.values().min().unwrap_or(&0)
@@ -240,7 +301,11 @@ impl Bench {
     /// difference.
     fn step(&mut self, step: &Step, lent: &Buffers, reached: &mut Reached) -> Result<u32, String> {
         let mut expected = lent.clone();
+        let change = step.plain().and_then(|(port, call)| key_change(&self.model, port, &call));
         let answer = self.expect(step, &mut expected)?;
+        if let Some(change) = change.filter(|_| answer == 0) {
+            *reached.key_changes.entry(change).or_default() += 1;
+        }
         let (by_function, by_record) = step.routes();
         if let Some(call) = &by_function {
             let mut buffers = LentBuffers::new(lent);
@@ -289,6 +354,14 @@ impl Step {
         let (kind, body) = spoilt_record(rnd, call);
         let wire = if rnd.percent(4) { rnd.of(&[2, 3, 128, 255]) } else { rnd.of(&[HOST, SERVICE]) };
         Step::Record(wire, kind, body)
+    }
+
+    /// The call, if it is well formed and not FORMAT.
+    fn plain(&self) -> Option<(Port, Call)> {
+        match self {
+            Step::Call(call, _) => call.plain(),
+            Step::Record(wire, kind, body) => call_of(*wire, *kind, body),
+        }
     }
 
     /// The call by function and by record, where it has the form.

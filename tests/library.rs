@@ -39,8 +39,10 @@ library! {
                    destination: u16, second: *const u8, second_len: usize);
     negvask_delete(port: u8, source: u16, credential: *const u8, credential_len: usize, destination: u16,
                    value: *mut u64);
-    negvask_key(port: u8, block: u16, credential: *const u8, credential_len: usize,
-                read: *const u8, read_len: usize, write: *const u8, write_len: usize);
+    negvask_key_read(port: u8, block: u16, credential: *const u8, credential_len: usize,
+                     key: *const u8, key_len: usize);
+    negvask_key_write(port: u8, block: u16, credential: *const u8, credential_len: usize,
+                      key: *const u8, key_len: usize);
     negvask_renew(mode: u8, block: u16, key: *const u8, key_len: usize, interval: u32);
     negvask_force(block: u16);
     negvask_count_free(value: *mut u64);
@@ -129,7 +131,8 @@ pub enum Direct {
     AllocContig { port: u8, reference: u16, credential: Raw, hint: u16, count: u8 },
     Create { port: u8, source: u16, source_credential: Raw, destination: u16, destination_credential: Raw },
     Delete { port: u8, source: u16, credential: Raw, destination: u16 },
-    Key { port: u8, block: u16, credential: Raw, read: Raw, write: Raw },
+    KeyRead { port: u8, block: u16, credential: Raw, key: Raw },
+    KeyWrite { port: u8, block: u16, credential: Raw, key: Raw },
     Renew { mode: u8, block: u16, key: Raw, interval: u32 },
     Force { block: u16 },
     Free,
@@ -342,18 +345,12 @@ impl Tables {
                 *destination,
                 lent.value.pointer()
             ),
-            Direct::Key { port, block, credential: c, read, write } => with_tables!(
-                negvask_key,
-                self,
-                *port,
-                *block,
-                c.as_ptr(),
-                c.len(),
-                read.as_ptr(),
-                read.len(),
-                write.as_ptr(),
-                write.len()
-            ),
+            Direct::KeyRead { port, block, credential: c, key } => {
+                with_tables!(negvask_key_read, self, *port, *block, c.as_ptr(), c.len(), key.as_ptr(), key.len())
+            }
+            Direct::KeyWrite { port, block, credential: c, key } => {
+                with_tables!(negvask_key_write, self, *port, *block, c.as_ptr(), c.len(), key.as_ptr(), key.len())
+            }
             Direct::Renew { mode, block, key, interval } => {
                 with_tables!(negvask_renew, self, *mode, *block, key.as_ptr(), key.len(), *interval)
             }
@@ -453,13 +450,12 @@ impl Direct {
             Call::Delete { source, credential, destination } => {
                 Direct::Delete { port, source, credential: credential_bytes(credential), destination }
             }
-            Call::Key { block, credential, read, write } => Direct::Key {
-                port,
-                block,
-                credential: credential_bytes(credential),
-                read: new_key_bytes(read),
-                write: new_key_bytes(write),
-            },
+            Call::KeyRead { block, credential, key } => {
+                Direct::KeyRead { port, block, credential: credential_bytes(credential), key: new_key_bytes(key) }
+            }
+            Call::KeyWrite { block, credential, key } => {
+                Direct::KeyWrite { port, block, credential: credential_bytes(credential), key: new_key_bytes(key) }
+            }
             Call::Renew { mode, block, key, interval } => {
                 Direct::Renew { mode, block, key: credential_bytes(Credential::Key(key)), interval }
             }
@@ -518,14 +514,13 @@ impl Direct {
                 port_of(*port)?,
                 Call::Delete { source: *source, credential: credential_of(credential)?, destination: *destination },
             ),
-            Direct::Key { port, block, credential, read, write } => (
+            Direct::KeyRead { port, block, credential, key } => (
                 port_of(*port)?,
-                Call::Key {
-                    block: *block,
-                    credential: credential_of(credential)?,
-                    read: new_key_of(read)?,
-                    write: new_key_of(write)?,
-                },
+                Call::KeyRead { block: *block, credential: credential_of(credential)?, key: new_key_of(key)? },
+            ),
+            Direct::KeyWrite { port, block, credential, key } => (
+                port_of(*port)?,
+                Call::KeyWrite { block: *block, credential: credential_of(credential)?, key: new_key_of(key)? },
             ),
             Direct::Renew { mode, block, key, interval } => {
                 (Port::Host, Call::Renew { mode: *mode, block: *block, key: plain_key(key)?, interval: *interval })
@@ -585,12 +580,17 @@ impl Direct {
                 body.extend(destination.to_be_bytes());
                 (*port, 5)
             }
-            Direct::Key { port, block, credential, read, write } => {
+            Direct::KeyRead { port, block, credential, key } => {
                 body.extend(block.to_be_bytes());
                 put_bytes(&mut body, credential)?;
-                put_bytes(&mut body, read)?;
-                put_bytes(&mut body, write)?;
+                put_bytes(&mut body, key)?;
                 (*port, 6)
+            }
+            Direct::KeyWrite { port, block, credential, key } => {
+                body.extend(block.to_be_bytes());
+                put_bytes(&mut body, credential)?;
+                put_bytes(&mut body, key)?;
+                (*port, 13)
             }
             Direct::Renew { mode, block, key, interval } => {
                 body.push(*mode);

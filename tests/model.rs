@@ -91,7 +91,8 @@ pub enum Call {
     AllocContig { reference: u16, credential: Credential, hint: u16, count: u8 },
     Create { source: u16, source_credential: Credential, destination: u16, destination_credential: Credential },
     Delete { source: u16, credential: Credential, destination: u16 },
-    Key { block: u16, credential: Credential, read: Option<Key>, write: Option<Key> },
+    KeyRead { block: u16, credential: Credential, key: Option<Key> },
+    KeyWrite { block: u16, credential: Credential, key: Option<Key> },
     Renew { mode: u8, block: u16, key: Key, interval: u32 },
     Force { block: u16 },
     Free,
@@ -234,10 +235,7 @@ impl Card {
     }
 
     pub fn key(&self, b: usize, operation: Operation) -> Option<Key> {
-        let (flag, at) = match operation {
-            Reading => (READ_KEY, 4 * b),
-            Writing => (WRITE_KEY, 4 * b + 2),
-        };
+        let (flag, at) = key_place(b, operation);
         (self.flags[b] & flag != 0).then(|| Key { high: self.keys[at], low: self.keys[at + 1] })
     }
 
@@ -488,30 +486,27 @@ impl Card {
         Ok(())
     }
 
-    pub fn set_keys(
+    /// KEY_READ or KEY_WRITE, by the operation whose key is set. Both need write access, and both close both windows.
+    pub fn set_key(
         &mut self,
+        operation: Operation,
         port: Port,
         block: u16,
         credential: Credential,
-        read: Option<Key>,
-        write: Option<Key>,
+        key: Option<Key>,
     ) -> Answer {
         let b = block as usize;
         self.audit()?;
         refuse_if(!self.allocated(b), NO_BLOCK)?;
         refuse_if(self.root(b) && port == Port::Host, ROOT)?;
         refuse_if(!self.admitted(port, credential, b, Writing), NOT_OPENED)?;
-        self.flags[b] = ALLOCATED;
-        self.keys[4 * b..4 * b + 4].fill(0);
-        if let Some(k) = read {
-            self.flags[b] |= READ_KEY;
-            self.keys[4 * b] = k.high;
-            self.keys[4 * b + 1] = k.low;
-        }
-        if let Some(k) = write {
-            self.flags[b] |= WRITE_KEY;
-            self.keys[4 * b + 2] = k.high;
-            self.keys[4 * b + 3] = k.low;
+        let (flag, at) = key_place(b, operation);
+        self.flags[b] &= !flag;
+        self.keys[at..at + 2].fill(0);
+        if let Some(k) = key {
+            self.flags[b] |= flag;
+            self.keys[at] = k.high;
+            self.keys[at + 1] = k.low;
         }
         self.windows[2 * b..2 * b + 2].fill(0);
         Ok(())
@@ -571,7 +566,8 @@ impl Card {
             Call::Delete { source, credential, destination } => {
                 self.delete(port, *source, *credential, *destination, &mut lent.value)
             }
-            Call::Key { block, credential, read, write } => self.set_keys(port, *block, *credential, *read, *write),
+            Call::KeyRead { block, credential, key } => self.set_key(Reading, port, *block, *credential, *key),
+            Call::KeyWrite { block, credential, key } => self.set_key(Writing, port, *block, *credential, *key),
             Call::Renew { mode, block, key, interval } => self.renew(*mode, *block, *key, *interval),
             Call::Force { block } => self.force(*block),
             Call::Free => self.free(&mut lent.value),
@@ -623,6 +619,14 @@ pub fn ends(pointer: u32) -> (usize, usize) {
 
 pub fn word(source: usize, destination: usize) -> u32 {
     source as u32 * 65_536 + destination as u32
+}
+
+/// The flag of a block's key for the operation, and the place of the key's first word.
+fn key_place(b: usize, operation: Operation) -> (u8, usize) {
+    match operation {
+        Reading => (READ_KEY, 4 * b),
+        Writing => (WRITE_KEY, 4 * b + 2),
+    }
 }
 
 // ---- Call records ----
@@ -685,10 +689,10 @@ pub fn new_key_of(bytes: &[u8]) -> Option<Option<Key>> {
 }
 
 /// The kinds of a host's records, each call once.
-pub const HOST_KINDS: [u8; 12] = [1, 2, 3, 4, 5, 6, 7, 8, 9, 10, 11, 12];
+pub const HOST_KINDS: [u8; 13] = [1, 2, 3, 4, 5, 6, 7, 8, 9, 10, 11, 12, 13];
 
 /// The kinds of the service port: 128 more than the host's kind of the same call.
-pub const SERVICE_KINDS: [u8; 7] = [129, 130, 131, 132, 133, 134, 140];
+pub const SERVICE_KINDS: [u8; 8] = [129, 130, 131, 132, 133, 134, 140, 141];
 
 /// The port at which a record's call is performed, by the port of the wire on which the record came: a host's kinds are
 /// a host's calls on either wire, and the service port's exist on the service wire alone.
@@ -725,12 +729,7 @@ pub fn decode(wire: Port, kind: u8, body: &[u8]) -> Option<(Port, Call)> {
             destination_credential: body.credential()?,
         },
         5 => Call::Delete { source: body.block()?, credential: body.credential()?, destination: body.block()? },
-        6 => Call::Key {
-            block: body.block()?,
-            credential: body.credential()?,
-            read: body.new_key()?,
-            write: body.new_key()?,
-        },
+        6 => Call::KeyRead { block: body.block()?, credential: body.credential()?, key: body.new_key()? },
         7 => Call::Renew { mode: body.byte()?, block: body.block()?, key: body.key()?, interval: body.interval()? },
         8 => Call::Force { block: body.block()? },
         9 => Call::Free,
@@ -741,6 +740,7 @@ pub fn decode(wire: Port, kind: u8, body: &[u8]) -> Option<(Port, Call)> {
             hint: body.block()?,
             count: body.byte()?,
         },
+        13 => Call::KeyWrite { block: body.block()?, credential: body.credential()?, key: body.new_key()? },
         _ => Call::Audit,
     };
     Some((port, call))
@@ -763,7 +763,7 @@ pub fn body_length(wire: Port, kind: u8) -> Option<usize> {
         3 => 22,
         4 => 38,
         5 => 21,
-        6 => 53,
+        6 | 13 => 36,
         7 => 23,
         8 => 2,
         10 => 8,

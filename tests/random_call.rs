@@ -113,8 +113,32 @@ impl Chooser {
         self.perhaps_wrong(rnd, raw, &[3, 4, 128, 255])
     }
 
-    pub fn new_key(&self, rnd: &mut Random) -> Raw {
-        let key = if rnd.percent(45) { None } else { Some(rnd.of(&KEYS)) };
+    /// Whether a host with the known keys may write the block.
+    fn writable(&self, card: &Card, b: usize) -> bool {
+        let open = |p| ends(p).1 == b && card.window_open(ends(p).0, Operation::Writing);
+        match card.key(b, Operation::Writing) {
+            Some(k) => self.known.contains(&k),
+            None => card.pointers[..card.used()].iter().any(|&p| open(p)),
+        }
+    }
+
+    /// A block to set a key of: any, or one with both windows open, which few have, that a host may write.
+    pub fn key_block(&self, rnd: &mut Random, card: &Card) -> u16 {
+        let open = |b| card.window_open(b, Operation::Reading) && card.window_open(b, Operation::Writing);
+        let found = self.some(rnd, card, |b| !card.root(b) && open(b) && self.writable(card, b));
+        match found {
+            Some(b) if rnd.percent(40) => b as u16,
+            _ => self.block(rnd, card),
+        }
+    }
+
+    /// A new key of the block for the operation: none, the one that it has, or any.
+    pub fn new_key(&self, rnd: &mut Random, card: &Card, block: u16, operation: Operation) -> Raw {
+        let key = match rnd.below(20) {
+            0..=7 => None,
+            8..=11 if card.allocated(block as usize) => card.key(block as usize, operation),
+            _ => Some(rnd.of(&KEYS)),
+        };
         self.perhaps_wrong(rnd, new_key_bytes(key), &[2, 3, 128, 255])
     }
 
@@ -253,9 +277,14 @@ impl Chooser {
                 Direct::Delete { port, source, credential, destination }
             }
             73..=80 => {
-                let block = self.block(rnd, card);
+                let operation = rnd.of(&[Operation::Reading, Operation::Writing]);
+                let block = self.key_block(rnd, card);
                 let credential = self.raw(rnd, card, block, Operation::Writing);
-                Direct::Key { port, block, credential, read: self.new_key(rnd), write: self.new_key(rnd) }
+                let key = self.new_key(rnd, card, block, operation);
+                match operation {
+                    Operation::Reading => Direct::KeyRead { port, block, credential, key },
+                    Operation::Writing => Direct::KeyWrite { port, block, credential, key },
+                }
             }
             81..=88 => {
                 let mode = if rnd.percent(95) { rnd.below(2) as u8 } else { rnd.of(&[2, 3, 255]) };
@@ -373,9 +402,9 @@ pub fn spoilt_record(rnd: &mut Random, call: &Direct) -> (u8, Vec<u8>) {
         4 => {
             // Right in length for its kind or not, and likely ill formed.
             kind = rnd.of(&[&[0], &HOST_KINDS[..], &SERVICE_KINDS].concat());
-            body.resize(rnd.of(&[21, 22, 23, 38, 53, 535]), 0);
+            body.resize(rnd.of(&[21, 22, 23, 36, 38, 535]), 0);
         }
-        _ => kind = rnd.of(&[0, 13, 14, 33, 64, 127, 128, 135, 136, 137, 138, 139, 141, 142, 255, rnd.0 as u8]),
+        _ => kind = rnd.of(&[0, 14, 15, 33, 64, 127, 128, 135, 136, 137, 138, 139, 142, 143, 255, rnd.0 as u8]),
     }
     (kind, body)
 }

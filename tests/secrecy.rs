@@ -29,20 +29,37 @@ pub struct Secrecy {
     freed: u64,
     reads: u64,
     runs: u64,
+    read_keys: u64,
+    write_keys: u64,
 }
 
 impl Secrecy {
     pub fn summary(&self) -> String {
         format!(
-            "{} sessions, {} calls ({} done, {} of them READ, {} ALLOC_CONTIG), {} hidden blocks ({} of them freed)",
-            self.sessions, self.calls, self.done, self.reads, self.runs, self.hidden, self.freed
+            "{} sessions, {} calls ({} done, {} of them READ, {} ALLOC_CONTIG, {} KEY_READ, {} KEY_WRITE), \
+             {} hidden blocks ({} of them freed)",
+            self.sessions,
+            self.calls,
+            self.done,
+            self.reads,
+            self.runs,
+            self.read_keys,
+            self.write_keys,
+            self.hidden,
+            self.freed
         )
     }
 
     pub fn missing(&self) -> Vec<String> {
-        let missing = self.hidden == 0 || self.freed == 0 || self.reads == 0 || self.runs == 0;
-        let what = "secrecy: no hidden block, none freed, no READ or no ALLOC_CONTIG done";
-        missing.then(|| what.to_string()).into_iter().collect()
+        let seen = [
+            ("a hidden block", self.hidden),
+            ("a hidden block freed", self.freed),
+            ("READ done", self.reads),
+            ("ALLOC_CONTIG done", self.runs),
+            ("KEY_READ done", self.read_keys),
+            ("KEY_WRITE done", self.write_keys),
+        ];
+        seen.iter().filter(|(_, count)| *count == 0).map(|(what, _)| format!("secrecy: {what}")).collect()
     }
 }
 
@@ -57,7 +74,8 @@ fn presented_by(call: &Call) -> Vec<Key> {
         | Call::Alloc { credential, .. }
         | Call::AllocContig { credential, .. }
         | Call::Delete { credential, .. }
-        | Call::Key { credential, .. } => key(credential),
+        | Call::KeyRead { credential, .. }
+        | Call::KeyWrite { credential, .. } => key(credential),
         Call::Create { source_credential, destination_credential, .. } => {
             [key(source_credential), key(destination_credential)].concat()
         }
@@ -143,6 +161,8 @@ impl Pair {
             seen.done += 1;
             seen.reads += matches!(call, Call::Read { .. }) as u64;
             seen.runs += matches!(call, Call::AllocContig { .. }) as u64;
+            seen.read_keys += matches!(call, Call::KeyRead { .. }) as u64;
+            seen.write_keys += matches!(call, Call::KeyWrite { .. }) as u64;
             if let Call::Delete { destination, .. } = call {
                 self.freed[*destination as usize] |= value == 1;
             }

@@ -1,8 +1,9 @@
-//! The documents' own trials, on library and model: the example of ten records, T1 to T12, and rows of request 2026-01.
+//! The documents' own trials, on library and model: the example of ten records, T1 to T12, and rows of the requests
+//! 2026-01 and 2026-02.
 
 use crate::compare;
 use crate::library::{self, Direct, LentBatch, LentBuffers, Tables};
-use crate::model::{self, number, Buffers, Call, Card, Credential, Port, Progress, MALFORMED, NO_HINT};
+use crate::model::{self, number, Buffers, Call, Card, Credential, Key, Port, Progress, MALFORMED, NO_HINT};
 use crate::random_card::KEYS;
 
 pub const SERVICE: Port = Port::Service;
@@ -76,6 +77,41 @@ fn example_batch(calls: &[(Port, Call, &str)]) -> Result<(), String> {
     Ok(())
 }
 
+fn key_read(block: u16, credential: Credential, key: Option<Key>) -> Call {
+    Call::KeyRead { block, credential, key }
+}
+
+fn key_write(block: u16, credential: Credential, key: Option<Key>) -> Call {
+    Call::KeyWrite { block, credential, key }
+}
+
+/// Request 2026-02: "A block between the two calls may have one key, and then is not sealed", whichever call left it so.
+/// Block 1 has a pointer from the root, so that without presented keys it is hidden if and only if it is sealed.
+fn one_key_alone() -> Result<(), String> {
+    let (read, write) = (Some(KEYS[4]), Some(KEYS[7]));
+    let reading = |key| key_read(1, Credential::Nothing, key);
+    let writing = |key| key_write(1, Credential::Nothing, key);
+    let mut player = Player::new();
+    player.play(SERVICE, Call::Alloc { reference: 0, credential: Credential::Nothing, hint: NO_HINT, count: 1 })?;
+    let calls = [
+        (reading(read), false),
+        (writing(write), true),
+        (reading(None), false),
+        (reading(read), true),
+        (writing(None), false),
+        (reading(None), false),
+        (writing(write), false),
+        (reading(read), true),
+    ];
+    for (i, (call, sealed)) in calls.into_iter().enumerate() {
+        player.play(SERVICE, call)?;
+        if player.model.hidden(&[])[1] != sealed {
+            return Err(format!("after change {} of its keys block 1 is sealed: {}", i + 1, !sealed));
+        }
+    }
+    Ok(())
+}
+
 pub fn trials() -> Result<usize, String> {
     use Credential::{Nothing, Reference};
     let alloc = |hint, count| Call::Alloc { reference: 0, credential: Nothing, hint, count };
@@ -84,14 +120,28 @@ pub fn trials() -> Result<usize, String> {
     let read = |block, credential, interval| Call::Read { block, credential, interval };
     let delete = |source, destination| Call::Delete { source, credential: Nothing, destination };
     let tick = |seconds| Call::Tick { seconds };
+    let write = |block, credential| Call::Write { block, credential, interval: 0, data: vec![0; 512] };
+    let renew = |mode, key| Call::Renew { mode, block: 1, key, interval: 10 };
     let key = Some(KEYS[4]);
+    let [reader, writer, other] = [KEYS[4], KEYS[5], KEYS[7]];
+    // Block 1 has both keys and points to block 2, and both its windows are open.
+    let both_keys = [
+        (SERVICE, alloc(NO_HINT, 1), "131 0 1"),
+        (SERVICE, alloc_at(1, NO_HINT, 1), "131 0 2"),
+        (SERVICE, key_read(1, Nothing, Some(reader)), "134 0"),
+        (SERVICE, key_write(1, Nothing, Some(writer)), "141 0"),
+        (HOST, renew(0, reader), "7 0"),
+        (HOST, renew(1, writer), "7 0"),
+    ];
+    let closed = [(HOST, read(2, Reference(1), 0), "1 5"), (HOST, write(2, Reference(1)), "2 5")];
+    let by = Credential::Key;
     let zeros = "1 0 0 0 0 0 0 0 0 0";
     let rows: Vec<(&str, Vec<(Port, Call, &str)>)> = vec![
         (
             "the example",
             vec![
                 (SERVICE, alloc(NO_HINT, 2), "131 0 1 2"),
-                (SERVICE, Call::Key { block: 1, credential: Nothing, read: key, write: key }, "134 0"),
+                (SERVICE, key_read(1, Nothing, key), "134 0"),
                 (HOST, read(1, Nothing, 0), "1 5"),
                 (HOST, Call::Free, "9 0 13"),
                 (HOST, read(0, Nothing, 10), zeros),
@@ -190,8 +240,48 @@ pub fn trials() -> Result<usize, String> {
                 (SERVICE, read(2, Nothing, 0), "129 0 0 0 0 0 0 0 0 0"),
             ],
         ),
+        (
+            "2026-02, a new read key",
+            [
+                &both_keys[..],
+                &[(HOST, key_read(1, by(reader), Some(other)), "6 5")],
+                &[(HOST, read(2, Reference(1), 0), zeros), (HOST, write(2, Reference(1)), "2 0")],
+                &[(HOST, key_read(1, by(writer), Some(other)), "6 0")],
+                &closed,
+                &[(HOST, read(1, by(reader), 0), "1 5"), (HOST, read(1, by(other), 0), zeros)],
+                &[(HOST, read(1, by(writer), 0), zeros), (HOST, write(1, by(writer)), "2 0")],
+            ]
+            .concat(),
+        ),
+        (
+            "2026-02, a new write key",
+            [
+                &both_keys[..],
+                &[(HOST, key_write(1, by(reader), Some(other)), "13 5")],
+                &[(HOST, read(2, Reference(1), 0), zeros), (HOST, write(2, Reference(1)), "2 0")],
+                &[(HOST, key_write(1, by(writer), Some(other)), "13 0")],
+                &closed,
+                &[(HOST, read(1, by(writer), 0), "1 5"), (HOST, write(1, by(writer)), "2 5")],
+                &[(HOST, read(1, by(reader), 0), zeros), (HOST, write(1, by(other)), "2 0")],
+            ]
+            .concat(),
+        ),
+        (
+            "2026-02, the same read key",
+            [&both_keys[..], &[(SERVICE, key_read(1, Nothing, Some(reader)), "134 0")], &closed].concat(),
+        ),
+        (
+            "2026-02, the same write key",
+            [&both_keys[..], &[(SERVICE, key_write(1, Nothing, Some(writer)), "141 0")], &closed].concat(),
+        ),
+        ("2026-02, no read key", [&both_keys[..], &[(HOST, key_read(1, by(writer), None), "6 0")], &closed].concat()),
+        (
+            "2026-02, no write key",
+            [&both_keys[..], &[(HOST, key_write(1, by(writer), None), "13 0")], &closed].concat(),
+        ),
     ];
     example_batch(&rows[0].1)?;
+    one_key_alone()?;
     for (name, calls) in &rows {
         let mut player = Player::new();
         for (i, (port, call, expected)) in calls.iter().enumerate() {
