@@ -35,7 +35,7 @@ class Card(NamedTuple):
 
 FIRST = (Key("first", "read"), Key("first", "write"))
 SECOND = (Key("second", "read"), Key("second", "write"))
-# After call 8 of the session: the first has written its files, and its WRITE of 3,600 s holds its directory open.
+# After call 11 of the session: the first has written its files, and its WRITE of 3,600 s holds its directory open.
 OPEN = Card(
     roots=1,
     time=0,
@@ -44,7 +44,7 @@ OPEN = Card(
     windows={1: (0, 3600)},
     pointers=[(0, 1), (0, 2), (1, 3), (1, 4)],
 )
-# After call 9, FORCE 1.
+# After call 12, FORCE 1.
 SHUT = OPEN._replace(windows={})
 
 
