@@ -53,7 +53,7 @@ unfolding keyPlan
 returns-2 c = search (key-judged, refuses, later, missing-told, here, root-told)
 
 admits-requires : tie.Need-admits-requires
-admits-requires c κs = 
+admits-requires c κs =
     let at-if1 : tie.Else1 = search in
     let at-missing : tie.After-missing = search in
     let start : tie.Start = search in
@@ -76,7 +76,7 @@ unfolding keyPlan
 returns-3 c = search (key-judged, refuses, later, missing-told, root-told, here, closed-told) depth 6
 
 slice-read-keyed-flags : tie.Need-slice-read-keyed-flags
-slice-read-keyed-flags c = 
+slice-read-keyed-flags c =
     let at-if1 : tie.Else1 = search in
     let at-missing : tie.After-missing = search in
     let start : tie.Start = search in
@@ -86,21 +86,21 @@ keyed-flags-requires : tie.Need-keyed-flags-requires
 keyed-flags-requires c κs = search needs
 
 slice-write-flags : tie.Need-slice-write-flags
-slice-write-flags c = 
+slice-write-flags c =
     let at-if1 : tie.Else1 = search in
     let at-missing : tie.After-missing = search in
     let start : tie.Start = search in
     flag-there _ (start .pre) (at-missing .missing .ensures) (at-if1 .if1 .left)
 
 replace-key-requires : tie.Need-replace-key-requires
-replace-key-requires c κs = 
+replace-key-requires c κs =
     let at-if1 : tie.Else1 = search in
     let at-missing : tie.After-missing = search in
     let start : tie.Start = search in
     keys-there _ (start .pre) (at-missing .missing .ensures) (at-if1 .if1 .left)
 
 close-windows-requires : tie.Need-close-windows-requires
-close-windows-requires c κs = 
+close-windows-requires c κs =
     let at-if1 : tie.Else1 = search in
     let at-missing : tie.After-missing = search in
     let start : tie.Start = search in
