@@ -9,14 +9,6 @@ use Rattle.keys.proofs.Changed.{replaces-key}
 use borrow.Author.Needs.{needs}
 use Rattle.keys.proofs.key_sound.Statement.{statement}
 use Rattle.keys.proofs.key_sound.Tie as tie
-use Rattle.access.proofs.admits.Reads as admits-reads
-use Rattle.access.proofs.missing.Reads as missing-reads
-use Rattle.access.proofs.root_at_host.Reads as root-at-host-reads
-use Rattle.keys.proofs.keyed_flags.Reads as keyed-flags-reads
-use Rattle.keys.proofs.replace_key.Reads as replace-key-reads
-use Rattle.outcomes.proofs.done.Reads as done-reads
-use Rattle.outcomes.proofs.refused.Reads as refused-reads
-use Rattle.windows.proofs.close_windows.Reads as close-windows-reads
 
 -- ---- places of the code
 

@@ -4,10 +4,6 @@ use Rattle.keys.proofs.Keys.{bit-low, keyed}
 use borrow.Author.Needs.{needs}
 use Rattle.keys.proofs.keyed_flags.Statement.{statement}
 use Rattle.keys.proofs.keyed_flags.Tie as tie
-use Rattle.flags.proofs.has_key.Reads as has-key-reads
-use Rattle.keys.proofs.is_present.Reads as is-present-reads
-use Rattle.keys.proofs.key_bit.Reads as key-bit-reads
-use Rattle.keys.proofs.other_mode.Reads as other-mode-reads
 
 other-mode-requires : tie.Need-other-mode-requires
 other-mode-requires c κs = search needs

@@ -2,7 +2,6 @@
 use borrow.Author.Needs.{needs}
 use Rattle.keys.proofs.replace_key.Statement.{statement}
 use Rattle.keys.proofs.replace_key.Tie as tie
-use Rattle.keys.proofs.set_words.Reads as set-words-reads
 
 mul-read : tie.Need-mul-read
 mul-read c = search needs

@@ -4,8 +4,6 @@ use lib.ListN.{length-set}
 use borrow.Author.Needs.{needs}
 use Rattle.keys.proofs.set_words.Statement.{statement}
 use Rattle.keys.proofs.set_words.Tie as tie
-use Rattle.keys.proofs.high_word.Reads as high-word-reads
-use Rattle.keys.proofs.low_word.Reads as low-word-reads
 
 high-word-requires : tie.Need-high-word-requires
 high-word-requires c κs = search needs
