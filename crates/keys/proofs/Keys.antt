@@ -10,7 +10,8 @@ use Rattle.card.specs.Access.{admits}
 use Rattle.card.specs.Plan.{isPresent, otherMode, keyBit, keyedFlags, judgeSound}
 use Rattle.card.specs.Promises.{Is}
 use Rattle.card.specs.Calls.{modeOf, keyPlan}
-use Rattle.card.specs.Session.{keyCall, request, plan, performSound}
+use Rattle.card.specs.Session.{keyCall, request, performSound}
+use Rattle.card.specs.SessionLaws.{plan-key}
 use Rattle.card.specs.declared.Port.{Port}
 use Rattle.card.specs.declared.Mode.{Mode}
 use Rattle.card.specs.declared.Mode.the-variants.{Reading, Writing}
@@ -42,6 +43,5 @@ mode-writing m e = rw (ne-eqb m 0 e)
 pub key-judged : (port : Port) (c : Card) (mode : Mode) (o : KeyOperands) {answer : Answer} {after : Card}
     → Is (judgeSound c (record { input = []; out = []; places = [] }) (keyPlan port (c .public) (admits port c Writing (o .block) (o .credential)) mode o)) answer after [] []
     → Is (performSound port c (request (keyCall mode o) [] [] [])) answer after [] []
-unfolding performSound plan
-key-judged port c Reading o h = h
-key-judged port c Writing o h = h
+unfolding performSound
+key-judged port c mode o h = rw (plan-key port c mode o _) h
