@@ -4,8 +4,7 @@ ghost use mathlib.Core.Path.{_≡_};
 ghost use Prim.Native.Nat.{_+_, _*_, _≤_, _<_};
 ghost use lib.ListN.{length, getD};
 ghost use Rattle.card.specs.Pointers.{pointer};
-ghost use Rattle.card.specs.Plan.{addPointer, dropPointer, replaceKeys};
-ghost use Rattle.card.specs.declared.NewKey.the-variants.{Absent};
+ghost use Rattle.card.specs.Plan.{addPointer, dropPointer, clearKeys};
 ghost use Rattle.tables.specs.InUse.{Addable, Removable};
 ghost use Rattle.changes.specs.OnTables.{ChangesPointers, FreesBlock};
 
@@ -53,13 +52,14 @@ pub fn drop_pointer(
 // The four words of a block's keys become 0.
 fn clear_keys(keys: &mut [u64], block: u16)
     requires { ⌜ 4 * block + 4 ≤ length (now keys) ⌝ }
-    ensures { λ _. ⌜ now (keys .exit) ≡ replaceKeys (now (keys .entry)) block Absent Absent ⌝ }
+    ensures { λ _. ⌜ now (keys .exit) ≡ clearKeys (now (keys .entry)) block ⌝ }
 {
-    let at = 4 * (block as usize);
-    keys[at] = 0;
-    keys[at + 1] = 0;
-    keys[at + 2] = 0;
-    keys[at + 3] = 0;
+    let read = 4 * (block as usize);
+    let write = read + 2;
+    keys[read] = 0;
+    keys[read + 1] = 0;
+    keys[write] = 0;
+    keys[write + 1] = 0;
 }
 
 // Flags, keys and windows of a block become 0, whatever the other tables hold.

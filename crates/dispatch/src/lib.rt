@@ -2,6 +2,7 @@
 use card::Answer;
 use card::Call;
 use card::Info;
+use card::Mode;
 use card::Outcome;
 use card::Port;
 ghost use Rattle.card.specs.Lent.{Performs, lent};
@@ -96,19 +97,30 @@ pub fn perform_sound(
             port,
             o,
         ),
-        Call::Key(o) => {
-            keys::key_sound(
-                info,
-                flags,
-                keys,
-                counts,
-                pointers,
-                windows,
-                contents,
-                port,
-                o,
-            )
-        }
+        Call::KeyRead(o) => keys::key_sound(
+            info,
+            flags,
+            keys,
+            counts,
+            pointers,
+            windows,
+            contents,
+            port,
+            Mode::Reading,
+            o,
+        ),
+        Call::KeyWrite(o) => keys::key_sound(
+            info,
+            flags,
+            keys,
+            counts,
+            pointers,
+            windows,
+            contents,
+            port,
+            Mode::Writing,
+            o,
+        ),
         Call::Renew(o) => {
             keys::renew_sound(info, flags, keys, counts, pointers, windows, contents, o)
         }

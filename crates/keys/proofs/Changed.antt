@@ -1,14 +1,13 @@
--- The cards that KEY, RENEW and FORCE leave.
+-- The cards that KEY_READ, KEY_WRITE, RENEW and FORCE leave.
 use Prim.Native.Nat.{ℕ, _+_, _*_}
 use mathlib.Core.Path.{_≡_}
 use mathlib.Core.List.{List, [], _∷_}
-use lib.ListN.{set}
+use lib.ListN.{getD, set}
 use Rattle.card.specs.Card.{Card, card, windowAt}
-use Rattle.card.specs.Plan.{setWindow, setKeys, keyBit, replaceKeys, changes, change, changePublic, changeKeys, changeContents}
+use Rattle.card.specs.Plan.{setWindow, setKey, keyedFlags, replaceKey, changes, change, changePublic, changeKeys, changeContents}
 use Rattle.card.specs.Calls.{windowAfter, closeWindows, modeOf}
 use Rattle.windows.proofs.Windows.{windowed, after-whole}
 use Rattle.card.specs.declared.Mode.{Mode}
-use Rattle.card.specs.declared.Mode.the-variants.{Reading, Writing}
 use Rattle.card.specs.declared.NewKey.{NewKey}
 
 module _ (c : Card) (b : ℕ) where
@@ -18,14 +17,14 @@ module _ (c : Card) (b : ℕ) where
   unfolding changes change changePublic changeKeys changeContents
   closes-windows e = rw e
 
-  -- Both keys replaced, and both windows closed.
-  pub replaces-keys : (read write : NewKey) {x y : ℕ} {keys windows : List ℕ} → x ≡ keyBit Reading read → y ≡ keyBit Writing write
-      → keys ≡ replaceKeys (c .keys) b read write
+  -- One key set, and both windows closed.
+  pub replaces-key : (mode : Mode) (key : NewKey) {x : ℕ} {keys windows : List ℕ} → x ≡ keyedFlags (getD (c .public .flags) b 0) mode key
+      → keys ≡ replaceKey (c .keys) mode b key
       → windows ≡ set (set (c .public .windows) (2 * b) 0) (2 * b + 1) 0
-      → card (c .public .info) (set (c .public .flags) b (1 + x + y)) keys (c .public .counts) (c .public .pointers) windows (c .contents)
-      ≡ changes c (setKeys b read write ∷ closeWindows b)
+      → card (c .public .info) (set (c .public .flags) b x) keys (c .public .counts) (c .public .pointers) windows (c .contents)
+      ≡ changes c (setKey mode b key ∷ closeWindows b)
   unfolding changes change changePublic changeKeys changeContents
-  replaces-keys read write p q k w = rw (p, q, k, w)
+  replaces-key mode key f k w = rw (f, k, w)
 
   -- One window set.
   pub renewed : (number interval : ℕ) {mode : Mode} {windows : List ℕ} → mode ≡ modeOf number

@@ -1,4 +1,4 @@
-// KEY, RENEW and FORCE on an audited card: keys replaced, a window renewed by a key, windows closed.
+// KEY_READ, KEY_WRITE, RENEW and FORCE on an audited card: one key set, a window renewed by a key, windows closed.
 use card::Call;
 use card::Credential;
 use card::ForceOperands;
@@ -14,25 +14,21 @@ use card::RenewOperands;
 ghost use mathlib.Core.Path.{_≡_};
 ghost use mathlib.Core.List.{[]};
 ghost use Prim.Native.Nat.{_+_, _*_, _≤_};
-ghost use lib.ListN.{length};
+ghost use lib.ListN.{length, set};
 ghost use Rattle.card.specs.Lent.{Performs, lent};
 ghost use Rattle.card.specs.SoundCard.{SoundCard};
-ghost use Rattle.card.specs.Plan.{keyBit, highWord, lowWord, replaceKeys};
+ghost use Rattle.card.specs.Plan.{isPresent, highWord, lowWord, otherMode, keyBit, keyedFlags, replaceKey};
 ghost use Rattle.card.specs.Calls.{modeOf};
-ghost use Rattle.card.specs.Session.{request, performSound};
+ghost use Rattle.card.specs.Session.{keyCall, request, performSound};
 
-// ---- KEY
+// ---- KEY_READ and KEY_WRITE
 
-// The flag that a new key adds.
-fn key_bit(mode: Mode, key: NewKey) -> u8
-    ensures { λ r. ⌜ r ≡ keyBit mode key ⌝ }
+fn is_present(key: NewKey) -> bool
+    ensures { λ r. ⌜ r ≡ isPresent key ⌝ }
 {
     match key {
-        NewKey::Absent => 0,
-        NewKey::Present(_, _) => match mode {
-            Mode::Reading => 2,
-            Mode::Writing => 4,
-        },
+        NewKey::Absent => false,
+        NewKey::Present(_, _) => true,
     }
 }
 
@@ -54,17 +50,62 @@ fn low_word(key: NewKey) -> u64
     }
 }
 
-fn replace_keys(keys: &mut [u64], block: usize, read: NewKey, write: NewKey)
-    requires { ⌜ 4 * block + 4 ≤ length (now keys) ⌝ }
-    ensures { λ _. ⌜ now (keys .exit) ≡ replaceKeys (now (keys .entry)) block read write ⌝ }
+// The operation that is not this one.
+fn other_mode(mode: Mode) -> Mode
+    ensures { λ r. ⌜ r ≡ otherMode mode ⌝ }
 {
-    let at = 4 * block;
-    keys[at] = high_word(read);
-    keys[at + 1] = low_word(read);
-    keys[at + 2] = high_word(write);
-    keys[at + 3] = low_word(write);
+    match mode {
+        Mode::Reading => Mode::Writing,
+        Mode::Writing => Mode::Reading,
+    }
 }
 
+// The flag of a key for the mode: 0 where there is none.
+fn key_bit(mode: Mode, there: bool) -> u8
+    ensures { λ r. ⌜ r ≡ keyBit mode there ⌝ }
+{
+    if !there {
+        return 0;
+    }
+    match mode {
+        Mode::Reading => 2,
+        Mode::Writing => 4,
+    }
+}
+
+// An allocated block's flags byte once its key for the mode is set: the other key's flag is as it was.
+fn keyed_flags(flag: u8, mode: Mode, key: NewKey) -> u8
+    ensures { λ r. ⌜ r ≡ keyedFlags flag mode key ⌝ }
+{
+    let other = other_mode(mode);
+    let own_bit = key_bit(mode, is_present(key));
+    let other_bit = key_bit(other, flags::has_key(flag, other));
+    1 + own_bit + other_bit
+}
+
+// The two words from `at` on become the key's.
+fn set_words(keys: &mut [u64], at: usize, key: NewKey)
+    requires { ⌜ at + 2 ≤ length (now keys) ⌝ }
+    ensures { λ _. ⌜ now (keys .exit) ≡ set (set (now (keys .entry)) at (highWord key)) (at + 1) (lowWord key) ⌝ }
+{
+    keys[at] = high_word(key);
+    keys[at + 1] = low_word(key);
+}
+
+// The write key stands behind the read key.
+fn replace_key(keys: &mut [u64], mode: Mode, block: usize, key: NewKey)
+    requires { ⌜ 4 * block + 4 ≤ length (now keys) ⌝ }
+    ensures { λ _. ⌜ now (keys .exit) ≡ replaceKey (now (keys .entry)) mode block key ⌝ }
+{
+    let read = 4 * block;
+    let write = read + 2;
+    match mode {
+        Mode::Reading => set_words(keys, read, key),
+        Mode::Writing => set_words(keys, write, key),
+    }
+}
+
+// The mode says whose key is set. Either call asks for write access, and closes both windows.
 pub fn key_sound(
     info: Info,
     flags: &mut [u8],
@@ -74,10 +115,11 @@ pub fn key_sound(
     windows: &mut [u64],
     contents: &[u8],
     port: Port,
+    mode: Mode,
     o: KeyOperands,
 ) -> Outcome
     requires { ⌜ SoundCard (lent info flags keys counts pointers windows contents) ⌝ }
-    ensures { λ r. ⌜ Performs (λ c. performSound port c (request (Call.Key o) [] [] [])) info flags keys counts pointers windows contents r [] [] ⌝ }
+    ensures { λ r. ⌜ Performs (λ c. performSound port c (request (keyCall mode o) [] [] [])) info flags keys counts pointers windows contents r [] [] ⌝ }
 {
     let block = o.block as usize;
     if access::missing(info, flags, block) {
@@ -101,12 +143,9 @@ pub fn key_sound(
     if !opened {
         return outcomes::refused(info, Refusal::NotOpened);
     }
-    let read = o.read;
-    let write = o.write;
-    let read_bit = key_bit(Mode::Reading, read);
-    let write_bit = key_bit(Mode::Writing, write);
-    flags[block] = 1 + read_bit + write_bit;
-    replace_keys(keys, block, read, write);
+    let key = o.key;
+    flags[block] = keyed_flags(flags[block], mode, key);
+    replace_key(keys, mode, block, key);
     windows::close_windows(windows, block);
     outcomes::done(info)
 }

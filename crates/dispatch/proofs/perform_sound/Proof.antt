@@ -1,5 +1,6 @@
 -- `dispatch::perform_sound` meets its contract: each arm by one law.
 use Rattle.card.specs.BuffersLaws.{with-read, with-write, with-alloc, with-alloc-contig, with-create, with-delete, with-key, with-renew, with-force, with-free, with-tick, with-audit}
+use Rattle.card.specs.declared.Mode.the-variants.{Reading, Writing}
 use borrow.Author.Needs.{needs}
 use Rattle.dispatch.proofs.perform_sound.Statement.{statement}
 use Rattle.dispatch.proofs.perform_sound.Tie as tie
@@ -49,11 +50,17 @@ key-sound-requires c κs = search needs
 enum-known-call-8 : tie.Need-enum-known-call-8
 enum-known-call-8 c = search needs
 
-renew-sound-requires : tie.Need-renew-sound-requires
-renew-sound-requires c κs = search needs
+key-sound-requires-2 : tie.Need-key-sound-requires-2
+key-sound-requires-2 c κs = search needs
 
 enum-known-call-9 : tie.Need-enum-known-call-9
 enum-known-call-9 c = search needs
+
+renew-sound-requires : tie.Need-renew-sound-requires
+renew-sound-requires c κs = search needs
+
+enum-known-call-10 : tie.Need-enum-known-call-10
+enum-known-call-10 c = search needs
 
 force-sound-requires : tie.Need-force-sound-requires
 force-sound-requires c κs = search needs
@@ -64,8 +71,8 @@ enum-told c = search needs
 free-sound-requires : tie.Need-free-sound-requires
 free-sound-requires c κs = search needs
 
-enum-known-call-10 : tie.Need-enum-known-call-10
-enum-known-call-10 c = search needs
+enum-known-call-11 : tie.Need-enum-known-call-11
+enum-known-call-11 c = search needs
 
 tick-sound-requires : tie.Need-tick-sound-requires
 tick-sound-requires c κs = search needs
@@ -227,7 +234,12 @@ same-length-45 : tie.Need-same-length-45
 same-length-45 c = search needs
 
 returns-7 : tie.Need-returns-7
-returns-7 c = search with-key
+returns-7 c =
+    let at-key-sound : tie.After-key-sound = search in
+    let at-call7 : tie.After-call7 = search in
+    let start : tie.Start = search in
+    with-key (start .args .port) _ (start .args .input .now) (start .args .out .now) (start .args .places .now) (start .args .call) Reading _ (at-call7 .call7 .given .1)
+    (at-key-sound .key-sound .ensures)
 
 same-length-46 : tie.Need-same-length-46
 same-length-46 c = search needs
@@ -249,10 +261,11 @@ same-length-51 c = search needs
 
 returns-8 : tie.Need-returns-8
 returns-8 c =
+    let at-key-sound2 : tie.After-key-sound2 = search in
     let at-call8 : tie.After-call8 = search in
     let start : tie.Start = search in
-    with-renew (start .args .port) _ (start .args .input .now) (start .args .out .now) (start .args .places .now) (start .args .call) (at-call8 .call8 .given .1)
-    (c .before .before .renew-sound .ensures (start .args .port))
+    with-key (start .args .port) _ (start .args .input .now) (start .args .out .now) (start .args .places .now) (start .args .call) Writing _ (at-call8 .call8 .given .1)
+    (at-key-sound2 .key-sound2 .ensures)
 
 same-length-52 : tie.Need-same-length-52
 same-length-52 c = search needs
@@ -276,8 +289,8 @@ returns-9 : tie.Need-returns-9
 returns-9 c =
     let at-call9 : tie.After-call9 = search in
     let start : tie.Start = search in
-    with-force (start .args .port) _ (start .args .input .now) (start .args .out .now) (start .args .places .now) (start .args .call) (at-call9 .call9 .given .1)
-    (c .before .before .force-sound .ensures (start .args .port))
+    with-renew (start .args .port) _ (start .args .input .now) (start .args .out .now) (start .args .places .now) (start .args .call) (at-call9 .call9 .given .1)
+    (c .before .before .renew-sound .ensures (start .args .port))
 
 same-length-58 : tie.Need-same-length-58
 same-length-58 c = search needs
@@ -299,10 +312,10 @@ same-length-63 c = search needs
 
 returns-10 : tie.Need-returns-10
 returns-10 c =
-    let at-enum-told : tie.After-enum-told = search in
+    let at-call10 : tie.After-call10 = search in
     let start : tie.Start = search in
-    with-free (start .args .port) _ (start .args .input .now) (start .args .out .now) (start .args .places .now) (start .args .call) (at-enum-told .enum-told .given .1)
-    (c .free-sound .ensures (start .args .port))
+    with-force (start .args .port) _ (start .args .input .now) (start .args .out .now) (start .args .places .now) (start .args .call) (at-call10 .call10 .given .1)
+    (c .before .before .force-sound .ensures (start .args .port))
 
 same-length-64 : tie.Need-same-length-64
 same-length-64 c = search needs
@@ -324,13 +337,38 @@ same-length-69 c = search needs
 
 returns-11 : tie.Need-returns-11
 returns-11 c =
-    let at-call10 : tie.After-call10 = search in
+    let at-enum-told : tie.After-enum-told = search in
     let start : tie.Start = search in
-    with-tick (start .args .port) _ (start .args .input .now) (start .args .out .now) (start .args .places .now) (start .args .call) (at-call10 .call10 .given .1)
-    (c .tick-sound .ensures (start .args .port))
+    with-free (start .args .port) _ (start .args .input .now) (start .args .out .now) (start .args .places .now) (start .args .call) (at-enum-told .enum-told .given .1)
+    (c .free-sound .ensures (start .args .port))
+
+same-length-70 : tie.Need-same-length-70
+same-length-70 c = search needs
+
+same-length-71 : tie.Need-same-length-71
+same-length-71 c = search needs
+
+same-length-72 : tie.Need-same-length-72
+same-length-72 c = search needs
+
+same-length-73 : tie.Need-same-length-73
+same-length-73 c = search needs
+
+same-length-74 : tie.Need-same-length-74
+same-length-74 c = search needs
+
+same-length-75 : tie.Need-same-length-75
+same-length-75 c = search needs
 
 returns-12 : tie.Need-returns-12
-returns-12 c = search with-audit
+returns-12 c =
+    let at-call11 : tie.After-call11 = search in
+    let start : tie.Start = search in
+    with-tick (start .args .port) _ (start .args .input .now) (start .args .out .now) (start .args .places .now) (start .args .call) (at-call11 .call11 .given .1)
+    (c .tick-sound .ensures (start .args .port))
+
+returns-13 : tie.Need-returns-13
+returns-13 c = search with-audit
 
 pub perform-sound-spec : {M : Type 1} → statement M
 perform-sound-spec =
@@ -351,12 +389,14 @@ perform-sound-spec =
     enum-known-call-7
     key-sound-requires
     enum-known-call-8
-    renew-sound-requires
+    key-sound-requires-2
     enum-known-call-9
+    renew-sound-requires
+    enum-known-call-10
     force-sound-requires
     enum-told
     free-sound-requires
-    enum-known-call-10
+    enum-known-call-11
     tick-sound-requires
     enum-told-2
     same-length
@@ -439,4 +479,11 @@ perform-sound-spec =
     same-length-68
     same-length-69
     returns-11
-    returns-12)
+    same-length-70
+    same-length-71
+    same-length-72
+    same-length-73
+    same-length-74
+    same-length-75
+    returns-12
+    returns-13)
