@@ -24,7 +24,7 @@ use Rattle.card.specs.declared.Refusal.{Refusal}
 use Rattle.card.specs.declared.Answer.{Answer}
 use Rattle.card.specs.declared.Answer.the-variants.{Refused}
 use Rattle.card.specs.declared.Call.{Call}
-use Rattle.card.specs.declared.Call.the-variants.{Read, Write, Alloc, AllocContig, Create, Delete, Key, Renew, Force, Free, Tick, Audit}
+use Rattle.card.specs.declared.Call.the-variants.{Read, Write, Alloc, AllocContig, Create, Delete, KeyRead, KeyWrite, Renew, Force, Free, Tick, Audit}
 use Rattle.card.proofs.Guarantees.KeepsSound.{done-sound}
 use Rattle.fields.specs.Bytes.{bytes}
 use Rattle.lines.specs.Replied.{replied}
@@ -67,7 +67,8 @@ module _ (port : Port) (c : Card) (call : Call) (input places : List ℕ) where
       go (AllocContig o) = refl
       go (Create o) = refl
       go (Delete o) = refl
-      go (Key o) = refl
+      go (KeyRead o) = refl
+      go (KeyWrite o) = refl
       go (Renew o) = refl
       go (Force o) = refl
       go Free = refl
@@ -84,7 +85,8 @@ done-alike port c (Alloc o) lent out other places answer = refl
 done-alike port c (AllocContig o) lent out other places answer = refl
 done-alike port c (Create o) lent out other places answer = refl
 done-alike port c (Delete o) lent out other places answer = refl
-done-alike port c (Key o) lent out other places answer = refl
+done-alike port c (KeyRead o) lent out other places answer = refl
+done-alike port c (KeyWrite o) lent out other places answer = refl
 done-alike port c (Renew o) lent out other places answer = refl
 done-alike port c (Force o) lent out other places answer = refl
 done-alike port c Free lent out other places answer = refl
@@ -116,7 +118,8 @@ module _ (size : ℕ) where
   room-number (AllocContig o) = omega arith
   room-number (Create o) = omega arith
   room-number (Delete o) = omega arith
-  room-number (Key o) = omega arith
+  room-number (KeyRead o) = omega arith
+  room-number (KeyWrite o) = omega arith
   room-number (Renew o) = omega arith
   room-number (Force o) = omega arith
   room-number Free = omega arith
@@ -132,7 +135,8 @@ module _ (size : ℕ) where
   room-lent (AllocContig o) = omega arith
   room-lent (Create o) = omega arith
   room-lent (Delete o) = omega arith
-  room-lent (Key o) = omega arith
+  room-lent (KeyRead o) = omega arith
+  room-lent (KeyWrite o) = omega arith
   room-lent (Renew o) = omega arith
   room-lent (Force o) = omega arith
   room-lent Free = omega arith
@@ -155,7 +159,8 @@ module _ (port : Port) (c : Card) (size : ℕ) where
   done-short (AllocContig o) lent out places h p = omega (arith, pairs-short (o .count) places p)
   done-short (Create o) lent out places h p = omega arith
   done-short (Delete o) lent out places h p = omega arith
-  done-short (Key o) lent out places h p = omega arith
+  done-short (KeyRead o) lent out places h p = omega arith
+  done-short (KeyWrite o) lent out places h p = omega arith
   done-short (Renew o) lent out places h p = omega arith
   done-short (Force o) lent out places h p = omega arith
   done-short Free lent out places h p = omega arith
@@ -193,7 +198,8 @@ module _ (port : Port) (c : Card) where
   settle-covers (AllocContig o) lent none = inl refl
   settle-covers (Create o) lent none = inl refl
   settle-covers (Delete o) lent none = inl refl
-  settle-covers (Key o) lent none = inl refl
+  settle-covers (KeyRead o) lent none = inl refl
+  settle-covers (KeyWrite o) lent none = inl refl
   settle-covers (Renew o) lent none = inl refl
   settle-covers (Force o) lent none = inl refl
   settle-covers Free lent none = inl refl

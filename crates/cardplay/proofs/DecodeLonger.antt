@@ -9,14 +9,16 @@ use lib.ListN.{length, take, drop, getD, length-append, length-drop}
 use lib.Seq.{getD-drop, drop-append-le, take-append-le}
 use borrow.Author.Tests.{le-leb}
 use Rattle.card.specs.declared.Port.{Port}
+use Rattle.card.specs.declared.Mode.{Mode}
+use Rattle.card.specs.declared.Mode.the-variants.{Reading, Writing}
 use Rattle.card.specs.declared.Call.{Call}
 use Rattle.fields.specs.Bytes.{number, zeroed}
 use Rattle.kinds.specs.Kinds.{row, lengthOf, dataLength, operandsLength, kindOf}
 use Rattle.fields.specs.Fields.{credential, newKey}
-use Rattle.records.specs.Decode.{decodeCall, decodeKnown, decodeBody, nameOf, dataOf, Next, ended, refused, sent, nextOf, decode}
+use Rattle.records.specs.Decode.{decodeKey, decodeCall, decodeKnown, decodeBody, nameOf, dataOf, Next, ended, refused, sent, nextOf, decode}
 use Rattle.records.specs.DecodeLaws.{OfKind, decoded-kind}
 use Rattle.kinds.specs.declared.Name.{Name}
-use Rattle.kinds.specs.declared.Name.the-variants.{Read as READ, Write as WRITE, Alloc as ALLOC, Create as CREATE, Delete as DELETE, Key as KEY, Renew as RENEW, Force as FORCE, Free as FREE, Tick as TICK, Audit as AUDIT, AllocContig as ALLOC-CONTIG}
+use Rattle.kinds.specs.declared.Name.the-variants.{Read as READ, Write as WRITE, Alloc as ALLOC, Create as CREATE, Delete as DELETE, KeyRead as KEY-READ, Renew as RENEW, Force as FORCE, Free as FREE, Tick as TICK, Audit as AUDIT, AllocContig as ALLOC-CONTIG, KeyWrite as KEY-WRITE}
 use Rattle.records.specs.declared.Decoding.{Decoding}
 use Rattle.records.specs.declared.Decoding.the-variants.{Decoded, Bad}
 
@@ -69,6 +71,10 @@ module _ (n : ℕ) (xs ys : List ℕ) (a : Agree n xs ys) where
   new-key-within : (from : ℕ) → from + 17 ≤ n → newKey (drop from xs) ≡ newKey (drop from ys)
   new-key-within from h = newKey-same (drop from xs) (drop from ys) (agree-drop n from 17 xs ys a h)
 
+-- KEY_READ and KEY_WRITE have the same body.
+key-same : (port : Port) (mode : Mode) (xs ys : List ℕ) → Agree 36 xs ys → decodeKey port mode xs ≡ decodeKey port mode ys
+key-same port mode xs ys a = rw (first-same 36 xs ys a 2 (omega arith), credential-within 36 xs ys a 2 (omega arith), new-key-within 36 xs ys a 19 (omega arith))
+
 call-same : (port : Port) (name : Name) (xs ys : List ℕ) → Agree (lengthOf name) xs ys → decodeCall port name xs ≡ decodeCall port name ys
 unfolding decodeCall lengthOf row
 call-same port READ xs ys a = rw (first-same 23 xs ys a 2 (omega arith), operand-same 23 xs ys a 19 4 (omega arith), credential-within 23 xs ys a 2 (omega arith))
@@ -76,7 +82,7 @@ call-same port WRITE xs ys a = rw (first-same 535 xs ys a 2 (omega arith), opera
 call-same port ALLOC xs ys a = rw (first-same 22 xs ys a 2 (omega arith), operand-same 22 xs ys a 19 2 (omega arith), credential-within 22 xs ys a 2 (omega arith), a 21 (omega arith))
 call-same port CREATE xs ys a = rw (first-same 38 xs ys a 2 (omega arith), operand-same 38 xs ys a 19 2 (omega arith), credential-within 38 xs ys a 2 (omega arith), credential-within 38 xs ys a 21 (omega arith))
 call-same port DELETE xs ys a = rw (first-same 21 xs ys a 2 (omega arith), operand-same 21 xs ys a 19 2 (omega arith), credential-within 21 xs ys a 2 (omega arith))
-call-same port KEY xs ys a = rw (first-same 53 xs ys a 2 (omega arith), credential-within 53 xs ys a 2 (omega arith), new-key-within 53 xs ys a 19 (omega arith), new-key-within 53 xs ys a 36 (omega arith))
+call-same port KEY-READ xs ys a = key-same port Reading xs ys a
 call-same port RENEW xs ys a =
     rw (a 0 (omega arith), operand-same 23 xs ys a 1 2 (omega arith), operand-same 23 xs ys a 3 8 (omega arith), operand-same 23 xs ys a 11 8 (omega arith), operand-same 23 xs ys a 19 4 (omega arith))
 call-same port FORCE xs ys a = rw (first-same 2 xs ys a 2 (omega arith))
@@ -84,6 +90,7 @@ call-same port FREE xs ys a = refl
 call-same port TICK xs ys a = rw (first-same 8 xs ys a 8 (omega arith))
 call-same port AUDIT xs ys a = refl
 call-same port ALLOC-CONTIG xs ys a = rw (first-same 22 xs ys a 2 (omega arith), operand-same 22 xs ys a 19 2 (omega arith), credential-within 22 xs ys a 2 (omega arith), a 21 (omega arith))
+call-same port KEY-WRITE xs ys a = key-same port Writing xs ys a
 
 -- The data lie within the body.
 data-in-body : (name : Name) → operandsLength name + dataLength name ≤ lengthOf name
@@ -93,13 +100,14 @@ data-in-body WRITE = omega arith
 data-in-body ALLOC = omega arith
 data-in-body CREATE = omega arith
 data-in-body DELETE = omega arith
-data-in-body KEY = omega arith
+data-in-body KEY-READ = omega arith
 data-in-body RENEW = omega arith
 data-in-body FORCE = omega arith
 data-in-body FREE = omega arith
 data-in-body TICK = omega arith
 data-in-body AUDIT = omega arith
 data-in-body ALLOC-CONTIG = omega arith
+data-in-body KEY-WRITE = omega arith
 
 -- ---- a record
 

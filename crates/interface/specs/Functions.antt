@@ -3,6 +3,8 @@ use Prim.Native.Nat.{ℕ}
 use mathlib.Core.List.{List, []}
 use Rattle.card.specs.Card.{Card}
 use Rattle.card.specs.declared.Port.the-variants.{Host}
+use Rattle.card.specs.declared.Mode.{Mode}
+use Rattle.card.specs.declared.Mode.the-variants.{Reading, Writing}
 use Rattle.card.specs.declared.Call.the-variants.{Force, Free, Tick, Audit}
 use Rattle.records.specs.Decode.{readWith, writeWith, allocWith, allocContigWith, createWith, deleteWith, keyWith, renewWith}
 use Rattle.records.specs.declared.Decoding.{Decoding}
@@ -18,13 +20,18 @@ pub data Function : Type 0 where
   allocContig : (port block : ℕ) (credential : List ℕ) (hint count : ℕ) (places : List ℕ) → Function
   create : (port source : ℕ) (credential : List ℕ) (destination : ℕ) (second : List ℕ) → Function
   delete : (port source : ℕ) (credential : List ℕ) (destination value : ℕ) → Function
-  key : (port block : ℕ) (credential newRead newWrite : List ℕ) → Function
+  keyRead : (port block : ℕ) (credential key : List ℕ) → Function
+  keyWrite : (port block : ℕ) (credential key : List ℕ) → Function
   renew : (mode block : ℕ) (credential : List ℕ) (interval : ℕ) → Function
   force : (block : ℕ) → Function
   tick : (seconds value : ℕ) → Function
   free : (value : ℕ) → Function
   audit : Function
   serve : (port kind : ℕ) (body out places : List ℕ) (value : ℕ) → Function
+
+-- KEY_READ or KEY_WRITE, by the mode whose key it sets.
+abbrev pub keyAt : Mode → ℕ → ℕ → List ℕ → List ℕ → Decoding
+keyAt mode port block credential key = atPort port (keyWith Host mode block (credentialOf credential) (newKeyOf key))
 
 -- What a function makes of its operands: a call at a port, or refusal 13; and what is lent with it.
 pub record Lending : Type 0 where
@@ -44,7 +51,8 @@ lendingOf (alloc port block credential hint count places) = lending (atPort port
 lendingOf (allocContig port block credential hint count places) = lending (atPort port (allocContigWith Host block (credentialOf credential) hint count)) [] [] places 0
 lendingOf (create port source credential destination second) = lending (atPort port (createWith Host source (credentialOf credential) destination (credentialOf second))) [] [] [] 0
 lendingOf (delete port source credential destination value) = lending (atPort port (deleteWith Host source (credentialOf credential) destination)) [] [] [] value
-lendingOf (key port block credential newRead newWrite) = lending (atPort port (keyWith Host block (credentialOf credential) (newKeyOf newRead) (newKeyOf newWrite))) [] [] [] 0
+lendingOf (keyRead port block credential key) = lending (keyAt Reading port block credential key) [] [] [] 0
+lendingOf (keyWrite port block credential key) = lending (keyAt Writing port block credential key) [] [] [] 0
 lendingOf (renew mode block credential interval) = lending (renewWith Host mode block (credentialOf credential) interval) [] [] [] 0
 lendingOf (force block) = lending (Decoded Host (Force (record { block = block }))) [] [] [] 0
 lendingOf (tick seconds value) = lending (Decoded Host (Tick (record { seconds = seconds }))) [] [] [] value
@@ -65,7 +73,8 @@ functionPort (alloc port block credential hint count places) = port
 functionPort (allocContig port block credential hint count places) = port
 functionPort (create port source credential destination second) = port
 functionPort (delete port source credential destination value) = port
-functionPort (key port block credential newRead newWrite) = port
+functionPort (keyRead port block credential key) = port
+functionPort (keyWrite port block credential key) = port
 functionPort (renew mode block credential interval) = 0
 functionPort (force block) = 0
 functionPort (tick seconds value) = 0

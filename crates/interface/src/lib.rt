@@ -3,6 +3,7 @@
 // include/negvask.h describes them.
 use card::Call;
 use card::ForceOperands;
+use card::Mode;
 use card::Port;
 use card::TickOperands;
 use input::Stop;
@@ -11,7 +12,7 @@ use records::Decoding;
 ghost use mathlib.Core.Path.{_≡_};
 ghost use mathlib.Core.List.{[]};
 ghost use Rattle.adapter.specs.Effects.{formatEffect, Effects, EffectsGiving, EffectsLent};
-ghost use Rattle.interface.specs.Functions.{read, write, alloc, allocContig, create, delete, key, renew, force, tick, free, audit, serve, effectBy};
+ghost use Rattle.interface.specs.Functions.{read, write, alloc, allocContig, create, delete, keyRead, keyWrite, renew, force, tick, free, audit, serve, keyAt, effectBy};
 ghost use Rattle.interface.specs.Batch.{stopNumber, ServesBatch};
 
 // ---- the calls, by their operands
@@ -240,9 +241,19 @@ pub extern "C" fn negvask_delete(
     )
 }
 
-// KEY: both keys of the block replaced.
+// KEY_READ or KEY_WRITE, by the mode whose key it sets.
+fn key_at(mode: Mode, port: u8, block: u16, credential: &[u8], key: &[u8]) -> Decoding
+    ensures { λ r. ⌜ r ≡ keyAt mode port block (now (credential .entry)) (now (key .entry)) ⌝ }
+{
+    let parsed = parameters::credential_of(credential);
+    let new = parameters::new_key_of(key);
+    let made = records::key_with(Port::Host, mode, block, parsed, new);
+    parameters::at_port(port, made)
+}
+
+// KEY_READ: the read key of the block replaced.
 #[no_mangle]
-pub extern "C" fn negvask_key(
+pub extern "C" fn negvask_key_read(
     info: &mut [u64],
     flags: &mut [u8],
     keys: &mut [u64],
@@ -253,16 +264,44 @@ pub extern "C" fn negvask_key(
     port: u8,
     block: u16,
     credential: &[u8],
-    read: &[u8],
-    write: &[u8],
+    key: &[u8],
 ) -> u32
-    ensures { λ r. ⌜ Effects (effectBy (key port block (now (credential .entry)) (now (read .entry)) (now (write .entry)))) info flags keys counts pointers windows contents r [] [] ⌝ }
+    ensures { λ r. ⌜ Effects (effectBy (keyRead port block (now (credential .entry)) (now (key .entry)))) info flags keys counts pointers windows contents r [] [] ⌝ }
 {
-    let parsed = parameters::credential_of(credential);
-    let reading = parameters::new_key_of(read);
-    let writing = parameters::new_key_of(write);
-    let made = records::key_with(Port::Host, block, parsed, reading, writing);
-    let decoding = parameters::at_port(port, made);
+    let decoding = key_at(Mode::Reading, port, block, credential, key);
+    let mut value = 0;
+    adapter::perform_without_buffers(
+        info,
+        flags,
+        keys,
+        counts,
+        pointers,
+        windows,
+        contents,
+        decoding,
+        &[],
+        &mut value,
+    )
+}
+
+// KEY_WRITE: the write key of the block replaced.
+#[no_mangle]
+pub extern "C" fn negvask_key_write(
+    info: &mut [u64],
+    flags: &mut [u8],
+    keys: &mut [u64],
+    counts: &mut [u16],
+    pointers: &mut [u32],
+    windows: &mut [u64],
+    contents: &mut [u8],
+    port: u8,
+    block: u16,
+    credential: &[u8],
+    key: &[u8],
+) -> u32
+    ensures { λ r. ⌜ Effects (effectBy (keyWrite port block (now (credential .entry)) (now (key .entry)))) info flags keys counts pointers windows contents r [] [] ⌝ }
+{
+    let decoding = key_at(Mode::Writing, port, block, credential, key);
     let mut value = 0;
     adapter::perform_without_buffers(
         info,

@@ -39,3 +39,15 @@ service-kinds-exist-at-the-host-port = refl
 pub alloc-contig-of-kind-13 : allKindsTest Host ≡ true
 unfolding numbersBelow row names kindNumber lengthOf among kindOf kindLength bodyLength sameList
 alloc-contig-of-kind-13 = refl
+
+pub key-write-of-kind-14 : allKindsTest Host ≡ true
+unfolding numbersBelow row names kindNumber lengthOf among kindOf kindLength bodyLength sameList
+key-write-of-kind-14 = refl
+
+pub key-body-of-53 : allKindsTest Host ≡ true
+unfolding numbersBelow row names kindNumber lengthOf among kindOf kindLength bodyLength sameList
+key-body-of-53 = refl
+
+pub key-write-for-hosts-alone : allKindsTest Service ≡ true
+unfolding numbersBelow row names kindNumber lengthOf among kindOf kindLength bodyLength sameList
+key-write-for-hosts-alone = refl

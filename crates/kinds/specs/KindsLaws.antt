@@ -10,7 +10,7 @@ use Rattle.card.specs.declared.Port.the-variants.{Host}
 use Rattle.kinds.specs.Kinds.{row, names, kindNumber, lengthOf, dataLength, operandsLength, among, kindOf}
 use Rattle.kinds.specs.declared.Kind.the-variants.{Known, Unknown}
 use Rattle.kinds.specs.declared.Name.{Name}
-use Rattle.kinds.specs.declared.Name.the-variants.{Read as READ, Write as WRITE, Alloc as ALLOC, Create as CREATE, Delete as DELETE, Key as KEY, Renew as RENEW, Force as FORCE, Free as FREE, Tick as TICK, Audit as AUDIT, AllocContig as ALLOC-CONTIG}
+use Rattle.kinds.specs.declared.Name.the-variants.{Read as READ, Write as WRITE, Alloc as ALLOC, Create as CREATE, Delete as DELETE, KeyRead as KEY-READ, Renew as RENEW, Force as FORCE, Free as FREE, Tick as TICK, Audit as AUDIT, AllocContig as ALLOC-CONTIG, KeyWrite as KEY-WRITE}
 
 -- ---- a host's kinds
 
@@ -37,13 +37,14 @@ data-most WRITE = omega arith
 data-most ALLOC = omega arith
 data-most CREATE = omega arith
 data-most DELETE = omega arith
-data-most KEY = omega arith
+data-most KEY-READ = omega arith
 data-most RENEW = omega arith
 data-most FORCE = omega arith
 data-most FREE = omega arith
 data-most TICK = omega arith
 data-most AUDIT = omega arith
 data-most ALLOC-CONTIG = omega arith
+data-most KEY-WRITE = omega arith
 
 pub data-right : (name : Name) → dataLength name ≡ lengthOf name - operandsLength name
 unfolding operandsLength

@@ -13,13 +13,14 @@ pub enum Name {
     Alloc,
     Create,
     Delete,
-    Key,
+    KeyRead,
     Renew,
     Force,
     Free,
     Tick,
     Audit,
     AllocContig,
+    KeyWrite,
 }
 
 // What the byte of kind says.
@@ -50,13 +51,14 @@ fn host_kind_of(kind: u8) -> Kind
         3 => Kind::Known(Port::Host, Name::Alloc),
         4 => Kind::Known(Port::Host, Name::Create),
         5 => Kind::Known(Port::Host, Name::Delete),
-        6 => Kind::Known(Port::Host, Name::Key),
+        6 => Kind::Known(Port::Host, Name::KeyRead),
         7 => Kind::Known(Port::Host, Name::Renew),
         8 => Kind::Known(Port::Host, Name::Force),
         9 => Kind::Known(Port::Host, Name::Free),
         10 => Kind::Known(Port::Host, Name::Tick),
         11 => Kind::Known(Port::Host, Name::Audit),
         12 => Kind::Known(Port::Host, Name::AllocContig),
+        13 => Kind::Known(Port::Host, Name::KeyWrite),
         _ => Kind::Unknown,
     }
 }
@@ -72,8 +74,9 @@ fn service_kind_of(kind: u8) -> Kind
         131 => Kind::Known(Port::Service, Name::Alloc),
         132 => Kind::Known(Port::Service, Name::Create),
         133 => Kind::Known(Port::Service, Name::Delete),
-        134 => Kind::Known(Port::Service, Name::Key),
+        134 => Kind::Known(Port::Service, Name::KeyRead),
         140 => Kind::Known(Port::Service, Name::AllocContig),
+        141 => Kind::Known(Port::Service, Name::KeyWrite),
         _ => Kind::Unknown,
     }
 }
@@ -110,13 +113,14 @@ pub fn lengths_of(name: Name) -> Lengths
         Name::Alloc => both(22, 22),
         Name::Create => both(38, 38),
         Name::Delete => both(21, 21),
-        Name::Key => both(53, 53),
+        Name::KeyRead => both(36, 36),
         Name::Renew => both(23, 23),
         Name::Force => both(2, 2),
         Name::Free => both(0, 0),
         Name::Tick => both(8, 8),
         Name::Audit => both(0, 0),
         Name::AllocContig => both(22, 22),
+        Name::KeyWrite => both(36, 36),
     }
 }
 

@@ -1,21 +1,24 @@
--- Document 01, "Call records and the player": from the bytes of an input to a call, its port and its data.
+-- Document 01, "Call records and the player", and the requests: from the bytes of an input to a call, its port and its data.
 -- Each operand stands in the body behind those before it. Only the bytes of the body are looked at, whatever follows them.
 use Prim.Native.Nat.{ℕ}
 use mathlib.Core.Bool.{cond}
 use mathlib.Core.List.{List, [], _∷_}
 use lib.Dec.{leb}
 use lib.ListN.{length, take, drop, getD}
+use Rattle.card.specs.Session.{keyCall}
 use Rattle.card.specs.declared.Port.{Port}
+use Rattle.card.specs.declared.Mode.{Mode}
+use Rattle.card.specs.declared.Mode.the-variants.{Reading, Writing}
 use Rattle.card.specs.declared.Credential.{Credential}
 use Rattle.card.specs.declared.Credential.the-variants.{Nothing, Reference, Key as KeyCredential}
 use Rattle.card.specs.declared.AllocOperands.{AllocOperands}
 use Rattle.card.specs.declared.Call.{Call}
-use Rattle.card.specs.declared.Call.the-variants.{Read, Write, Alloc, AllocContig, Create, Delete, Key, Renew, Force, Free, Tick, Audit}
+use Rattle.card.specs.declared.Call.the-variants.{Read, Write, Alloc, AllocContig, Create, Delete, KeyRead, KeyWrite, Renew, Force, Free, Tick, Audit}
 use Rattle.fields.specs.Bytes.{number}
 use Rattle.fields.specs.Fields.{credential, newKey}
 use Rattle.kinds.specs.Kinds.{lengthOf, dataLength, operandsLength, kindOf}
 use Rattle.kinds.specs.declared.Name.{Name}
-use Rattle.kinds.specs.declared.Name.the-variants.{Read as READ, Write as WRITE, Alloc as ALLOC, Create as CREATE, Delete as DELETE, Key as KEY, Renew as RENEW, Force as FORCE, Free as FREE, Tick as TICK, Audit as AUDIT, AllocContig as ALLOC-CONTIG}
+use Rattle.kinds.specs.declared.Name.the-variants.{Read as READ, Write as WRITE, Alloc as ALLOC, Create as CREATE, Delete as DELETE, KeyRead as KEY-READ, Renew as RENEW, Force as FORCE, Free as FREE, Tick as TICK, Audit as AUDIT, AllocContig as ALLOC-CONTIG, KeyWrite as KEY-WRITE}
 use Rattle.kinds.specs.declared.Kind.{Kind}
 use Rattle.kinds.specs.declared.Kind.the-variants.{Known, Unknown}
 use Rattle.fields.specs.declared.ParsedCredential.{ParsedCredential}
@@ -58,12 +61,11 @@ abbrev pub deleteWith : Port → ℕ → ParsedCredential → ℕ → Decoding
 deleteWith port source p destination =
     withCredential port (λ c. Delete (record { source = source; credential = c; destination = destination })) p
 
-unfoldable pub keyWith : Port → ℕ → ParsedCredential → ParsedKey → ParsedKey → Decoding
-keyWith port block (ValidCredential c) (ValidKey r) (ValidKey w) =
-    Decoded port (Key (record { block = block; credential = c; read = r; write = w }))
-keyWith port block (ValidCredential c) (ValidKey r) InvalidKey = Bad
-keyWith port block (ValidCredential c) InvalidKey write = Bad
-keyWith port block InvalidCredential read write = Bad
+-- KEY_READ or KEY_WRITE, by the mode whose key it sets.
+unfoldable pub keyWith : Port → Mode → ℕ → ParsedCredential → ParsedKey → Decoding
+keyWith port mode block (ValidCredential c) (ValidKey k) = Decoded port (keyCall mode (record { block = block; credential = c; key = k }))
+keyWith port mode block (ValidCredential c) InvalidKey = Bad
+keyWith port mode block InvalidCredential k = Bad
 
 -- RENEW is by a key alone.
 unfoldable pub renewWith : Port → ℕ → ℕ → ParsedCredential → ℕ → Decoding
@@ -75,6 +77,10 @@ renewWith port mode block InvalidCredential interval = Bad
 
 -- ---- each call's body
 
+-- 2026-02, "a body of 36": KEY_READ and KEY_WRITE have a block, a credential and one new key.
+abbrev pub decodeKey : Port → Mode → List ℕ → Decoding
+decodeKey port mode xs = keyWith port mode (number 2 xs) (credential (drop 2 xs)) (newKey (drop 19 xs))
+
 -- A body of the call's length, or one that starts so.
 unfoldable pub decodeCall : Port → Name → List ℕ → Decoding
 decodeCall port READ xs = readWith port (number 2 xs) (credential (drop 2 xs)) (number 4 (drop 19 xs))
@@ -82,7 +88,7 @@ decodeCall port WRITE xs = writeWith port (number 2 xs) (credential (drop 2 xs))
 decodeCall port ALLOC xs = allocWith port (number 2 xs) (credential (drop 2 xs)) (number 2 (drop 19 xs)) (getD xs 21 0)
 decodeCall port CREATE xs = createWith port (number 2 xs) (credential (drop 2 xs)) (number 2 (drop 19 xs)) (credential (drop 21 xs))
 decodeCall port DELETE xs = deleteWith port (number 2 xs) (credential (drop 2 xs)) (number 2 (drop 19 xs))
-decodeCall port KEY xs = keyWith port (number 2 xs) (credential (drop 2 xs)) (newKey (drop 19 xs)) (newKey (drop 36 xs))
+decodeCall port KEY-READ xs = decodeKey port Reading xs
 decodeCall port RENEW xs =
     renewWith port (getD xs 0 0) (number 2 (drop 1 xs)) (ValidCredential (KeyCredential (number 8 (drop 3 xs)) (number 8 (drop 11 xs)))) (number 4 (drop 19 xs))
 decodeCall port FORCE xs = Decoded port (Force (record { block = number 2 xs }))
@@ -90,6 +96,7 @@ decodeCall port FREE xs = Decoded port Free
 decodeCall port TICK xs = Decoded port (Tick (record { seconds = number 8 xs }))
 decodeCall port AUDIT xs = Decoded port Audit
 decodeCall port ALLOC-CONTIG xs = allocContigWith port (number 2 xs) (credential (drop 2 xs)) (number 2 (drop 19 xs)) (getD xs 21 0)
+decodeCall port KEY-WRITE xs = decodeKey port Writing xs
 
 -- ---- a record
 
@@ -109,7 +116,8 @@ nameOf (Alloc o) = ALLOC
 nameOf (AllocContig o) = ALLOC-CONTIG
 nameOf (Create o) = CREATE
 nameOf (Delete o) = DELETE
-nameOf (Key o) = KEY
+nameOf (KeyRead o) = KEY-READ
+nameOf (KeyWrite o) = KEY-WRITE
 nameOf (Renew o) = RENEW
 nameOf (Force o) = FORCE
 nameOf Free = FREE

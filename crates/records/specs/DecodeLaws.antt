@@ -9,7 +9,11 @@ use lib.Dec.{leb}
 use lib.ListN.{length, drop, getD, length-drop}
 use borrow.Author.Tests.{le-leb, lt-leb, leb-true}
 use Rattle.card.specs.ListsLaws.{not-cases}
+use Rattle.card.specs.Session.{keyCall}
 use Rattle.card.specs.declared.Port.{Port}
+use Rattle.card.specs.declared.Mode.{Mode}
+use Rattle.card.specs.declared.Mode.the-variants.{Reading, Writing}
+use Rattle.card.specs.declared.KeyOperands.{KeyOperands}
 use Rattle.card.specs.declared.Port.the-variants.{Host}
 use Rattle.card.specs.declared.Credential.{Credential}
 use Rattle.card.specs.declared.Credential.the-variants.{Key as KeyCredential}
@@ -19,9 +23,9 @@ use Rattle.fields.specs.Bytes.{number}
 use Rattle.kinds.specs.Kinds.{lengthOf, kindOf}
 use Rattle.kinds.specs.KindsLaws.{host-kinds}
 use Rattle.fields.specs.Fields.{credential, newKey}
-use Rattle.records.specs.Decode.{withCredential, readWith, writeWith, allocWith, allocContigWith, createWith, deleteWith, keyWith, renewWith, decodeCall, decodeKnown, decodeBody, nameOf, sent, nextOf, decode}
+use Rattle.records.specs.Decode.{withCredential, readWith, writeWith, allocWith, allocContigWith, createWith, deleteWith, keyWith, renewWith, decodeKey, decodeCall, decodeKnown, decodeBody, nameOf, sent, nextOf, decode}
 use Rattle.kinds.specs.declared.Name.{Name}
-use Rattle.kinds.specs.declared.Name.the-variants.{Read as READ, Write as WRITE, Alloc as ALLOC, Create as CREATE, Delete as DELETE, Key as KEY, Renew as RENEW, Force as FORCE, Free as FREE, Tick as TICK, Audit as AUDIT, AllocContig as ALLOC-CONTIG}
+use Rattle.kinds.specs.declared.Name.the-variants.{Read as READ, Write as WRITE, Alloc as ALLOC, Create as CREATE, Delete as DELETE, KeyRead as KEY-READ, Renew as RENEW, Force as FORCE, Free as FREE, Tick as TICK, Audit as AUDIT, AllocContig as ALLOC-CONTIG, KeyWrite as KEY-WRITE}
 use Rattle.kinds.specs.declared.Kind.{Kind}
 use Rattle.kinds.specs.declared.Kind.the-variants.{Known, Unknown}
 use Rattle.fields.specs.declared.ParsedCredential.{ParsedCredential}
@@ -64,10 +68,17 @@ module _ (port : Port) (xs : List ℕ) where
   unfolding decodeCall
   delete s p d = rw (s, p, d)
 
-  pub key : {b : ℕ} {p : ParsedCredential} {r w : ParsedKey} → b ≡ number 2 xs → p ≡ credential (drop 2 xs) → r ≡ newKey (drop 19 xs) → w ≡ newKey (drop 36 xs)
-      → keyWith port b p r w ≡ decodeCall port KEY xs
+  pub key : (m : Mode) {b : ℕ} {p : ParsedCredential} {k : ParsedKey} → b ≡ number 2 xs → p ≡ credential (drop 2 xs) → k ≡ newKey (drop 19 xs)
+      → keyWith port m b p k ≡ decodeKey port m xs
+  key m b p k = rw (b, p, k)
+
+  pub key-read : decodeKey port Reading xs ≡ decodeCall port KEY-READ xs
   unfolding decodeCall
-  key b p r w = rw (b, p, r, w)
+  key-read = refl
+
+  pub key-write : decodeKey port Writing xs ≡ decodeCall port KEY-WRITE xs
+  unfolding decodeCall
+  key-write = refl
 
   pub renew : {m b h l i : ℕ}
       → m ≡ getD xs 0 0 → b ≡ number 2 (drop 1 xs) → h ≡ number 8 (drop 3 xs) → l ≡ number 8 (drop 11 xs) → i ≡ number 4 (drop 19 xs)
@@ -137,12 +148,13 @@ named-create port s d (ValidCredential c) (ValidCredential e) = (refl, refl)
 named-create port s d (ValidCredential c) InvalidCredential = tt
 named-create port s d InvalidCredential q = tt
 
-named-key : (port : Port) (b : ℕ) (p : ParsedCredential) (r w : ParsedKey) → Named port KEY (keyWith port b p r w)
-unfolding keyWith nameOf
-named-key port b (ValidCredential c) (ValidKey m) (ValidKey n) = (refl, refl)
-named-key port b (ValidCredential c) (ValidKey m) InvalidKey = tt
-named-key port b (ValidCredential c) InvalidKey w = tt
-named-key port b InvalidCredential r w = tt
+named-key : (port : Port) (name : Name) (mode : Mode)
+    → ((o : KeyOperands) → nameOf (keyCall mode o) ≡ name) → (b : ℕ) (p : ParsedCredential) (k : ParsedKey)
+    → Named port name (keyWith port mode b p k)
+unfolding keyWith
+named-key port name mode h b (ValidCredential c) (ValidKey k) = (refl, h _)
+named-key port name mode h b (ValidCredential c) InvalidKey = tt
+named-key port name mode h b InvalidCredential k = tt
 
 named : (port : Port) (name : Name) (xs : List ℕ) → Named port name (decodeCall port name xs)
 unfolding decodeCall renewWith nameOf
@@ -151,13 +163,14 @@ named port WRITE xs = named-credential port WRITE _ (λ c. refl) _
 named port ALLOC xs = named-credential port ALLOC _ (λ c. refl) _
 named port CREATE xs = named-create port _ _ _ _
 named port DELETE xs = named-credential port DELETE _ (λ c. refl) _
-named port KEY xs = named-key port _ _ _ _
+named port KEY-READ xs = named-key port KEY-READ Reading (λ o. refl) _ _ _
 named port RENEW xs = (refl, refl)
 named port FORCE xs = (refl, refl)
 named port FREE xs = (refl, refl)
 named port TICK xs = (refl, refl)
 named port AUDIT xs = (refl, refl)
 named port ALLOC-CONTIG xs = named-credential port ALLOC-CONTIG _ (λ c. refl) _
+named port KEY-WRITE xs = named-key port KEY-WRITE Writing (λ o. refl) _ _ _
 
 apart : (p : Port) (call : Call) → Decoded p call ≡ Bad → ⊥
 apart p call e = let z : _≡_ {A = ℕ} 0 1 = cc in omega arith

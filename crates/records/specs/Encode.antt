@@ -8,8 +8,9 @@ use Rattle.card.specs.declared.Credential.the-variants.{Nothing, Reference, Key
 use Rattle.card.specs.declared.NewKey.{NewKey}
 use Rattle.card.specs.declared.NewKey.the-variants.{Absent, Present}
 use Rattle.card.specs.declared.AllocOperands.{AllocOperands}
+use Rattle.card.specs.declared.KeyOperands.{KeyOperands}
 use Rattle.card.specs.declared.Call.{Call}
-use Rattle.card.specs.declared.Call.the-variants.{Read, Write, Alloc, AllocContig, Create, Delete, Key, Renew, Force, Free, Tick, Audit}
+use Rattle.card.specs.declared.Call.the-variants.{Read, Write, Alloc, AllocContig, Create, Delete, KeyRead, KeyWrite, Renew, Force, Free, Tick, Audit}
 use Rattle.fields.specs.Bytes.{bytes}
 use Rattle.kinds.specs.Kinds.{kindNumber}
 use Rattle.records.specs.Decode.{nameOf}
@@ -27,6 +28,10 @@ newKeyBytes (Present high low) = 1 ∷ (bytes 8 high ++ bytes 8 low)
 abbrev pub allocBody : AllocOperands → List ℕ → List ℕ
 allocBody o ys = bytes 2 (o .reference) ++ (credentialBytes (o .credential) ++ (bytes 2 (o .hint) ++ (bytes 1 (o .count) ++ ys)))
 
+-- And of KEY_READ and KEY_WRITE.
+abbrev pub keyBody : KeyOperands → List ℕ → List ℕ
+keyBody o ys = bytes 2 (o .block) ++ (credentialBytes (o .credential) ++ (newKeyBytes (o .key) ++ ys))
+
 -- A call's operands in order, then what follows them.
 unfoldable pub body : Call → List ℕ → List ℕ
 body (Read o) ys = bytes 2 (o .block) ++ (credentialBytes (o .credential) ++ (bytes 4 (o .interval) ++ ys))
@@ -36,7 +41,8 @@ body (AllocContig o) ys = allocBody o ys
 body (Create o) ys =
     bytes 2 (o .source) ++ (credentialBytes (o .credential) ++ (bytes 2 (o .destination) ++ (credentialBytes (o .second) ++ ys)))
 body (Delete o) ys = bytes 2 (o .source) ++ (credentialBytes (o .credential) ++ (bytes 2 (o .destination) ++ ys))
-body (Key o) ys = bytes 2 (o .block) ++ (credentialBytes (o .credential) ++ (newKeyBytes (o .read) ++ (newKeyBytes (o .write) ++ ys)))
+body (KeyRead o) ys = keyBody o ys
+body (KeyWrite o) ys = keyBody o ys
 body (Renew o) ys =
     bytes 1 (o .mode) ++ (bytes 2 (o .block) ++ (bytes 8 (o .high) ++ (bytes 8 (o .low) ++ (bytes 4 (o .interval) ++ ys))))
 body (Force o) ys = bytes 2 (o .block) ++ ys
@@ -67,6 +73,9 @@ FitsNewKey (Present high low) = Fits 8 high × Fits 8 low
 abbrev pub FitsAlloc : AllocOperands → Type 0
 FitsAlloc o = Fits 2 (o .reference) × (FitsCredential (o .credential) × (Fits 2 (o .hint) × Fits 1 (o .count)))
 
+abbrev pub FitsKey : KeyOperands → Type 0
+FitsKey o = Fits 2 (o .block) × (FitsCredential (o .credential) × FitsNewKey (o .key))
+
 unfoldable pub FitsCall : Call → Type 0
 FitsCall (Read o) = Fits 2 (o .block) × (FitsCredential (o .credential) × Fits 4 (o .interval))
 FitsCall (Write o) = Fits 2 (o .block) × (FitsCredential (o .credential) × Fits 4 (o .interval))
@@ -74,7 +83,8 @@ FitsCall (Alloc o) = FitsAlloc o
 FitsCall (AllocContig o) = FitsAlloc o
 FitsCall (Create o) = Fits 2 (o .source) × (FitsCredential (o .credential) × (Fits 2 (o .destination) × FitsCredential (o .second)))
 FitsCall (Delete o) = Fits 2 (o .source) × (FitsCredential (o .credential) × Fits 2 (o .destination))
-FitsCall (Key o) = Fits 2 (o .block) × (FitsCredential (o .credential) × (FitsNewKey (o .read) × FitsNewKey (o .write)))
+FitsCall (KeyRead o) = FitsKey o
+FitsCall (KeyWrite o) = FitsKey o
 FitsCall (Renew o) = Fits 1 (o .mode) × (Fits 2 (o .block) × (Fits 8 (o .high) × (Fits 8 (o .low) × Fits 4 (o .interval))))
 FitsCall (Force o) = Fits 2 (o .block)
 FitsCall Free = Unit {0}

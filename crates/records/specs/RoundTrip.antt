@@ -9,24 +9,28 @@ use lib.ListN.{length, drop, getD, replicate, length-append}
 use lib.Seq.{getD-drop, drop-drop, drop-at, take-at}
 use Rattle.card.specs.Pointers.{contains}
 use Rattle.card.specs.Lists.{any}
+use Rattle.card.specs.Session.{keyCall}
 use Rattle.card.specs.declared.Port.{Port}
 use Rattle.card.specs.declared.Port.the-variants.{Host, Service}
+use Rattle.card.specs.declared.Mode.{Mode}
+use Rattle.card.specs.declared.Mode.the-variants.{Reading, Writing}
 use Rattle.card.specs.declared.Credential.{Credential}
 use Rattle.card.specs.declared.Credential.the-variants.{Nothing, Reference, Key as KeyCredential}
 use Rattle.card.specs.declared.NewKey.{NewKey}
 use Rattle.card.specs.declared.NewKey.the-variants.{Absent, Present}
 use Rattle.card.specs.declared.AllocOperands.{AllocOperands}
+use Rattle.card.specs.declared.KeyOperands.{KeyOperands}
 use Rattle.card.specs.declared.Call.{Call}
-use Rattle.card.specs.declared.Call.the-variants.{Read, Write, Alloc, AllocContig, Create, Delete, Key, Renew, Force, Free, Tick, Audit}
+use Rattle.card.specs.declared.Call.the-variants.{Read, Write, Alloc, AllocContig, Create, Delete, KeyRead, KeyWrite, Renew, Force, Free, Tick, Audit}
 use Rattle.fields.specs.Bytes.{number, bytes, zeroed}
 use Rattle.fields.specs.BytesLaws.{length-bytes, number-bytes}
 use Rattle.kinds.specs.Kinds.{row, names, kindNumber, lengthOf, dataLength, operandsLength, takes, hasKind, among, kindOf}
 use Rattle.fields.specs.Fields.{credential, newKey}
-use Rattle.records.specs.Decode.{withCredential, createWith, keyWith, renewWith, decodeCall, nameOf, dataOf, sent, nextOf, decode}
+use Rattle.records.specs.Decode.{withCredential, createWith, keyWith, renewWith, decodeKey, decodeCall, nameOf, dataOf, sent, nextOf, decode}
 use Rattle.records.specs.DecodeLaws as laws
-use Rattle.records.specs.Encode.{credentialBytes, newKeyBytes, allocBody, body, encode, Fits, FitsCredential, FitsNewKey, FitsAlloc, FitsCall}
+use Rattle.records.specs.Encode.{credentialBytes, newKeyBytes, allocBody, keyBody, body, encode, Fits, FitsCredential, FitsNewKey, FitsAlloc, FitsKey, FitsCall}
 use Rattle.kinds.specs.declared.Name.{Name}
-use Rattle.kinds.specs.declared.Name.the-variants.{Read as READ, Write as WRITE, Alloc as ALLOC, Create as CREATE, Delete as DELETE, Key as KEY, Renew as RENEW, Force as FORCE, Free as FREE, Tick as TICK, Audit as AUDIT, AllocContig as ALLOC-CONTIG}
+use Rattle.kinds.specs.declared.Name.the-variants.{Read as READ, Write as WRITE, Alloc as ALLOC, Create as CREATE, Delete as DELETE, KeyRead as KEY-READ, Renew as RENEW, Force as FORCE, Free as FREE, Tick as TICK, Audit as AUDIT, AllocContig as ALLOC-CONTIG, KeyWrite as KEY-WRITE}
 use Rattle.kinds.specs.declared.Kind.{Kind}
 use Rattle.kinds.specs.declared.Kind.the-variants.{Known, Unknown}
 use Rattle.fields.specs.declared.ParsedCredential.the-variants.{Valid as ValidCredential}
@@ -111,7 +115,8 @@ behind (Alloc o) ys = then-more (opened _ _ _) (then-more (then-bytes 2 _ _) (th
 behind (AllocContig o) ys = then-more (opened _ _ _) (then-more (then-bytes 2 _ _) (then-bytes 1 _ ys))
 behind (Create o) ys = then-more (opened _ _ _) (then-more (then-bytes 2 _ _) (then-credential _ ys))
 behind (Delete o) ys = then-more (opened _ _ _) (then-bytes 2 _ ys)
-behind (Key o) ys = then-more (opened _ _ _) (then-more (then-newKey _ _) (then-newKey _ ys))
+behind (KeyRead o) ys = then-more (opened _ _ _) (then-newKey _ ys)
+behind (KeyWrite o) ys = then-more (opened _ _ _) (then-newKey _ ys)
 behind (Renew o) ys =
     then-more (then-bytes 1 _ _)
     (then-more (then-bytes 2 _ _) (then-more (then-bytes 8 _ _) (then-more (then-bytes 8 _ _) (then-bytes 4 _ ys))))
@@ -138,8 +143,17 @@ by-parts o ys h law =
     (sym (at (number 2) hinted (number-bytes 2 (o .hint) _ (h .1 .1 .0))))
     (sym (byte-at 21 _ (o .count) ys (then-more hinted (then-bytes 2 (o .hint) _)) (h .1 .1 .1)))
 
+-- KEY_READ and KEY_WRITE.
+decoded-key : (port : Port) (mode : Mode) (o : KeyOperands) (ys : List ℕ) → FitsKey o → Decoded port (keyCall mode o) ≡ decodeKey port mode (keyBody o ys)
+unfolding keyWith
+decoded-key port mode o ys h =
+    laws.key port _ mode
+    (sym (number-bytes 2 (o .block) _ (h .0)))
+    (sym (at credential (then-bytes 2 (o .block) _) (credential-back (o .credential) _ (h .1 .0))))
+    (sym (at newKey (opened (o .block) (o .credential) _) (newKey-back (o .key) ys (h .1 .1))))
+
 decoded : (port : Port) (call : Call) (ys : List ℕ) → FitsCall call → Decoded port call ≡ decodeCall port (nameOf call) (body call ys)
-unfolding FitsCall nameOf body withCredential createWith keyWith renewWith
+unfolding FitsCall nameOf body withCredential createWith renewWith
 decoded port (Read o) ys h =
     laws.read port _
     (sym (number-bytes 2 (o .block) _ (h .0)))
@@ -163,12 +177,8 @@ decoded port (Delete o) ys h =
     (sym (number-bytes 2 (o .source) _ (h .0)))
     (sym (at credential (then-bytes 2 (o .source) _) (credential-back (o .credential) _ (h .1 .0))))
     (sym (at (number 2) (opened (o .source) (o .credential) _) (number-bytes 2 (o .destination) ys (h .1 .1))))
-decoded port (Key o) ys h =
-    laws.key port _
-    (sym (number-bytes 2 (o .block) _ (h .0)))
-    (sym (at credential (then-bytes 2 (o .block) _) (credential-back (o .credential) _ (h .1 .0))))
-    (sym (at newKey (opened (o .block) (o .credential) _) (newKey-back (o .read) _ (h .1 .1 .0))))
-    (sym (at newKey (then-more (opened (o .block) (o .credential) _) (then-newKey (o .read) _)) (newKey-back (o .write) ys (h .1 .1 .1))))
+decoded port (KeyRead o) ys h = decoded-key port Reading o ys h ∙ laws.key-read port _
+decoded port (KeyWrite o) ys h = decoded-key port Writing o ys h ∙ laws.key-write port _
 decoded port (Renew o) ys h =
     let t1 = then-bytes 1 (o .mode) (bytes 2 (o .block) ++ (bytes 8 (o .high) ++ (bytes 8 (o .low) ++ (bytes 4 (o .interval) ++ ys)))) in
     let t3 = then-more t1 (then-bytes 2 (o .block) _) in
@@ -205,13 +215,14 @@ host-kind WRITE = refl
 host-kind ALLOC = refl
 host-kind CREATE = refl
 host-kind DELETE = refl
-host-kind KEY = refl
+host-kind KEY-READ = refl
 host-kind RENEW = refl
 host-kind FORCE = refl
 host-kind FREE = refl
 host-kind TICK = refl
 host-kind AUDIT = refl
 host-kind ALLOC-CONTIG = refl
+host-kind KEY-WRITE = refl
 
 service-kind : (name : Name) → hasKind Service name ≡ true → kindOf Service (kindNumber Service name) ≡ Known Service name
 unfolding hasKind contains any kindOf among names kindNumber row
@@ -220,13 +231,14 @@ service-kind WRITE e = refl
 service-kind ALLOC e = refl
 service-kind CREATE e = refl
 service-kind DELETE e = refl
-service-kind KEY e = refl
+service-kind KEY-READ e = refl
 service-kind RENEW e = absurd (false≢true e)
 service-kind FORCE e = absurd (false≢true e)
 service-kind FREE e = absurd (false≢true e)
 service-kind TICK e = absurd (false≢true e)
 service-kind AUDIT e = absurd (false≢true e)
 service-kind ALLOC-CONTIG e = refl
+service-kind KEY-WRITE e = refl
 
 known-kind : (wire port : Port) → takes wire port ≡ true → (name : Name) → hasKind port name ≡ true → kindOf wire (kindNumber port name) ≡ Known port name
 unfolding takes kindOf
@@ -243,13 +255,14 @@ parts WRITE = refl
 parts ALLOC = refl
 parts CREATE = refl
 parts DELETE = refl
-parts KEY = refl
+parts KEY-READ = refl
 parts RENEW = refl
 parts FORCE = refl
 parts FREE = refl
 parts TICK = refl
 parts AUDIT = refl
 parts ALLOC-CONTIG = refl
+parts KEY-WRITE = refl
 
 body-append : (call : Call) (ys zs : List ℕ) → body call ys ++ zs ≡ body call (ys ++ zs)
 unfolding body
@@ -259,7 +272,8 @@ body-append (Alloc o) ys zs = simp append-assoc
 body-append (AllocContig o) ys zs = simp append-assoc
 body-append (Create o) ys zs = simp append-assoc
 body-append (Delete o) ys zs = simp append-assoc
-body-append (Key o) ys zs = simp append-assoc
+body-append (KeyRead o) ys zs = simp append-assoc
+body-append (KeyWrite o) ys zs = simp append-assoc
 body-append (Renew o) ys zs = simp append-assoc
 body-append (Force o) ys zs = simp append-assoc
 body-append Free ys zs = refl

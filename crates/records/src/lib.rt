@@ -1,5 +1,5 @@
 // Decoding a call record: from a kind and the bytes of a body to the call and its port.
-// What is right is defined in specs/, after document 01, "Call records and the player".
+// What is right is defined in specs/, after document 01, "Call records and the player", and the requests.
 use card::AllocOperands;
 use card::Call;
 use card::CreateOperands;
@@ -7,6 +7,7 @@ use card::Credential;
 use card::DeleteOperands;
 use card::ForceOperands;
 use card::KeyOperands;
+use card::Mode;
 use card::Port;
 use card::ReadOperands;
 use card::RenewOperands;
@@ -20,7 +21,7 @@ ghost use mathlib.Core.Path.{_≡_};
 ghost use Prim.Native.Nat.{_≤_};
 ghost use lib.ListN.{length};
 ghost use Rattle.kinds.specs.Kinds.{lengthOf};
-ghost use Rattle.records.specs.Decode.{readWith, writeWith, allocOperands, allocWith, allocContigWith, createWith, deleteWith, keyWith, renewWith, decodeCall, decodeBody};
+ghost use Rattle.records.specs.Decode.{readWith, writeWith, allocOperands, allocWith, allocContigWith, createWith, deleteWith, keyWith, renewWith, decodeKey, decodeCall, decodeBody};
 ghost use Rattle.records.specs.Parsed.{parsedBad, ParsedIs};
 
 // A call at its port, or refusal 13.
@@ -160,33 +161,31 @@ pub fn delete_with(port: Port, source: u16, parsed: ParsedCredential, destinatio
     }
 }
 
+// KEY_READ or KEY_WRITE, by the mode whose key it sets.
 pub fn key_with(
     port: Port,
+    mode: Mode,
     block: u16,
     parsed: ParsedCredential,
-    reading: ParsedKey,
-    writing: ParsedKey,
+    new: ParsedKey,
 ) -> Decoding
-    ensures { λ r. ⌜ r ≡ keyWith port block parsed reading writing ⌝ }
+    ensures { λ r. ⌜ r ≡ keyWith port mode block parsed new ⌝ }
 {
     let ParsedCredential::Valid(credential) = parsed else {
         return Decoding::Bad;
     };
-    let ParsedKey::Valid(read) = reading else {
+    let ParsedKey::Valid(key) = new else {
         return Decoding::Bad;
     };
-    let ParsedKey::Valid(write) = writing else {
-        return Decoding::Bad;
+    let o = KeyOperands {
+        block,
+        credential,
+        key,
     };
-    Decoding::Decoded(
-        port,
-        Call::Key(KeyOperands {
-            block,
-            credential,
-            read,
-            write,
-        }),
-    )
+    match mode {
+        Mode::Reading => Decoding::Decoded(port, Call::KeyRead(o)),
+        Mode::Writing => Decoding::Decoded(port, Call::KeyWrite(o)),
+    }
 }
 
 // RENEW is by a key alone.
@@ -286,15 +285,15 @@ fn decode_delete(port: Port, body: &[u8]) -> Decoding
     delete_with(port, source, credential, destination)
 }
 
-fn decode_key(port: Port, body: &[u8]) -> Decoding
-    requires { ⌜ 53 ≤ length (now body) ⌝ }
-    ensures { λ r. ⌜ r ≡ decodeCall port Name.Key (now (body .entry)) ⌝ }
+// KEY_READ and KEY_WRITE have the same body.
+fn decode_key(port: Port, mode: Mode, body: &[u8]) -> Decoding
+    requires { ⌜ 36 ≤ length (now body) ⌝ }
+    ensures { λ r. ⌜ r ≡ decodeKey port mode (now (body .entry)) ⌝ }
 {
     let block = fields::two(body, 0);
     let credential = fields::credential(body, 2);
-    let reading = fields::new_key(body, 19);
-    let writing = fields::new_key(body, 36);
-    key_with(port, block, credential, reading, writing)
+    let new = fields::new_key(body, 19);
+    key_with(port, mode, block, credential, new)
 }
 
 // A bare key.
@@ -338,13 +337,14 @@ fn decode_call(port: Port, name: Name, body: &[u8]) -> Decoding
         Name::Alloc => decode_alloc(port, body),
         Name::Create => decode_create(port, body),
         Name::Delete => decode_delete(port, body),
-        Name::Key => decode_key(port, body),
+        Name::KeyRead => decode_key(port, Mode::Reading, body),
         Name::Renew => decode_renew(port, body),
         Name::Force => decode_force(port, body),
         Name::Free => Decoding::Decoded(port, Call::Free),
         Name::Tick => decode_tick(port, body),
         Name::Audit => Decoding::Decoded(port, Call::Audit),
         Name::AllocContig => decode_alloc_contig(port, body),
+        Name::KeyWrite => decode_key(port, Mode::Writing, body),
     }
 }
 

@@ -30,6 +30,16 @@ allocBytes = 131 ∷ 0 ∷ 0 ∷ (noCredential ++ (255 ∷ 255 ∷ 2 ∷ []))
 abbrev allocContigBytes : List ℕ
 allocContigBytes = 140 ∷ 0 ∷ 0 ∷ (noCredential ++ (255 ∷ 255 ∷ 2 ∷ []))
 
+-- KEY_READ and KEY_WRITE of block 1 at the service port, with a new key.
+abbrev newKeyBytes : List ℕ
+newKeyBytes = 1 ∷ (zeros 15 ++ (7 ∷ []))
+
+abbrev keyReadBytes : List ℕ
+keyReadBytes = 134 ∷ 0 ∷ 1 ∷ (noCredential ++ newKeyBytes)
+
+abbrev keyWriteBytes : List ℕ
+keyWriteBytes = 141 ∷ 0 ∷ 1 ∷ (noCredential ++ newKeyBytes)
+
 -- A host's READ by nothing, interval 0.
 abbrev readBytes : ℕ → List ℕ
 readBytes b = 1 ∷ 0 ∷ b ∷ (noCredential ++ zeros 4)
@@ -82,9 +92,13 @@ batches =
     -- ALLOC_CONTIG wants 129 bytes of room
     ∷ batchSample playerCard Service (allocContigBytes ++ freeBytes) 138 Ended (0 ∷ 0 ∷ 1 ∷ 0 ∷ 2 ∷ 0 ∷ (zeros 7 ++ (13 ∷ []))) 2 0
     ∷ batchSample playerCard Service allocContigBytes 128 Full [] 0 23
+    -- KEY_READ and KEY_WRITE want one byte of room
+    ∷ batchSample playerCard Service (allocBytes ++ (keyReadBytes ++ (keyWriteBytes ++ auditBytes))) 129 Ended (0 ∷ 0 ∷ 1 ∷ 0 ∷ 2 ∷ 0 ∷ 0 ∷ 0 ∷ []) 4 0
+    -- a second new key is no part of KEY_READ: here its 17 bytes are a READ cut short
+    ∷ batchSample playerCard Service (allocBytes ++ (keyReadBytes ++ newKeyBytes)) 129 Short (0 ∷ 0 ∷ 1 ∷ 0 ∷ 2 ∷ 0 ∷ []) 2 17
     -- a body cut short, and another kind
     ∷ batchSample playerCard Service (auditBytes ++ (10 ∷ 0 ∷ [])) 100 Short (0 ∷ []) 1 2
-    ∷ batchSample playerCard Service (auditBytes ++ (13 ∷ 0 ∷ [])) 100 Refused (0 ∷ []) 1 2
+    ∷ batchSample playerCard Service (auditBytes ++ (14 ∷ 0 ∷ [])) 100 Refused (0 ∷ []) 1 2
     -- at the host port the service port's kinds do not exist, whole or cut short, and what came before is served
     ∷ batchSample playerCard Host (freeBytes ++ allocBytes) 1000 Refused (0 ∷ (zeros 7 ++ (15 ∷ []))) 1 23
     ∷ batchSample playerCard Host (auditBytes ++ (131 ∷ 0 ∷ [])) 100 Refused (0 ∷ []) 1 2

@@ -8,7 +8,7 @@ use denote.Enum.Declared.{tagOf}
 use borrow.Author.Needs.{needs}
 use Rattle.card.proofs.Call.{the-type}
 use Rattle.card.specs.declared.Call.{Call}
-use Rattle.card.specs.declared.Call.the-variants.{Read, Write, Alloc, AllocContig, Create, Delete, Key, Renew, Force, Free, Tick, Audit}
+use Rattle.card.specs.declared.Call.the-variants.{Read, Write, Alloc, AllocContig, Create, Delete, KeyRead, KeyWrite, Renew, Force, Free, Tick, Audit}
 use Rattle.serving.specs.Serve.{answerRoom}
 use Rattle.batch.proofs.AnswerBytesLaws.{lent-most, room-read}
 use Rattle.batch.proofs.room_of.Statement.{statement}
@@ -16,7 +16,7 @@ use Rattle.batch.proofs.room_of.Tie as tie
 
 -- The places among the variants of the calls that have no results.
 abbrev callsWithoutResults : List ℕ
-callsWithoutResults = 1 ∷ 4 ∷ 6 ∷ 7 ∷ 8 ∷ 11 ∷ []
+callsWithoutResults = 1 ∷ 4 ∷ 6 ∷ 7 ∷ 8 ∷ 9 ∷ 12 ∷ []
 
 room-other : (size : ℕ) (call : Call) → OneOf callsWithoutResults (tagOf the-type call) → 1 ≡ answerRoom size call
 unfolding answerRoom
@@ -26,11 +26,12 @@ room-other size (Alloc o) h = absurd (miss callsWithoutResults 2 tt h)
 room-other size (AllocContig o) h = absurd (miss callsWithoutResults 3 tt h)
 room-other size (Create o) h = refl
 room-other size (Delete o) h = absurd (miss callsWithoutResults 5 tt h)
-room-other size (Key o) h = refl
+room-other size (KeyRead o) h = refl
+room-other size (KeyWrite o) h = refl
 room-other size (Renew o) h = refl
 room-other size (Force o) h = refl
-room-other size Free h = absurd (miss callsWithoutResults 9 tt h)
-room-other size (Tick o) h = absurd (miss callsWithoutResults 10 tt h)
+room-other size Free h = absurd (miss callsWithoutResults 10 tt h)
+room-other size (Tick o) h = absurd (miss callsWithoutResults 11 tt h)
 room-other size Audit h = refl
 
 enum-told : tie.Need-enum-told

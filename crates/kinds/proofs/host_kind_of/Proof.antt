@@ -53,7 +53,11 @@ unfolding tableRules
 returns-12 c = at-kind Host (c .match .keys12)
 
 returns-13 : tie.Need-returns-13
-returns-13 c = unknown-host _ (c .match .rest)
+unfolding tableRules
+returns-13 c = at-kind Host (c .match .keys13)
+
+returns-14 : tie.Need-returns-14
+returns-14 c = unknown-host _ (c .match .rest)
 
 pub host-kind-of-spec : {M : Type 1} → statement M
 host-kind-of-spec =
@@ -71,4 +75,5 @@ host-kind-of-spec =
     returns-10
     returns-11
     returns-12
-    returns-13)
+    returns-13
+    returns-14)

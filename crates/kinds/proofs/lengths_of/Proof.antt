@@ -77,6 +77,12 @@ enum-told-12 c = search needs
 both-requires-12 : tie.Need-both-requires-12
 both-requires-12 c κs = search needs
 
+enum-told-13 : tie.Need-enum-told-13
+enum-told-13 c = search needs
+
+both-requires-13 : tie.Need-both-requires-13
+both-requires-13 c κs = search needs
+
 returns : tie.Need-returns
 unfolding tableRules
 returns c = c .both .ensures ∙ at-name (c .before .enum-told .given .1)
@@ -125,6 +131,10 @@ returns-12 : tie.Need-returns-12
 unfolding tableRules
 returns-12 c = c .both12 .ensures ∙ at-name (c .before .enum-told12 .given .1)
 
+returns-13 : tie.Need-returns-13
+unfolding tableRules
+returns-13 c = c .both13 .ensures ∙ at-name (c .before .enum-told13 .given .1)
+
 pub lengths-of-spec : {M : Type 1} → statement M
 lengths-of-spec =
     tie.close
@@ -153,6 +163,8 @@ lengths-of-spec =
     both-requires-11
     enum-told-12
     both-requires-12
+    enum-told-13
+    both-requires-13
     returns
     returns-2
     returns-3
@@ -164,4 +176,5 @@ lengths-of-spec =
     returns-9
     returns-10
     returns-11
-    returns-12)
+    returns-12
+    returns-13)

@@ -33,7 +33,11 @@ unfolding tableRules
 returns-7 c = at-kind Service (c .match .keys7)
 
 returns-8 : tie.Need-returns-8
-returns-8 c = unknown-service _ (c .before .pre) (c .match .rest)
+unfolding tableRules
+returns-8 c = at-kind Service (c .match .keys8)
+
+returns-9 : tie.Need-returns-9
+returns-9 c = unknown-service _ (c .before .pre) (c .match .rest)
 
 pub service-kind-of-spec : {M : Type 1} → statement M
 service-kind-of-spec =
@@ -46,4 +50,5 @@ service-kind-of-spec =
     returns-5
     returns-6
     returns-7
-    returns-8)
+    returns-8
+    returns-9)

@@ -1,6 +1,7 @@
 -- `records::decode_call` meets its contract: an arm for each call.
+use mathlib.Core.Path.{_∙_}
 use borrow.Author.Needs.{needs}
-use Rattle.records.specs.DecodeLaws.{by-name, room, free, audit}
+use Rattle.records.specs.DecodeLaws.{key-read, key-write, by-name, room, free, audit}
 use Rattle.kinds.proofs.Table.{tableRules}
 use Rattle.records.proofs.decode_call.Statement.{statement}
 use Rattle.records.proofs.decode_call.Tie as tie
@@ -81,6 +82,13 @@ decode-alloc-contig-requires : tie.Need-decode-alloc-contig-requires
 unfolding tableRules
 decode-alloc-contig-requires c κs = room (c .enum-told12 .given .1) (c .before .before .before .pre)
 
+enum-told-13 : tie.Need-enum-told-13
+enum-told-13 c = search needs
+
+decode-key-requires-2 : tie.Need-decode-key-requires-2
+unfolding tableRules
+decode-key-requires-2 c κs = room (c .enum-told13 .given .1) (c .before .before .before .pre)
+
 returns : tie.Need-returns
 returns c = by-name _ _ (c .before .enum-told .given .1) (c .decode-read .ensures)
 
@@ -97,7 +105,7 @@ returns-5 : tie.Need-returns-5
 returns-5 c = by-name _ _ (c .before .enum-told5 .given .1) (c .decode-delete .ensures)
 
 returns-6 : tie.Need-returns-6
-returns-6 c = by-name _ _ (c .before .enum-told6 .given .1) (c .decode-key .ensures)
+returns-6 c = by-name _ _ (c .before .enum-told6 .given .1) (c .decode-key .ensures ∙ key-read _ _)
 
 returns-7 : tie.Need-returns-7
 returns-7 c = by-name _ _ (c .before .enum-told7 .given .1) (c .decode-renew .ensures)
@@ -116,6 +124,9 @@ returns-11 c = by-name _ _ (c .enum-told11 .given .1) (audit _ _)
 
 returns-12 : tie.Need-returns-12
 returns-12 c = search by-name
+
+returns-13 : tie.Need-returns-13
+returns-13 c = by-name _ _ (c .before .enum-told13 .given .1) (c .decode-key2 .ensures ∙ key-write _ _)
 
 pub decode-call-spec : {M : Type 1} → statement M
 decode-call-spec =
@@ -143,6 +154,8 @@ decode-call-spec =
     enum-told-11
     enum-told-12
     decode-alloc-contig-requires
+    enum-told-13
+    decode-key-requires-2
     returns
     returns-2
     returns-3
@@ -154,4 +167,5 @@ decode-call-spec =
     returns-9
     returns-10
     returns-11
-    returns-12)
+    returns-12
+    returns-13)

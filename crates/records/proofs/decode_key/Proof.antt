@@ -14,14 +14,11 @@ credential-requires c κs = search needs
 new-key-requires : tie.Need-new-key-requires
 new-key-requires c κs = search needs
 
-new-key-requires-2 : tie.Need-new-key-requires-2
-new-key-requires-2 c κs = search needs
-
 key-with-requires : tie.Need-key-with-requires
 key-with-requires c κs = search needs
 
 returns : tie.Need-returns
-returns c = c .key-with .ensures ∙ key _ _ (c .before .before .before .before .two .ensures) (c .before .before .before .credential .ensures) (c .before .before .new-key .ensures) (c .before .new-key2 .ensures)
+returns c = c .key-with .ensures ∙ key _ _ _ (c .before .before .before .two .ensures) (c .before .before .credential .ensures) (c .before .new-key .ensures)
 
 pub decode-key-spec : {M : Type 1} → statement M
 decode-key-spec =
@@ -30,6 +27,5 @@ decode-key-spec =
     two-requires
     credential-requires
     new-key-requires
-    new-key-requires-2
     key-with-requires
     returns)
