@@ -30,8 +30,8 @@ pub data Function : Type 0 where
   serve : (port kind : ℕ) (body out places : List ℕ) (value : ℕ) → Function
 
 -- KEY_READ or KEY_WRITE, by the mode whose key it sets.
-abbrev pub keyAt : Mode → ℕ → ℕ → List ℕ → List ℕ → Decoding
-keyAt mode port block credential key = atPort port (keyWith Host mode block (credentialOf credential) (newKeyOf key))
+abbrev pub keyCallAt : Mode → ℕ → ℕ → List ℕ → List ℕ → Decoding
+keyCallAt mode port block credential key = atPort port (keyWith Host mode block (credentialOf credential) (newKeyOf key))
 
 -- What a function makes of its operands: a call at a port, or refusal 13; and what is lent with it.
 pub record Lending : Type 0 where
@@ -51,8 +51,8 @@ lendingOf (alloc port block credential hint count places) = lending (atPort port
 lendingOf (allocContig port block credential hint count places) = lending (atPort port (allocContigWith Host block (credentialOf credential) hint count)) [] [] places 0
 lendingOf (create port source credential destination second) = lending (atPort port (createWith Host source (credentialOf credential) destination (credentialOf second))) [] [] [] 0
 lendingOf (delete port source credential destination value) = lending (atPort port (deleteWith Host source (credentialOf credential) destination)) [] [] [] value
-lendingOf (keyRead port block credential key) = lending (keyAt Reading port block credential key) [] [] [] 0
-lendingOf (keyWrite port block credential key) = lending (keyAt Writing port block credential key) [] [] [] 0
+lendingOf (keyRead port block credential key) = lending (keyCallAt Reading port block credential key) [] [] [] 0
+lendingOf (keyWrite port block credential key) = lending (keyCallAt Writing port block credential key) [] [] [] 0
 lendingOf (renew mode block credential interval) = lending (renewWith Host mode block (credentialOf credential) interval) [] [] [] 0
 lendingOf (force block) = lending (Decoded Host (Force (record { block = block }))) [] [] [] 0
 lendingOf (tick seconds value) = lending (Decoded Host (Tick (record { seconds = seconds }))) [] [] [] value

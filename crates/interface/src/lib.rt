@@ -12,7 +12,7 @@ use records::Decoding;
 ghost use mathlib.Core.Path.{_≡_};
 ghost use mathlib.Core.List.{[]};
 ghost use Rattle.adapter.specs.Effects.{formatEffect, Effects, EffectsGiving, EffectsLent};
-ghost use Rattle.interface.specs.Functions.{read, write, alloc, allocContig, create, delete, keyRead, keyWrite, renew, force, tick, free, audit, serve, keyAt, effectBy};
+ghost use Rattle.interface.specs.Functions.{read, write, alloc, allocContig, create, delete, keyRead, keyWrite, renew, force, tick, free, audit, serve, keyCallAt, effectBy};
 ghost use Rattle.interface.specs.Batch.{stopNumber, ServesBatch};
 
 // ---- the calls, by their operands
@@ -242,8 +242,8 @@ pub extern "C" fn negvask_delete(
 }
 
 // KEY_READ or KEY_WRITE, by the mode whose key it sets.
-fn key_at(mode: Mode, port: u8, block: u16, credential: &[u8], key: &[u8]) -> Decoding
-    ensures { λ r. ⌜ r ≡ keyAt mode port block (now (credential .entry)) (now (key .entry)) ⌝ }
+fn key_call_at(mode: Mode, port: u8, block: u16, credential: &[u8], key: &[u8]) -> Decoding
+    ensures { λ r. ⌜ r ≡ keyCallAt mode port block (now (credential .entry)) (now (key .entry)) ⌝ }
 {
     let parsed = parameters::credential_of(credential);
     let new = parameters::new_key_of(key);
@@ -268,7 +268,7 @@ pub extern "C" fn negvask_key_read(
 ) -> u32
     ensures { λ r. ⌜ Effects (effectBy (keyRead port block (now (credential .entry)) (now (key .entry)))) info flags keys counts pointers windows contents r [] [] ⌝ }
 {
-    let decoding = key_at(Mode::Reading, port, block, credential, key);
+    let decoding = key_call_at(Mode::Reading, port, block, credential, key);
     let mut value = 0;
     adapter::perform_without_buffers(
         info,
@@ -301,7 +301,7 @@ pub extern "C" fn negvask_key_write(
 ) -> u32
     ensures { λ r. ⌜ Effects (effectBy (keyWrite port block (now (credential .entry)) (now (key .entry)))) info flags keys counts pointers windows contents r [] [] ⌝ }
 {
-    let decoding = key_at(Mode::Writing, port, block, credential, key);
+    let decoding = key_call_at(Mode::Writing, port, block, credential, key);
     let mut value = 0;
     adapter::perform_without_buffers(
         info,

@@ -1,7 +1,7 @@
--- `interface::key_at` meets its contract.
+-- `interface::key_call_at` meets its contract.
 use borrow.Author.Needs.{needs}
-use Rattle.interface.proofs.key_at.Statement.{statement}
-use Rattle.interface.proofs.key_at.Tie as tie
+use Rattle.interface.proofs.key_call_at.Statement.{statement}
+use Rattle.interface.proofs.key_call_at.Tie as tie
 
 credential-of-requires : tie.Need-credential-of-requires
 credential-of-requires c κs = search needs
@@ -22,8 +22,8 @@ returns c =
     let at-made : tie.After-key-with = search in
     rw (← at-credential .credential-of .ensures, ← at-new-key .new-key-of .ensures, ← at-made .key-with .ensures) (c .at-port .ensures)
 
-pub key-at-spec : {M : Type 1} → statement M
-key-at-spec =
+pub key-call-at-spec : {M : Type 1} → statement M
+key-call-at-spec =
     tie.close
     (tie.spec
     credential-of-requires
