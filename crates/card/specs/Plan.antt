@@ -82,7 +82,7 @@ keyBit mode false = 0
 keyBit Reading true = 2
 keyBit Writing true = 4
 
--- The flags of an allocated block, from those that it had, once its key for the mode is set: the other key's flag is as it was.
+-- 2026-02: the flags of an allocated block once its key for the mode is set, from those that it had: the other key's flag stays.
 abbrev pub keyedFlags : ℕ → Mode → NewKey → ℕ
 keyedFlags f mode key = 1 + keyBit mode (isPresent key) + keyBit (otherMode mode) (keyFlag (otherMode mode) f)
 
@@ -131,7 +131,7 @@ changePublic (dropPointer a b) p = record {
 }
 changePublic (setTime time) p = record { info = withTime (p .info) time; flags = p .flags; counts = p .counts; pointers = p .pointers; windows = p .windows }
 
--- The two words of a block's key for the mode.
+-- The two words of a block's key for the mode; those of the other key stay.
 abbrev pub replaceKey : List ℕ → Mode → ℕ → NewKey → List ℕ
 replaceKey keys mode b key = set (set keys (keyAt mode b) (highWord key)) (keyAt mode b + 1) (lowWord key)
 
