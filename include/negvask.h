@@ -15,7 +15,7 @@
  * `rt staticlib interface` makes the archive, for x86-64 Linux alone,
  * since that is what it compiles for. Whoever links it supplies memset(),
  * as any C library does, and nothing else; `nm -u` of the archive says so.
- * The deepest call takes 9,552 bytes of stack below its caller, as
+ * The deepest call takes 9,456 bytes of stack below its caller, as
  * `tests/run.sh --benchmark` prints.
  *
  * All state is in memory provided by the caller: a record of five
