@@ -52,7 +52,7 @@ fn same_words(keys: &[u64], at: usize, high: u64, low: u64) -> bool
 }
 
 // The words are those of the block's key for the mode.
-fn key_is(keys: &[u64], mode: Mode, block: usize, high: u64, low: u64) -> bool
+pub fn key_is(keys: &[u64], mode: Mode, block: usize, high: u64, low: u64) -> bool
     requires { ⌜ 4 * block + 4 ≤ length (now keys) ⌝ }
     ensures { λ r. ⌜ r ≡ keyIs (now (keys .entry)) mode block high low ⌝ }
 {
@@ -80,7 +80,7 @@ fn key_opens(flag: u8, keys: &[u64], mode: Mode, block: usize, high: u64, low: u
 // ---- references
 
 // The block's window for the mode is open: the time is below its end.
-fn window_open(info: Info, windows: &[u64], mode: Mode, block: usize) -> bool
+pub fn window_open(info: Info, windows: &[u64], mode: Mode, block: usize) -> bool
     requires { ⌜ 2 * block + 2 ≤ length (now windows) ⌝ }
     ensures { λ r. ⌜ r ≡ windowOpen (card info [] [] [] [] (now (windows .entry)) [] .public) mode block ⌝ }
 {

@@ -3,9 +3,13 @@ use Prim.Native.Nat.{ℕ}
 use mathlib.Core.Path.{_≡_, refl, sym, ap, _∙_}
 use mathlib.Core.List.{List}
 use Rattle.card.specs.Card.{Card}
-use Rattle.card.specs.Plan.{FirstHolds, NoneHolds, Plan, Buffers, Result, outAfter, placesAfter, changes, judgeSound}
-use Rattle.card.specs.PlanLaws.{refused-by, done-by}
+use Rattle.card.specs.Soundness.{verdict}
+use Rattle.card.specs.SoundnessLaws.{verdict-misshapen, verdict-unsound, verdict-sound}
+use Rattle.card.specs.Plan.{FirstHolds, NoneHolds, Plan, Buffers, Result, outAfter, placesAfter, changes, judge, judgeSound}
+use Rattle.card.specs.PlanLaws.{judge-misshapen, judge-unsound, judge-sound, refused-by, done-by}
+use Rattle.card.specs.declared.Verdict.the-variants.{Misshapen, Unsound, Sound}
 use Rattle.card.specs.declared.Refusal.{Refusal}
+use Rattle.card.specs.declared.Refusal.the-variants.{Misshapen as MisshapenRefusal, Unsound as UnsoundRefusal}
 use Rattle.card.specs.declared.Answer.{Answer}
 use Rattle.card.specs.declared.Answer.the-variants.{Refused}
 
@@ -33,3 +37,18 @@ module _ (c : Card) (lent : Buffers) (plan : Plan) where
   pub is-done : {after : Card} {out places : List ℕ} → NoneHolds (plan .checks) → after ≡ changes c (plan .steps) → out ≡ outAfter c (plan .shown) (lent .out)
       → places ≡ placesAfter (plan .shown) (lent .places) → Is (judgeSound c lent plan) (plan .answer) after out places
   is-done h a o p = is-same (done-by c lent plan h) (record { answers = refl; leaves = a; fillsOut = o; fillsPlaces = p })
+
+  -- ---- on any card, by the verdict of its audit
+
+  pub judged-misshapen : verdict c ≡ Misshapen → Is (judge c lent plan) (Refused MisshapenRefusal) c (lent .out) (lent .places)
+  judged-misshapen e = is-same (judge-misshapen c lent plan (verdict-misshapen c e)) (record { answers = refl; leaves = refl; fillsOut = refl; fillsPlaces = refl })
+
+  pub judged-unsound : verdict c ≡ Unsound → Is (judge c lent plan) (Refused UnsoundRefusal) c (lent .out) (lent .places)
+  judged-unsound e =
+      let h = verdict-unsound c e in
+      is-same (judge-unsound c lent plan (h .0) (h .1)) (record { answers = refl; leaves = refl; fillsOut = refl; fillsPlaces = refl })
+
+  -- What is right on an audited card is right.
+  pub judged-sound : verdict c ≡ Sound → {answer : Answer} {after : Card} {out places : List ℕ} → Is (judgeSound c lent plan) answer after out places
+      → Is (judge c lent plan) answer after out places
+  judged-sound e i = is-same (judge-sound c lent plan (verdict-sound c e)) i

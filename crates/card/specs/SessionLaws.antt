@@ -7,10 +7,8 @@ use lib.ListN.{length, drop}
 use lib.Seq.{drop-at}
 use Rattle.card.specs.Card.{Public, Card}
 use Rattle.card.specs.Soundness.{verdict}
-use Rattle.card.specs.SoundnessLaws.{verdict-misshapen, verdict-unsound, verdict-sound}
 use Rattle.card.specs.Plan.{first, audited, Change, setWindow, setBlock, setKey, takeBlock, freeBlock, addPointer, dropPointer, setTime, changePublic, change, changes, Plan, Buffers, settle, judge}
-use Rattle.card.specs.PlanLaws.{judge-misshapen, judge-unsound, judge-sound}
-use Rattle.card.specs.Promises.{Is, is-same}
+use Rattle.card.specs.Promises.{Is, judged-misshapen, judged-unsound, judged-sound}
 use Rattle.card.specs.Access.{admits}
 use Rattle.card.specs.Calls.{keyPlan}
 use Rattle.card.specs.Session.{keyCall, Request, Sent, Reply, plan, portOf, EitherPort, free, tick, audit, perform, performSound, reply, performed, replies, afterAll}
@@ -29,22 +27,17 @@ use Rattle.card.specs.declared.Call.the-variants.{Read, Write, Alloc, Al
 module _ (port : Port) (c : Card) (q : Request) where
   pub is-misshapen : verdict c ≡ Misshapen → Is (perform port c q) (Refused MisshapenRefusal) c (q .lent .out) (q .lent .places)
   unfolding perform
-  is-misshapen e =
-      is-same (judge-misshapen c (q .lent) (plan port c (q .call) (q .lent)) (verdict-misshapen c e))
-      (record { answers = refl; leaves = refl; fillsOut = refl; fillsPlaces = refl })
+  is-misshapen = judged-misshapen c (q .lent) (plan port c (q .call) (q .lent))
 
   pub is-unsound : verdict c ≡ Unsound → Is (perform port c q) (Refused UnsoundRefusal) c (q .lent .out) (q .lent .places)
   unfolding perform
-  is-unsound e =
-      let h = verdict-unsound c e in
-      is-same (judge-unsound c (q .lent) (plan port c (q .call) (q .lent)) (h .0) (h .1))
-      (record { answers = refl; leaves = refl; fillsOut = refl; fillsPlaces = refl })
+  is-unsound = judged-unsound c (q .lent) (plan port c (q .call) (q .lent))
 
   -- What is right on an audited card is right.
   pub is-audited : verdict c ≡ Sound → {answer : Answer} {after : Card} {out places : List ℕ} → Is (performSound port c q) answer after out places
       → Is (perform port c q) answer after out places
   unfolding perform performSound
-  is-audited e i = is-same (judge-sound c (q .lent) (plan port c (q .call) (q .lent)) (verdict-sound c e)) i
+  is-audited e i = judged-sound c (q .lent) (plan port c (q .call) (q .lent)) e i
 
 -- The two calls that set a key have one paragraph.
 pub plan-key : (port : Port) (c : Card) (mode : Mode) (o : KeyOperands) (lent : Buffers)

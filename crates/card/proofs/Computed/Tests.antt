@@ -39,11 +39,12 @@ use Rattle.card.specs.declared.Refusal.the-variants.{Misshapen, Unsound,
 use Rattle.card.specs.declared.Call.{Call}
 use Rattle.card.specs.declared.AllocOperands.{AllocOperands}
 use Rattle.card.specs.declared.KeyOperands.{KeyOperands}
+use Rattle.card.proofs.Guarantees.Judged.{RefusedBy}
 use Rattle.card.proofs.Guarantees.Unchanged.{Unchanged, refusal-unchanged}
 use Rattle.card.proofs.Guarantees.KeepsSound.{done-sound, counts-right, pointers-ascending}
 use Rattle.card.proofs.Guarantees.Format.{format-sound}
 use Rattle.card.proofs.Guarantees.Untouched.{LeftAlone, AllottedZeroed, untouched}
-use Rattle.card.proofs.Guarantees.RefusedIff.{refused-iff}
+use Rattle.card.proofs.Guarantees.RefusedIff.{RefusedIff, refused-iff}
 use Rattle.card.proofs.Guarantees.Runs.{Run, contig, RunFound, RunAdjoins, RunNearest, some-blocks, run-found, run-adjoins, run-nearest}
 use Rattle.card.proofs.Guarantees.Keys.{setting, WriteAccess, byWriteKey, byReference, one-key-unsealed, other-key-kept, own-key-set, both-windows-closed, write-access-needed}
 use Rattle.card.proofs.Guarantees.WindowSet.{SetBy, window-set-by}
@@ -64,7 +65,7 @@ true-implies false b f = refl
 abbrev pub isSound : Card → Bool
 isSound c = shape c && sound c
 
-isSound-true : {c : Card} → isSound c ≡ true → SoundCard c
+pub isSound-true : {c : Card} → isSound c ≡ true → SoundCard c
 isSound-true {c} h = record { shaped = shape-true c (and-left _ _ h); isSound = sound-true c (and-right (shape c) _ h) }
 
 true-isSound : {c : Card} → SoundCard c → isSound c ≡ true
@@ -197,14 +198,17 @@ done-number (Refused r) e = absurd-test e refl
 done-number Done e = refl
 done-number (Value v) e = refl
 
+pub refused-by-tested : {checks : List Check} {a : Answer} → RefusedBy checks a → eqb (answerNumber a) (firstNumber checks) ≡ true
+refused-by-tested {checks} {a} by =
+    ⊎-elim
+    (λ (f : FirstIs checks). eq-eqb _ _ (ap answerNumber (by .refusedIff (f .refusal) .1 (f .holds)) ∙ sym (f .number)))
+    (λ (n : NoneIs checks). eq-eqb _ _ (done-number a (by .doneIff .1 (n .none)) ∙ sym (n .number)))
+    (first-or-none checks)
+
 pub refused-iff-tested : (c : Card) (s : Sent) → refusedIffTest c s ≡ true
 refused-iff-tested c s =
-    ⊎-elim
-    (λ (f : FirstIs (refusals (s .port) c (s .request))).
-    eq-eqb _ _ (ap answerNumber (refused-iff (s .port) c (s .request) .refusedIff (f .refusal) .1 (f .holds)) ∙ sym (f .number)))
-    (λ (n : NoneIs (refusals (s .port) c (s .request))).
-    eq-eqb _ _ (done-number (performed c s .answer) (refused-iff (s .port) c (s .request) .doneIff .1 (n .none)) ∙ sym (n .number)))
-    (first-or-none (refusals (s .port) c (s .request)))
+    let r : RefusedIff (s .port) c (s .request) = refused-iff (s .port) c (s .request) in
+    refused-by-tested (record { refusedIff = r .refusedIff; doneIff = r .doneIff })
 
 -- ---- run-found, run-adjoins and run-nearest
 

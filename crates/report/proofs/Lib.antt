@@ -1,0 +1,4 @@
+pub mod Listed
+pub mod Reported
+pub mod Tests
+pub mod Rows

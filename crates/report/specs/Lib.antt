@@ -1,0 +1,9 @@
+pub mod Least
+pub mod NumbersLaws
+pub mod LeastLaws
+pub mod Report
+pub mod Contracts
+pub mod ReportLaws
+pub mod Leading
+pub mod LeadingLaws
+pub mod Examples

@@ -1,0 +1,2 @@
+pub mod Linking
+pub mod Following
