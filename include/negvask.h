@@ -15,8 +15,9 @@
  * `rt staticlib interface` makes the archive, for x86-64 Linux alone,
  * since that is what it compiles for. Whoever links it supplies memset(),
  * as any C library does, and nothing else; `nm -u` of the archive says so.
- * The deepest call takes 9,456 bytes of stack below its caller, as
- * `tests/run.sh --benchmark` prints.
+ * The deepest call, negvask_unlocking(), takes 58,160 bytes of stack below
+ * its caller, as `tests/run.sh --benchmark` prints; what a host's bytes
+ * lead to takes 9,456.
  *
  * All state is in memory provided by the caller: a record of five
  * numbers and six tables. The functions keep nothing between calls,
@@ -119,7 +120,9 @@
  * to no other function: there a record for the service port is refused
  * 13. NEGVASK_SERVICE and negvask_format() must not be reachable from a
  * host: the one opens every block without a credential, the other does
- * away with all keys and pointers.
+ * away with all keys and pointers. Nor must negvask_reach() or
+ * negvask_unlocking(), which belong to the service port and ask for no
+ * credential: by them a host could try a guessed key on all blocks at once.
  *
  * Credentials
  * -----------
@@ -147,6 +150,50 @@
  * key are set separately, by negvask_key_read() and negvask_key_write().
  * With one key alone, a block is open to a reference, or a root to every
  * host, for the other operation.
+ *
+ * What a set of keys opens
+ * ------------------------
+ *
+ * Before a card is handed over, its fitter wants to know what a set of
+ * keys opens: the keys of one observatory perhaps, or none at all, which
+ * is what every host has. Two functions say what a host may reach in a
+ * session that begins on this card, with the windows that are open now,
+ * and presents exactly these keys. No record carries them.
+ *
+ * negvask_reach() lists the blocks within reach:
+ *
+ *   - each root that is not sealed;
+ *   - each block with a key of the set, as its read key or its write key;
+ *   - each block with an open window;
+ *   - and from these on each block that is not sealed and to which a
+ *     block within reach points.
+ *
+ * A block is sealed if it has both keys and neither is in the set. An
+ * allocated block that is not listed is hidden: nothing that such a
+ * session is answered depends on what it holds. A listed one need not be
+ * open to the session; it is only not promised to be hidden. So what is
+ * to stay secret from the holder of the keys must not be in the list.
+ *
+ * negvask_unlocking() lists, for a hidden block, each sealed block whose
+ * write key, added alone to the set, would bring the hidden one within
+ * reach: whom to ask for a key, or whose key is worth guarding. A key
+ * counts by its value wherever it stands, so two sealed blocks with one
+ * write key are listed both. A hidden block that is sealed lists itself.
+ *
+ * The keys are words, high and low in turn, 64 keys at most; a key may
+ * stand among them twice. negvask_key_words() makes the words of a key's
+ * 16 bytes.
+ *
+ *   uint64_t given[2 * NEGVASK_KEYS_MAX];
+ *   uint16_t blocks[NEGVASK_BLOCKS_MAX];
+ *   uint64_t count;
+ *
+ *   negvask_key_words(given, key);
+ *   negvask_reach(CARD, given, 2, blocks, NEGVASK_BLOCKS_MAX, &count);
+ *   // blocks[0] to blocks[count - 1] are within reach of that key.
+ *
+ * examples/handover.c is a whole program of this kind, and examples/draw.c
+ * draws a card by both lists.
  *
  * Worked example
  * --------------
@@ -214,7 +261,8 @@ extern "C" {
 #define NEGVASK_UNSOUND          2
 /** A block number is not below N, or the block is not allocated. */
 #define NEGVASK_NO_BLOCK         3
-/** An operand is out of its range, or a buffer has the wrong length. */
+/** An operand is out of its range, or a buffer has the wrong length; or
+    the block for which negvask_unlocking() is asked is within reach. */
 #define NEGVASK_BAD_OPERAND      4
 /** The credential does not open the block. */
 #define NEGVASK_NOT_OPENED       5
@@ -269,6 +317,10 @@ extern "C" {
 /** The number of bytes in a credential or a new key. */
 #define NEGVASK_CREDENTIAL_LEN  17
 
+/** The most keys of which negvask_reach() and negvask_unlocking() are
+    asked; each is two words. */
+#define NEGVASK_KEYS_MAX        64
+
 /** The longest call record, WRITE's: an input with so many bytes does not
     end within its first record. */
 #define NEGVASK_RECORD_MAX     536
@@ -308,6 +360,18 @@ extern "C" {
 	uint32_t *pointers, size_t pointers_len, \
 	uint64_t *windows, size_t windows_len, \
 	uint8_t *contents, size_t contents_len
+
+/*
+ * The same for a function that only reads them.
+ */
+#define NEGVASK_TABLES_READ \
+	const uint64_t *info, size_t info_len, \
+	const uint8_t *flags, size_t flags_len, \
+	const uint64_t *keys, size_t keys_len, \
+	const uint16_t *counts, size_t counts_len, \
+	const uint32_t *pointers, size_t pointers_len, \
+	const uint64_t *windows, size_t windows_len, \
+	const uint8_t *contents, size_t contents_len
 
 /** A card as a caller keeps it: the record, and each table's pointer and
     number of elements. */
@@ -464,6 +528,17 @@ static inline struct negvask_new_key negvask_set_no_key(void)
 
 	made.len = negvask_put_key(made.bytes, 0, 0, 0);
 	return made;
+}
+
+/** Puts the two words of a key's 16 bytes, the high one first. */
+static inline void negvask_key_words(uint64_t *to, const uint8_t *key)
+{
+	int i;
+
+	to[0] = 0;
+	to[1] = 0;
+	for (i = 0; i < 16; i++)
+		to[i / 8] = to[i / 8] << 8 | key[i];
 }
 
 /* Functions. */
@@ -849,6 +924,74 @@ uint32_t negvask_count_free(NEGVASK_TABLES, uint64_t *value);
  * \return  0 or a refusal.
  */
 uint32_t negvask_tick(NEGVASK_TABLES, uint64_t seconds, uint64_t *value);
+
+/**
+ * \brief List the blocks within reach of a set of keys: the fitter's call,
+ * never a host's.
+ *
+ * No record carries it, and nothing that a host sends may lead to it.
+ * "What a set of keys opens" at the top of this file says what is within
+ * reach, and what a block is that is not listed.
+ *
+ * The numbers are put in the first places of `places`, ascending, and
+ * `*value` is set to how many they are; N places always do. Unmodified:
+ * the places after these, the record and all tables, `given`.
+ *
+ * Takes time linear in N and P, where each block's keys are looked for
+ * among those given.
+ *
+ * Refusals, in order:
+ *   1   out of shape; the record has not five numbers
+ *   2   unsound
+ *   4   `given_len` is odd or above 128; `places_len` is less than the
+ *       number of blocks within reach
+ *
+ * \param given       the keys' words: high, low, high, low and so on.
+ * \param given_len   the number of words, twice that of the keys; may be 0.
+ * \param places      receives the numbers, ascending.
+ * \param places_len  the number of places.
+ * \param value       receives how many; unmodified when refused.
+ * \return  0 or a refusal.
+ */
+uint32_t negvask_reach(NEGVASK_TABLES_READ,
+	const uint64_t *given, size_t given_len,
+	uint16_t *places, size_t places_len, uint64_t *value);
+
+/**
+ * \brief List the sealed blocks whose write key would bring a hidden block
+ * within reach of a set of keys: the fitter's call, never a host's.
+ *
+ * No record carries it, and nothing that a host sends may lead to it.
+ * A block is listed if it is sealed, with the set as it is, and `block`
+ * is within reach of the set with that block's write key added alone.
+ *
+ * The numbers are put in the first places of `places`, ascending, and
+ * `*value` is set to how many they are, perhaps 0; N places always do.
+ * Unmodified: the places after these, the record and all tables, `given`.
+ *
+ * Takes time linear in N and P, and that of comparing the keys of the
+ * blocks from which pointers lead to `block`, by way of unsealed ones,
+ * with the write key of each sealed block that is not among them.
+ *
+ * Refusals, in order:
+ *   1   out of shape; the record has not five numbers
+ *   2   unsound
+ *   4   `given_len` is odd or above 128; `block` is within reach of the
+ *       keys; `places_len` is less than the number of blocks to be listed
+ *   3   `block` is not below N or not allocated: no block is to be listed
+ *       for it, so that the keys alone can make it 4
+ *
+ * \param block       the hidden block's number.
+ * \param given       the keys' words: high, low, high, low and so on.
+ * \param given_len   the number of words, twice that of the keys; may be 0.
+ * \param places      receives the numbers, ascending.
+ * \param places_len  the number of places.
+ * \param value       receives how many; unmodified when refused.
+ * \return  0 or a refusal.
+ */
+uint32_t negvask_unlocking(NEGVASK_TABLES_READ,
+	uint16_t block, const uint64_t *given, size_t given_len,
+	uint16_t *places, size_t places_len, uint64_t *value);
 
 /**
  * \brief Perform one call record that arrived at a port.

@@ -5,6 +5,7 @@
 //! undercut by much: one addition for every word of the tables but contents, and the copy or fill of the call.
 //! The model is the differential test's, built for release: it favours plain rules over speed.
 //! Call records are served by `negvask_batch`, with one audit, beside `negvask_serve`, with one for each.
+//! The two lists of the reach report stand beside plain walks over the pointers.
 //! Times are the best of many rounds, taken in turns; none is asserted.
 
 #[allow(dead_code)]
@@ -12,10 +13,10 @@ mod library;
 #[allow(dead_code)]
 mod model;
 
-use library::{credential_bytes, new_key_bytes, Direct, LentBatch, LentBuffers, Tables, HOST};
+use library::{credential_bytes, new_key_bytes, Direct, Lent, LentBatch, LentBuffers, Tables, HOST};
 use model::{
-    ends, word, Buffers, Call, Card, Credential, Key, Operation, Port, Progress, ALLOCATED, DAY, READ_KEY, TIME_END,
-    WRITE_KEY,
+    ends, key_words, word, Buffers, Call, Card, Credential, Key, Operation, Port, Progress, ALLOCATED, DAY, READ_KEY,
+    TIME_END, WRITE_KEY,
 };
 use std::cell::RefCell;
 use std::collections::BTreeSet;
@@ -351,6 +352,143 @@ mod plain {
         0
     }
 
+    /// A mark, a place in the pointer table or a number for every block of the largest card.
+    type Marks = [bool; 4_096];
+    type Places = [u16; 4_097];
+    type Numbers = [u16; 4_096];
+
+    fn is_given(given: &[u64], key: &[u64]) -> bool {
+        given.chunks_exact(2).any(|pair| pair[0] == key[0] && pair[1] == key[1])
+    }
+
+    /// Marks the blocks that are sealed, and those that are within reach whatever points to them.
+    fn judge(card: &Card, given: &[u64], sealed: &mut Marks, within: &mut Marks) {
+        let (roots, time) = (card.info[1] as usize, card.info[4]);
+        let tables = card.flags.iter().zip(card.keys.chunks_exact(4)).zip(card.windows.chunks_exact(2));
+        for (b, ((&f, k), w)) in tables.enumerate() {
+            let read = f & READ_KEY != 0 && is_given(given, &k[..2]);
+            let shown = read || (f & WRITE_KEY != 0 && is_given(given, &k[2..]));
+            sealed[b] = f & READ_KEY != 0 && f & WRITE_KEY != 0 && !shown;
+            within[b] = f & 1 != 0 && ((b < roots && !sealed[b]) || shown || time < w[0] || time < w[1]);
+        }
+    }
+
+    /// Where the pointers of each block begin, if they are sorted by these ends.
+    fn places_of(n: usize, ends: impl Iterator<Item = u32>) -> Places {
+        let mut places = [0; 4_097];
+        ends.for_each(|b| places[b as usize + 1] += 1);
+        (0..n).for_each(|b| places[b + 1] += places[b]);
+        places
+    }
+
+    /// Marks what is within reach, breadth first.
+    fn walk(card: &Card, sealed: &Marks, within: &mut Marks) {
+        let (n, pointers) = (card.flags.len(), &card.pointers[..card.info[3] as usize]);
+        let places = places_of(n, pointers.iter().map(|&p| p >> 16));
+        let mut queue: Numbers = [0; 4_096];
+        let (mut at, mut end) = (0, 0);
+        for b in (0..n).filter(|&b| within[b]) {
+            queue[end] = b as u16;
+            end += 1;
+        }
+        while at < end {
+            let b = queue[at] as usize;
+            at += 1;
+            for &p in &pointers[places[b] as usize..places[b + 1] as usize] {
+                let d = (p & 65_535) as usize;
+                if !within[d] && !sealed[d] {
+                    within[d] = true;
+                    queue[end] = d as u16;
+                    end += 1;
+                }
+            }
+        }
+    }
+
+    /// Marks the blocks from which pointers lead to the chosen one by way of unsealed blocks.
+    fn walk_back(card: &Card, sealed: &Marks, chosen: usize, leads: &mut Marks) {
+        let (n, pointers) = (card.flags.len(), &card.pointers[..card.info[3] as usize]);
+        let places = places_of(n, pointers.iter().map(|&p| p & 65_535));
+        let (mut next, mut sources) = (places, [0u16; 16_384]);
+        for &p in pointers {
+            let place = &mut next[(p & 65_535) as usize];
+            sources[*place as usize] = (p >> 16) as u16;
+            *place += 1;
+        }
+        let mut queue: Numbers = [0; 4_096];
+        (queue[0], leads[chosen]) = (chosen as u16, true);
+        let (mut at, mut end) = (0, 1);
+        while at < end {
+            let b = queue[at] as usize;
+            at += 1;
+            if sealed[b] {
+                continue;
+            }
+            for &s in &sources[places[b] as usize..places[b + 1] as usize] {
+                if !leads[s as usize] {
+                    leads[s as usize] = true;
+                    queue[end] = s;
+                    end += 1;
+                }
+            }
+        }
+    }
+
+    fn put_list(list: impl Iterator<Item = usize> + Clone, places: &mut [u16], value: &mut u64) -> u32 {
+        let count = list.clone().count();
+        if places.len() < count {
+            return 4;
+        }
+        list.zip(places).for_each(|(b, place)| *place = b as u16);
+        *value = count as u64;
+        0
+    }
+
+    pub fn reach(card: &Card, given: &[u64], places: &mut [u16], value: &mut u64) -> u32 {
+        match audit(card) {
+            0 => {}
+            refusal => return refusal,
+        }
+        if given.len() % 2 != 0 || given.len() > 128 {
+            return 4;
+        }
+        let (mut sealed, mut within): (Marks, Marks) = ([false; 4_096], [false; 4_096]);
+        judge(card, given, &mut sealed, &mut within);
+        walk(card, &sealed, &mut within);
+        put_list((0..card.flags.len()).filter(|&b| within[b]), places, value)
+    }
+
+    pub fn unlocking(card: &Card, block: u16, given: &[u64], places: &mut [u16], value: &mut u64) -> u32 {
+        match audit(card) {
+            0 => {}
+            refusal => return refusal,
+        }
+        if given.len() % 2 != 0 || given.len() > 128 {
+            return 4;
+        }
+        let (n, chosen) = (card.flags.len(), block as usize);
+        let (mut sealed, mut within, mut leads): (Marks, Marks, Marks) =
+            ([false; 4_096], [false; 4_096], [false; 4_096]);
+        judge(card, given, &mut sealed, &mut within);
+        walk(card, &sealed, &mut within);
+        if chosen < n && within[chosen] {
+            return 4;
+        }
+        if chosen >= n || card.flags[chosen] & 1 == 0 {
+            return 3;
+        }
+        walk_back(card, &sealed, chosen, &mut leads);
+        let mut keys: Vec<u64> = Vec::new();
+        for b in (0..n).filter(|&b| leads[b]) {
+            let (f, k) = (card.flags[b], &card.keys[4 * b..4 * b + 4]);
+            keys.extend(&k[..if f & READ_KEY != 0 { 2 } else { 0 }]);
+            keys.extend(&k[if f & WRITE_KEY != 0 { 2 } else { 4 }..]);
+        }
+        let unlocks: Vec<bool> =
+            (0..n).map(|b| sealed[b] && is_given(&keys, &card.keys[4 * b + 2..4 * b + 4])).collect();
+        put_list((0..n).filter(|&b| unlocks[b]), places, value)
+    }
+
     /// One addition for every word of the tables but contents.
     pub fn pass(card: &Card) -> u64 {
         let wide = card.keys.iter().chain(&card.windows).fold(0u64, |a, &w| a.wrapping_add(w));
@@ -442,7 +580,11 @@ struct Side {
 }
 
 fn side(card: Card) -> Side {
-    let lent = Buffers { out: vec![0; 512], places: vec![0; 64], value: 0 };
+    side_with(card, 64)
+}
+
+fn side_with(card: Card, places: usize) -> Side {
+    let lent = Buffers { out: vec![0; 512], places: vec![0; places], value: 0 };
     Side { tables: Tables::new(&card), buffers: LentBuffers::new(&lent), plain: card, out: vec![0; 512] }
 }
 
@@ -674,6 +816,200 @@ fn batch_growth_table() {
     }
 }
 
+// ---- The reach report ----
+
+/// As many keys as may be given; no block has one of them.
+fn strange_keys() -> Vec<u64> {
+    key_words(&std::array::from_fn::<_, 64, _>(|i| Key { high: u64::MAX, low: i as u64 }))
+}
+
+/// A list that is measured.
+struct List {
+    name: &'static str,
+    size: Size,
+    card: Card,
+    chosen: Option<u16>,
+}
+
+/// To the pointers others by chance, between blocks for which `also` holds, until there are so many.
+fn filled_up(
+    mut pointers: BTreeSet<u32>,
+    n: usize,
+    count: usize,
+    also: impl Fn(usize, usize) -> bool,
+) -> BTreeSet<u32> {
+    let mut state = 1u64;
+    while pointers.len() < count {
+        state = state.wrapping_mul(6_364_136_223_846_793_005).wrapping_add(1_442_695_040_888_963_407);
+        let (s, d) = ((state >> 33) as usize % n, (state >> 45) as usize % n);
+        if d != 0 && s != d && also(s, d) {
+            pointers.insert(word(s, d));
+        }
+    }
+    pointers
+}
+
+/// A sound card with one root and all blocks allocated, each with the keys of its own that its flags say.
+fn list_card(size: Size, pointers: BTreeSet<u32>, flags: impl Fn(usize) -> u8) -> Card {
+    let n = size.blocks;
+    let mut card = Card {
+        info: vec![n as u64, 1, 512, pointers.len() as u64, 1_000],
+        flags: (0..n).map(|b| ALLOCATED | flags(b)).collect(),
+        keys: vec![0; 4 * n],
+        counts: vec![0; n],
+        pointers: vec![0; size.places],
+        windows: vec![0; 2 * n],
+        contents: vec![1; n * 512],
+    };
+    for b in 0..n {
+        for (flag, at) in [(READ_KEY, 4 * b), (WRITE_KEY, 4 * b + 2)] {
+            if card.flags[b] & flag != 0 {
+                card.keys[at..at + 2].copy_from_slice(&[b as u64, flag as u64]);
+            }
+        }
+    }
+    for (i, p) in pointers.into_iter().enumerate() {
+        card.pointers[i] = p;
+        card.counts[ends(p).1] += 1;
+    }
+    assert_eq!(plain::audit(&card), 0);
+    card
+}
+
+/// Blocks in a row, without keys: all are within reach, one after the other.
+fn row_list(size: Size) -> List {
+    let row = (1..size.blocks).map(|b| word(b - 1, b)).collect();
+    List { name: "reach, a row", size, card: list_card(size, row, |_| 0), chosen: None }
+}
+
+/// Pointers by chance, each block with a read key of its own, which does not seal: all are within reach, and every key is
+/// compared with all that are given.
+fn chance_list(size: Size) -> List {
+    let tree = (1..size.blocks).map(|b| word(b * 2_654_435_761 % 4_099 % b, b)).collect();
+    let pointers = filled_up(tree, size.blocks, size.places, |_, _| true);
+    let card = list_card(size, pointers, |b| if b == 0 { 0 } else { READ_KEY });
+    List { name: "reach, by chance", size, card, chosen: None }
+}
+
+/// So many sealed blocks below the root, and below these a row of all the others, its last block the chosen one. Each
+/// sealed block leads to it.
+fn sealed_list(name: &'static str, size: Size, sealed: usize) -> List {
+    let n = size.blocks;
+    let mut pointers: BTreeSet<u32> = (1..=sealed).map(|b| word(0, b)).collect();
+    pointers.extend((1..=sealed).map(|b| word(b, sealed + 1 + b % (n - sealed - 1))));
+    pointers.extend((sealed + 2..n).map(|b| word(b - 1, b)));
+    pointers.insert(word(1, sealed + 1));
+    let pointers = filled_up(pointers, n, size.places, |s, d| s != 0 && d > sealed);
+    let card = list_card(size, pointers, |b| if (1..=sealed).contains(&b) { READ_KEY | WRITE_KEY } else { 0 });
+    List { name, size, card, chosen: Some(n as u16 - 1) }
+}
+
+/// Half of the blocks sealed below the root, the others a ring without a way from there, each with a read key of its own:
+/// every write key is compared with every key of the ring, and none fits.
+fn ring_list(size: Size) -> List {
+    let (n, half) = (size.blocks, size.blocks / 2);
+    let mut pointers: BTreeSet<u32> = (1..half).map(|b| word(0, b)).collect();
+    pointers.extend((half + 1..n).map(|b| word(b - 1, b)));
+    pointers.insert(word(n - 1, half));
+    let pointers = filled_up(pointers, n, size.places, |s, d| s >= half && d >= half);
+    let card = list_card(size, pointers, |b| match b {
+        0 => 0,
+        _ if b < half => READ_KEY | WRITE_KEY,
+        _ => READ_KEY,
+    });
+    List { name: NO_TARGET, size, card, chosen: Some(n as u16 - 1) }
+}
+
+fn lists(size: Size) -> Vec<List> {
+    let many = size.blocks - 96;
+    vec![
+        row_list(size),
+        chance_list(size),
+        sealed_list("unlocking, 64 sealed", size, 64),
+        sealed_list("unlocking, all but 96 sealed", size, many),
+        ring_list(size),
+    ]
+}
+
+/// The times of a list by the library and by the plain version, and how many blocks are listed.
+fn list_times(list: &List) -> ([f64; 2], u64) {
+    let words = strange_keys();
+    let given = RefCell::new(Lent::new(&words, 0));
+    let (places, value) = (RefCell::new(vec![0u16; list.size.blocks]), RefCell::new(0));
+    let mut s = side_with(list.card.clone(), list.size.blocks);
+    let times = in_turns(
+        &mut s,
+        1,
+        [&|s| timed(|| done(s.tables.report(list.chosen, &mut given.borrow_mut(), &mut s.buffers))), &|s| {
+            let (places, value) = (&mut places.borrow_mut()[..], &mut *value.borrow_mut());
+            timed(|| {
+                done(match list.chosen {
+                    None => plain::reach(&s.plain, black_box(&words), places, value),
+                    Some(block) => plain::unlocking(&s.plain, block, black_box(&words), places, value),
+                })
+            })
+        }],
+    );
+    assert_eq!(s.tables.difference(&list.card), None, "the list has changed the card");
+    let plain = Buffers { out: vec![0; 512], places: places.into_inner(), value: value.into_inner() };
+    assert_eq!(s.buffers.difference(&plain), None, "library and plain version differ");
+    (times, plain.value)
+}
+
+/// At most so many times the plain version. The worst case for the comparison of keys has no target: the plain version keeps the keys
+/// in a row of their own, for which the library has no stack.
+const LIST_TARGET: f64 = 1.5;
+const NO_TARGET: &str = "unlocking, none fits";
+
+/// What stands in the column of the target.
+fn list_target(name: &str, ratio: f64) -> String {
+    match (name == NO_TARGET, ratio > LIST_TARGET) {
+        (true, _) => String::new(),
+        (_, true) => format!("{LIST_TARGET} (above)"),
+        (_, false) => format!("{LIST_TARGET}"),
+    }
+}
+
+fn list_tables() {
+    println!("Nanoseconds a list of the reach report, with 64 keys given.");
+    println!();
+    println!("| list | size | N | M | sealed | listed | library | plain | library / plain | target |");
+    println!("| --- | --- | ---: | ---: | ---: | ---: | ---: | ---: | ---: | ---: |");
+    let mut rows = Vec::new();
+    for list in SIZES[1..].iter().flat_map(|&size| lists(size)) {
+        let ([library, plain], listed) = list_times(&list);
+        let sealed = list.card.flags.iter().filter(|&&f| f == 7).count();
+        let ratio = library / plain;
+        println!(
+            "| {} | {} | {} | {} | {sealed} | {listed} | {library:.0} | {plain:.0} | {ratio:.2} | {} |",
+            list.name,
+            list.size.name,
+            list.card.blocks(),
+            list.card.used(),
+            list_target(list.name, ratio)
+        );
+        rows.push((list.name, list.card.blocks() + list.card.pointers.len(), library, plain));
+    }
+    println!();
+    println!("| growth of | from | to | N + P grows | library grows | plain grows |");
+    println!("| --- | --- | --- | ---: | ---: | ---: |");
+    let (middle, full) = rows.split_at(rows.len() / 2);
+    for ((name, words, library, plain), (_, more, slower, plain_slower)) in middle.iter().zip(full) {
+        let (grown, library, plain) = (*more as f64 / *words as f64, slower / library, plain_slower / plain);
+        println!("| {name} | middle | full | {grown:.1} | {library:.1} | {plain:.1} |");
+    }
+}
+
+/// The list that takes most stack, at full size.
+fn deepest_list() -> (&'static str, usize) {
+    let list = sealed_list("negvask_unlocking", SIZES[2], 64);
+    let mut given = Lent::new(&strange_keys(), 0);
+    let mut s = side_with(list.card, list.size.blocks);
+    let depths = [("negvask_reach", None), (list.name, list.chosen)]
+        .map(|(name, chosen)| (name, stack_of(&mut || done(s.tables.report(chosen, &mut given, &mut s.buffers)))));
+    depths.into_iter().max_by_key(|(_, depth)| *depth).unwrap()
+}
+
 // ---- The stack ----
 
 const STACK: usize = 256 * 1024;
@@ -694,10 +1030,11 @@ fn stack_of(work: &mut dyn FnMut()) -> usize {
     work();
     // The painted bytes lie in the stack of this thread.
     let untouched = (0..STACK).take_while(|&i| unsafe { std::ptr::read_volatile(low.add(i)) } == UNUSED).count();
-    STACK - untouched
+    // Words are put there, of which a byte may equal the pattern by chance.
+    (STACK - untouched).next_multiple_of(8)
 }
 
-/// The call that takes most stack, at full size.
+/// The call of a host that takes most stack, at full size.
 fn deepest() -> (&'static str, usize) {
     let key = credential_bytes(Credential::Key(WRITER));
     let size = SIZES[2];
@@ -979,7 +1316,10 @@ fn main() {
     batch_table();
     println!();
     batch_growth_table();
-    let (call, bytes) = deepest();
     println!();
-    println!("stack: {bytes} bytes below the caller in the deepest call, {call}, at full size");
+    list_tables();
+    let ((list, list_bytes), (call, bytes)) = (deepest_list(), deepest());
+    println!();
+    println!("stack: {list_bytes} bytes below the caller in the deepest call, {list}, at full size");
+    println!("stack: {bytes} bytes below the caller in a host's deepest call, {call}, at full size");
 }

@@ -6,6 +6,7 @@
 //!   the answer, the record, every table, every lent buffer and the memory beside them are compared with the model;
 //! - batches of call records, the model with an audit for each record;
 //! - bytes of any sort at the ports, service records at the host port, and numbers that no port has;
+//! - the reach report: what is within reach of keys, and which blocks' write keys would open a hidden one;
 //! - secrecy: one host session of calls, and one of bytes, on two cards that differ in hidden and unallocated contents
 //!   only.
 //!
@@ -18,6 +19,7 @@ mod library;
 mod model;
 mod random_call;
 mod random_card;
+mod reach;
 mod secrecy;
 mod trials;
 mod wires;
@@ -28,6 +30,7 @@ use library::{Direct, LentBuffers, Tables, HOST, SERVICE};
 use model::{number, port_of, Buffers, Call, Card, Operation, Port, HOST_KINDS, READ_KEY, SERVICE_KINDS, WRITE_KEY};
 use random_call::{buffers, random_format, spoilt_record, Chooser};
 use random_card::{random_card, random_size, Random, Size, KEYS};
+use reach::Reports;
 use secrecy::{byte_secrecy, secrecy, ByteSecrecy, Secrecy};
 use std::collections::BTreeMap;
 use trials::trials;
@@ -570,6 +573,7 @@ struct Seen {
     bytes: Bytes,
     service: ServiceKinds,
     ports: OtherPorts,
+    reports: Reports,
     secrecy: Secrecy,
     byte_secrecy: ByteSecrecy,
 }
@@ -582,6 +586,7 @@ impl Seen {
         missing.extend(self.bytes.missing());
         missing.extend(self.service.missing());
         missing.extend(self.ports.missing());
+        missing.extend(self.reports.missing());
         missing.extend(self.secrecy.missing());
         missing.extend(self.byte_secrecy.missing());
         missing
@@ -595,6 +600,7 @@ fn run(calls: u64, seed: u64, seen: &mut Seen) -> Result<(), String> {
     run_calls(calls, seed, whole, &mut seen.reached)?;
     run_batches(calls / 50, seed, whole, &mut seen.batches)?;
     run_wires(calls, seed, seen)?;
+    reach::run(calls / 30, seed, whole, &mut seen.reports)?;
     run_secrecy(calls, seed, seen)
 }
 

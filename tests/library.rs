@@ -51,6 +51,9 @@ library! {
                   places: *mut u16, places_len: usize, value: *mut u64);
     negvask_batch(port: u8, input: *const u8, input_len: usize, answers: *mut u8, answers_len: usize,
                   records: *mut u64, read: *mut u64, written: *mut u64);
+    negvask_reach(given: *const u64, given_len: usize, places: *mut u16, places_len: usize, value: *mut u64);
+    negvask_unlocking(block: u16, given: *const u64, given_len: usize, places: *mut u16, places_len: usize,
+                      value: *mut u64);
 }
 
 const GUARDS: usize = 16;
@@ -210,7 +213,7 @@ impl LentBatch {
     }
 }
 
-fn differs<T: Copy + PartialEq + std::fmt::Debug>(name: &str, library: &Lent<T>, model: &[T]) -> Option<String> {
+pub fn differs<T: Copy + PartialEq + std::fmt::Debug>(name: &str, library: &Lent<T>, model: &[T]) -> Option<String> {
     if !library.guards_kept() {
         return Some(format!("memory beside {name} was written to"));
     }
@@ -392,6 +395,16 @@ impl Tables {
             lent.read.pointer(),
             lent.written.pointer()
         )
+    }
+
+    /// The blocks within reach of keys, or those that unlock a chosen one.
+    pub fn report(&mut self, chosen: Option<u16>, given: &mut Lent<u64>, lent: &mut LentBuffers) -> u32 {
+        let (words, length) = (given.pointer(), given.length());
+        let (places, room, value) = (lent.places.pointer(), lent.places.length(), lent.value.pointer());
+        match chosen {
+            None => with_tables!(negvask_reach, self, words, length, places, room, value),
+            Some(block) => with_tables!(negvask_unlocking, self, block, words, length, places, room, value),
+        }
     }
 }
 

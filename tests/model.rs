@@ -578,15 +578,18 @@ impl Card {
 
     // ---- Within reach ----
 
+    /// Whether a block has both keys and neither of them is presented.
+    pub fn sealed(&self, presented: &[Key], b: usize) -> bool {
+        let hides = |k: Option<Key>| k.is_some_and(|k| !presented.contains(&k));
+        hides(self.key(b, Reading)) && hides(self.key(b, Writing))
+    }
+
     /// The blocks within reach of the presented keys, by the definition: the least set with its four rules.
     pub fn within_reach(&self, presented: &[Key]) -> Vec<bool> {
         let shown = |k: Option<Key>| k.is_some_and(|k| presented.contains(&k));
-        let sealed = |b: usize| {
-            let (read, write) = (self.key(b, Reading), self.key(b, Writing));
-            read.is_some() && write.is_some() && !shown(read) && !shown(write)
-        };
+        let sealed: Vec<bool> = (0..self.blocks()).map(|b| self.sealed(presented, b)).collect();
         let starts = |b: usize| {
-            (self.root(b) && !sealed(b))
+            (self.root(b) && !sealed[b])
                 || shown(self.key(b, Reading))
                 || shown(self.key(b, Writing))
                 || self.window_open(b, Reading)
@@ -597,7 +600,7 @@ impl Card {
             let before = reach.clone();
             for &p in &self.pointers[..self.used()] {
                 let (source, destination) = ends(p);
-                if reach[source] && !sealed(destination) {
+                if reach[source] && !sealed[destination] {
                     reach[destination] = true;
                 }
             }
@@ -611,6 +614,61 @@ impl Card {
         let reach = self.within_reach(presented);
         (0..self.blocks()).map(|b| self.allocated(b) && !reach[b]).collect()
     }
+
+    // ---- The reach report ----
+
+    /// The blocks within reach of the keys, ascending.
+    pub fn reach_list(&self, keys: &[Key]) -> Vec<u16> {
+        let reach = self.within_reach(keys);
+        (0..self.blocks()).filter(|&b| reach[b]).map(|b| b as u16).collect()
+    }
+
+    /// The sealed blocks whose write key, added alone to the keys, brings the chosen block within reach, ascending.
+    pub fn unlocking_list(&self, keys: &[Key], chosen: usize) -> Vec<u16> {
+        let brings = |s: usize| {
+            let added: Vec<Key> = keys.iter().copied().chain(self.key(s, Writing)).collect();
+            self.within_reach(&added).get(chosen) == Some(&true)
+        };
+        (0..self.blocks()).filter(|&s| self.sealed(keys, s) && brings(s)).map(|s| s as u16).collect()
+    }
+
+    pub fn reach(&self, given: &[u64], places: &mut [u16], value: &mut u64) -> Answer {
+        self.audit()?;
+        let keys = given_keys(given).ok_or(BAD_OPERAND)?;
+        let list = self.reach_list(&keys);
+        refuse_if(places.len() < list.len(), BAD_OPERAND)?;
+        put_list(&list, places, value);
+        Ok(())
+    }
+
+    pub fn unlocking(&self, block: u16, given: &[u64], places: &mut [u16], value: &mut u64) -> Answer {
+        let b = block as usize;
+        self.audit()?;
+        let keys = given_keys(given).ok_or(BAD_OPERAND)?;
+        refuse_if(self.within_reach(&keys).get(b) == Some(&true), BAD_OPERAND)?;
+        let list = self.unlocking_list(&keys, b);
+        refuse_if(places.len() < list.len(), BAD_OPERAND)?;
+        refuse_if(!self.allocated(b), NO_BLOCK)?;
+        put_list(&list, places, value);
+        Ok(())
+    }
+}
+
+/// The keys of words, high and low in turn; None where these make no whole number of keys, or more than 64.
+pub fn given_keys(words: &[u64]) -> Option<Vec<Key>> {
+    let fits = words.len() % 2 == 0 && words.len() <= 2 * 64;
+    fits.then(|| words.chunks(2).map(|pair| Key { high: pair[0], low: pair[1] }).collect())
+}
+
+/// The words of keys.
+pub fn key_words(keys: &[Key]) -> Vec<u64> {
+    keys.iter().flat_map(|k| [k.high, k.low]).collect()
+}
+
+/// A list into the first places, with its length as the result.
+fn put_list(list: &[u16], places: &mut [u16], value: &mut u64) {
+    places[..list.len()].copy_from_slice(list);
+    *value = list.len() as u64;
 }
 
 pub fn ends(pointer: u32) -> (usize, usize) {

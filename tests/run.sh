@@ -1,10 +1,10 @@
 #!/usr/bin/env bash
 # Builds the tests against the library's archive and runs them: what each came to, exit status 1 if one fails.
 #
-#   tests/run.sh [ARCHIVE] [--calls N] [--seed S]   differential test and the examples in C
+#   tests/run.sh [ARCHIVE] [--calls N] [--seed S]   differential test, the examples in C and the picture that one draws
 #   tests/run.sh [ARCHIVE] --benchmark              the benchmark's tables instead
 #
-# ARCHIVE: target/staticlib/libinterface.a unless given. Needs rustc and a C compiler, no crates.
+# ARCHIVE: target/staticlib/libinterface.a unless given. Needs rustc, a C compiler and python3, no crates.
 set -uo pipefail
 cd "$(dirname "$0")/.."
 
@@ -45,14 +45,14 @@ fi
 
 if build differential && "$work/differential" "${options[@]}" > "$work/differential.out"; then
 	echo "differential test: passed"
-	grep -E '^(differential|batch|bytes|service kinds|ports|secrecy|secrecy of bytes):' "$work/differential.out" | sed 's/^/  /'
+	grep -E '^(differential|batch|bytes|service kinds|ports|reach|secrecy|secrecy of bytes):' "$work/differential.out" | sed 's/^/  /'
 else
 	grep -A3 -E '^(DIFFERENCE|not reached)' "$work/differential.out" 2>/dev/null
 	echo "differential test: FAILED"
 	failed=1
 fi
 
-for example in host batch firmware; do
+for example in host batch firmware handover; do
 	if ${CC:-cc} -std=c99 -Wall -Wextra -pedantic -Werror -O2 -I include "examples/$example.c" "$work/libnegvask.a" -o "$work/$example" &&
 		"$work/$example" > "$work/$example.out" && diff "examples/$example.expected" "$work/$example.out"; then
 		echo "example $example: passed"
@@ -61,6 +61,18 @@ for example in host batch firmware; do
 		failed=1
 	fi
 done
+
+# docs/handover.svg is what the command in docs/FITTING.md draws.
+read -ra drawn <<< "$(sed -n 's,^    sessions/assemble sessions/handover.session | target/draw \(.*\) > docs/handover.svg$,\1,p' docs/FITTING.md)"
+if [ ${#drawn[@]} -gt 0 ] &&
+	${CC:-cc} -std=c99 -Wall -Wextra -pedantic -Werror -O2 -I include examples/draw.c "$work/libnegvask.a" -o "$work/draw" &&
+	sessions/assemble sessions/handover.session | "$work/draw" "${drawn[@]}" > "$work/handover.svg" &&
+	cmp docs/handover.svg "$work/handover.svg"; then
+	echo "drawing docs/handover.svg: passed"
+else
+	echo "drawing docs/handover.svg: FAILED"
+	failed=1
+fi
 
 # The header serves C++ too.
 if ! command -v "${CXX:-c++}" > /dev/null; then

@@ -10,6 +10,7 @@ use crate::model::{
 };
 use crate::random_call::{buffers, Chooser};
 use crate::random_card::{random_card, Random, Size, KEYS};
+use crate::reach::agrees;
 use crate::wires::{spoil, starts, Sort};
 use std::collections::BTreeMap;
 
@@ -63,7 +64,7 @@ impl Secrecy {
     }
 }
 
-fn presented_by(call: &Call) -> Vec<Key> {
+pub fn presented_by(call: &Call) -> Vec<Key> {
     let key = |c: &Credential| match c {
         Credential::Key(k) => vec![*k],
         _ => vec![],
@@ -126,14 +127,18 @@ fn of_two_cards(difference: String) -> String {
 }
 
 impl Pair {
-    fn new(rnd: &mut Random, start: Card, presented: &[Key]) -> Self {
+    /// The reach report must have the same blocks hidden on both.
+    fn new(rnd: &mut Random, start: Card, presented: &[Key]) -> Result<Self, String> {
         let hidden = start.hidden(presented);
         let mut other = start.clone();
         for b in (0..start.blocks()).filter(|&b| hidden[b] || !start.allocated(b)) {
             rnd.fill(&mut other.contents[part(b)]);
         }
         let freed = vec![false; start.blocks()];
-        Pair { one: Tables::new(&start), two: Tables::new(&other), start, other, hidden, freed }
+        let (mut one, mut two) = (Tables::new(&start), Tables::new(&other));
+        agrees(&mut one, &start, presented, &hidden)?;
+        agrees(&mut two, &other, presented, &hidden)?;
+        Ok(Pair { one, two, start, other, hidden, freed })
     }
 
     /// The same on both cards: the answer and what the buffers then hold, which must be equal.
@@ -218,7 +223,7 @@ pub fn secrecy(rnd: &mut Random, seen: &mut Secrecy) -> Result<(), String> {
     let start = starting_card(rnd)?;
     let session = random_session(rnd, &start)?;
     let presented: Vec<Key> = session.iter().flat_map(|(_, call, _)| presented_by(call)).collect();
-    let mut pair = Pair::new(rnd, start, &presented);
+    let mut pair = Pair::new(rnd, start, &presented)?;
     let by_record = rnd.percent(50);
     for (i, (direct, call, lent)) in session.iter().enumerate() {
         let answered = match direct.record().filter(|_| by_record) {
@@ -406,7 +411,7 @@ impl Pair {
 pub fn byte_secrecy(rnd: &mut Random, seen: &mut ByteSecrecy) -> Result<(), String> {
     let start = starting_card(rnd)?;
     let input = host_bytes(rnd, &start, seen)?;
-    let mut pair = Pair::new(rnd, start, &presented_by_records(&input));
+    let mut pair = Pair::new(rnd, start, &presented_by_records(&input))?;
     if rnd.percent(60) {
         pair.batches(rnd, &input, seen)?;
     } else {

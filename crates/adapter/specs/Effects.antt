@@ -13,6 +13,7 @@ use Rattle.card.specs.Calls.{answerNumber, format}
 use Rattle.card.specs.Session.{request, perform}
 use Rattle.card.specs.declared.Answer.{Answer}
 use Rattle.card.specs.declared.Answer.the-variants.{Refused, Done, Value}
+use Rattle.report.specs.Report.{reachReport, unlockingReport}
 use Rattle.records.specs.Decode.{nameOf, dataOf}
 use Rattle.records.specs.declared.Decoding.{Decoding}
 use Rattle.records.specs.declared.Decoding.the-variants.{Decoded, Bad}
@@ -53,10 +54,22 @@ effect (Decoded port call) input out places value info c =
     cond (eqb (length info) recordLength) (effectOf (perform port c (request call input out places)) value) (refusedEffect 1 out places value info c)
 effect Bad input out places value info c = refusedEffect 13 out places value info c
 
+-- ---- what no record carries
+
+-- A rule of its own: 1 where the record has not its five numbers.
+unfoldable pub ruleEffect : (Card → Result) → List ℕ → ℕ → List ℕ → Card → Effect
+ruleEffect rule places value info c = cond (eqb (length info) recordLength) (effectOf (rule c) value) (refusedEffect 1 [] places value info c)
+
 -- FORMAT, which has no record to be sound.
-unfoldable pub formatEffect : ℕ → ℕ → ℕ → List ℕ → Card → Effect
-formatEffect blocks roots bytes info c =
-    cond (eqb (length info) recordLength) (effectOf (format blocks roots bytes c) 0) (refusedEffect 1 [] [] 0 info c)
+abbrev pub formatEffect : ℕ → ℕ → ℕ → List ℕ → Card → Effect
+formatEffect blocks roots bytes info c = ruleEffect (format blocks roots bytes) [] 0 info c
+
+-- 2026-03: the two lists of the reach report.
+abbrev pub reachEffect : List ℕ → List ℕ → ℕ → List ℕ → Card → Effect
+reachEffect words places value info c = ruleEffect (reachReport words places) places value info c
+
+abbrev pub unlockingEffect : List ℕ → ℕ → List ℕ → ℕ → List ℕ → Card → Effect
+unlockingEffect words chosen places value info c = ruleEffect (unlockingReport words chosen places) places value info c
 
 -- ---- a call record
 
@@ -111,4 +124,16 @@ EffectsLent rule info flags keys counts pointers windows contents out places val
     (now (info .exit))
     (atExit (recordOf (now (info .exit))) flags keys counts pointers windows contents)
     (now (out .exit))
+    (now (places .exit))
+
+-- The same of a function that lists numbers in lent places, and is lent the record and the tables to read.
+abbrev pub EffectsListing : (List ℕ → ℕ → List ℕ → Card → Effect) → Lent → Lent → Lent → Lent → Lent → Lent → Lent → Lent → LentNumber → ℕ → Type 0
+EffectsListing rule info flags keys counts pointers windows contents places value r =
+    Gives
+    (rule (now (places .entry)) (now (value .entry)) (now (info .entry)) (atEntry (recordOf (now (info .entry))) flags keys counts pointers windows contents))
+    r
+    (now (value .exit))
+    (now (info .exit))
+    (atExit (recordOf (now (info .exit))) flags keys counts pointers windows contents)
+    []
     (now (places .exit))

@@ -7,7 +7,7 @@ use lib.ListN.{length, take, drop}
 use borrow.Author.Tests.{eq-eqb, ne-eqb}
 use Rattle.card.specs.Card.{Card, card}
 use Rattle.card.specs.Plan.{Result}
-use Rattle.card.specs.Calls.{refusalNumber, answerNumber, format}
+use Rattle.card.specs.Calls.{refusalNumber, answerNumber}
 use Rattle.card.specs.Promises.{Is}
 use Rattle.card.specs.Session.{request, perform}
 use Rattle.card.specs.declared.Info.{Info}
@@ -23,7 +23,8 @@ use Rattle.records.specs.declared.Decoding.{Decoding}
 use Rattle.records.specs.declared.Decoding.the-variants.{Decoded, Bad}
 use Rattle.records.specs.declared.Parsed.{Parsed}
 use Rattle.parameters.specs.Numbers.{recordLength, recordOf, numbersOf}
-use Rattle.adapter.specs.Effects.{Effect, valueAfter, effectOf, effect, formatEffect, dataIn, Does, Gives}
+use Rattle.parameters.specs.NumbersLaws.{numbers-record}
+use Rattle.adapter.specs.Effects.{Effect, valueAfter, effectOf, effect, ruleEffect, dataIn, Does, Gives}
 
 -- The number of a refusal fits 32 bits.
 pub refusal-small : (r : Refusal) → refusalNumber r ≤ 14
@@ -100,24 +101,37 @@ module _ {want : Effect} {number given : ℕ} {numbers : List ℕ} {after : Card
   pub no-places : length places ≡ 0 → Gives want number given numbers after out []
   no-places h = subst (λ (xs : List ℕ). Gives want number given numbers after out xs) (nil _ h) g
 
--- ---- FORMAT
+-- ---- what no record carries
 
-module _ (blocks roots bytes : ℕ) (info : List ℕ) where
+module _ (rule : Card → Result) (places : List ℕ) (value : ℕ) (info : List ℕ) where
   -- The record has not its numbers.
-  pub format-record : (c : Card) → (length info ≡ recordLength → ⊥) → Does (formatEffect blocks roots bytes info c) 1 info c [] []
-  unfolding formatEffect
-  format-record c n = rw (ne-eqb (length info) recordLength n) (record { answers = refl; records = refl; leaves = refl; fillsOut = refl; fillsPlaces = refl })
+  pub rule-record : (c : Card) → (length info ≡ recordLength → ⊥) → Gives (ruleEffect rule places value info c) 1 value info c [] places
+  unfolding ruleEffect
+  rule-record c n =
+      rw (ne-eqb (length info) recordLength n)
+      (record { does = record { answers = refl; records = refl; leaves = refl; fillsOut = refl; fillsPlaces = refl }; gives = refl })
 
-  pub formatted : (flags keys counts pointers windows contents : List ℕ) {loaded : Info} (left : Info) (flags' keys' counts' pointers' windows' contents' : List ℕ) {answer : Answer} {number : ℕ} {numbers : List ℕ}
+  pub rule-done : (flags keys counts pointers windows contents : List ℕ) {loaded : Info} (left : Info) (flags' keys' counts' pointers' windows' contents' : List ℕ)
+      {answer : Answer} {number given : ℕ} {numbers places' : List ℕ}
       → length info ≡ recordLength → loaded ≡ recordOf info
-      → Is (format blocks roots bytes (card loaded flags keys counts pointers windows contents)) answer (card left flags' keys' counts' pointers' windows' contents') [] []
-      → numbers ≡ numbersOf left → number ≡ answerNumber answer
-      → Does (formatEffect blocks roots bytes info (card (recordOf info) flags keys counts pointers windows contents)) number numbers (card (recordOf numbers) flags' keys' counts' pointers' windows' contents') [] []
-  unfolding formatEffect
-  formatted flags keys counts pointers windows contents left flags' keys' counts' pointers' windows' contents' {answer} n l j s a =
-      let i : Is (format blocks roots bytes (card (recordOf info) flags keys counts pointers windows contents)) answer (card left flags' keys' counts' pointers' windows' contents') [] [] =
-      subst (λ (o : Info). Is (format blocks roots bytes (card o flags keys counts pointers windows contents)) answer (card left flags' keys' counts' pointers' windows' contents') [] []) l j in
-      rw (eq-eqb (length info) recordLength n) (reported 0 left flags' keys' counts' pointers' windows' contents' i s a refl .does)
+      → Is (rule (card loaded flags keys counts pointers windows contents)) answer (card left flags' keys' counts' pointers' windows' contents') [] places'
+      → numbers ≡ numbersOf left → number ≡ answerNumber answer → given ≡ valueAfter answer value
+      → Gives (ruleEffect rule places value info (card (recordOf info) flags keys counts pointers windows contents)) number given numbers (card (recordOf numbers) flags' keys' counts' pointers' windows' contents') [] places'
+  unfolding ruleEffect
+  rule-done flags keys counts pointers windows contents left flags' keys' counts' pointers' windows' contents' {answer} {places' = places'} n l j s a g =
+      let i : Is (rule (card (recordOf info) flags keys counts pointers windows contents)) answer (card left flags' keys' counts' pointers' windows' contents') [] places' =
+      subst (λ (o : Info). Is (rule (card o flags keys counts pointers windows contents)) answer (card left flags' keys' counts' pointers' windows' contents') [] places') l j in
+      rw (eq-eqb (length info) recordLength n) (reported value left flags' keys' counts' pointers' windows' contents' i s a g)
+
+  -- The same of a rule that leaves record and tables.
+  pub rule-listed : (flags keys counts pointers windows contents : List ℕ) {loaded : Info} {answer : Answer} {number given : ℕ} {places' : List ℕ}
+      → length info ≡ recordLength → loaded ≡ recordOf info
+      → Is (rule (card loaded flags keys counts pointers windows contents)) answer (card loaded flags keys counts pointers windows contents) [] places'
+      → number ≡ answerNumber answer → given ≡ valueAfter answer value
+      → Gives (ruleEffect rule places value info (card (recordOf info) flags keys counts pointers windows contents)) number given info (card (recordOf info) flags keys counts pointers windows contents) [] places'
+  rule-listed flags keys counts pointers windows contents {loaded} n l i a g =
+      rule-done flags keys counts pointers windows contents loaded flags keys counts pointers windows contents n l i
+      (sym (numbers-record info n) ∙ ap (λ (o : Info). numbersOf o) (sym l)) a g
 
 -- ---- a call record
 

@@ -10,7 +10,7 @@ ghost use Rattle.parameters.specs.Numbers.{recordLength, numbersOf};
 ghost use Rattle.adapter.specs.Effects.{valueAfter, effect, EffectsGiving, EffectsLent};
 
 // The number of an answer; a result is put where the caller asks for it.
-fn report(answer: Answer, value: &mut u64) -> u32
+pub fn report(answer: Answer, value: &mut u64) -> u32
     ensures number { λ r. ⌜ r ≡ answerNumber answer ⌝ }
     ensures result { λ _. ⌜ now (value .exit) ≡ valueAfter answer (now (value .entry)) ⌝ }
 {

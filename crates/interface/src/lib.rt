@@ -11,7 +11,7 @@ use parameters::Wire;
 use records::Decoding;
 ghost use mathlib.Core.Path.{_≡_};
 ghost use mathlib.Core.List.{[]};
-ghost use Rattle.adapter.specs.Effects.{formatEffect, Effects, EffectsGiving, EffectsLent};
+ghost use Rattle.adapter.specs.Effects.{formatEffect, reachEffect, unlockingEffect, Effects, EffectsGiving, EffectsLent, EffectsListing};
 ghost use Rattle.interface.specs.Functions.{read, write, alloc, allocContig, create, delete, keyRead, keyWrite, renew, force, tick, free, audit, serve, keyCallAt, effectBy};
 ghost use Rattle.interface.specs.Batch.{stopNumber, ServesBatch};
 
@@ -504,6 +504,76 @@ pub extern "C" fn negvask_format(
     );
     let mut value = 0;
     adapter::settle(info, outcome, &mut value)
+}
+
+// ---- the reach report
+
+// The blocks within reach of the given keys, into `places`; `value` how many.
+#[no_mangle]
+pub extern "C" fn negvask_reach(
+    info: &[u64],
+    flags: &[u8],
+    keys: &[u64],
+    counts: &[u16],
+    pointers: &[u32],
+    windows: &[u64],
+    contents: &[u8],
+    given: &[u64],
+    places: &mut [u16],
+    value: &mut u64,
+) -> u32
+    ensures { λ r. ⌜ EffectsListing (reachEffect (now (given .entry))) info flags keys counts pointers windows contents places value r ⌝ }
+{
+    if info.len() != parameters::RECORD_LENGTH {
+        return 1;
+    }
+    let answer = reach::reach(
+        parameters::load(info),
+        flags,
+        keys,
+        counts,
+        pointers,
+        windows,
+        contents,
+        given,
+        places,
+    );
+    adapter::report(answer, value)
+}
+
+// The sealed blocks whose write key, added alone to the given keys, would bring the block within reach, into `places`; `value` how many.
+#[no_mangle]
+pub extern "C" fn negvask_unlocking(
+    info: &[u64],
+    flags: &[u8],
+    keys: &[u64],
+    counts: &[u16],
+    pointers: &[u32],
+    windows: &[u64],
+    contents: &[u8],
+    block: u16,
+    given: &[u64],
+    places: &mut [u16],
+    value: &mut u64,
+) -> u32
+    ensures { λ r. ⌜ EffectsListing (unlockingEffect (now (given .entry)) block) info flags keys counts pointers windows contents places value r ⌝ }
+{
+    if info.len() != parameters::RECORD_LENGTH {
+        return 1;
+    }
+    let answer = unlocking::unlocking(
+        parameters::load(info),
+        flags,
+        keys,
+        counts,
+        pointers,
+        windows,
+        contents,
+        given,
+        block,
+        places,
+    );
+    adapter::report(answer, value)
 }
 
 // ---- call records

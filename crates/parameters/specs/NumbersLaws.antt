@@ -35,6 +35,16 @@ stored (a ∷ b ∷ c ∷ []) i h = absurd (omega arith)
 stored (a ∷ b ∷ c ∷ d ∷ []) i h = absurd (omega arith)
 stored (a ∷ b ∷ c ∷ d ∷ e ∷ f ∷ xs) i h = absurd (omega arith)
 
+-- The record of five numbers has these five.
+pub numbers-record : (xs : List ℕ) → length xs ≡ recordLength → numbersOf (recordOf xs) ≡ xs
+numbers-record (a ∷ b ∷ c ∷ d ∷ e ∷ []) h = refl
+numbers-record [] h = absurd (omega arith)
+numbers-record (a ∷ []) h = absurd (omega arith)
+numbers-record (a ∷ b ∷ []) h = absurd (omega arith)
+numbers-record (a ∷ b ∷ c ∷ []) h = absurd (omega arith)
+numbers-record (a ∷ b ∷ c ∷ d ∷ []) h = absurd (omega arith)
+numbers-record (a ∷ b ∷ c ∷ d ∷ e ∷ f ∷ xs) h = absurd (omega arith)
+
 -- ---- ports
 
 module _ (port : ℕ) {w : Wire} (found : w ≡ wireOf port) where

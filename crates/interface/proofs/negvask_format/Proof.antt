@@ -1,5 +1,8 @@
 -- `interface::negvask_format` meets its contract.
-use Rattle.adapter.specs.EffectsLaws.{format-record, formatted}
+use mathlib.Core.Path.{refl}
+use Rattle.adapter.specs.EffectsLaws.{rule-record, rule-done}
+use Rattle.card.specs.Calls.{format}
+use mathlib.Core.List.{[]}
 use borrow.Author.Needs.{needs}
 use Rattle.interface.proofs.negvask_format.Statement.{statement}
 use Rattle.interface.proofs.negvask_format.Tie as tie
@@ -26,7 +29,7 @@ start c = at-if1 c .before .before .before .before .before .before .before .befo
 returns : tie.Need-returns
 returns c =
     let start : tie.Start = search in
-    format-record (start .args .blocks) (start .args .roots) (start .args .bytes) (start .args .info .now) _ (c .if1 .taken)
+    rule-record (format (start .args .blocks) (start .args .roots) (start .args .bytes)) [] 0 (start .args .info .now) _ (c .if1 .taken) .does
 
 load-requires : tie.Need-load-requires
 load-requires c κs = search needs
@@ -59,7 +62,10 @@ same-length-7 : tie.Need-same-length-7
 same-length-7 c = at-format c .format .kept .1 .1 .1 .1 .1 .1 .1 .1 .1 .0
 
 returns-2 : tie.Need-returns-2
-returns-2 c = formatted (start c .args .blocks) (start c .args .roots) (start c .args .bytes) (start c .args .info .now) _ _ _ _ _ _ _ _ _ _ _ _ _ (at-if1 c .if1 .left) (at-load c .load .ensures) (at-format c .format .ensures) (at-settle c .settle .ensures .0) (at-settle c .settle .ensures .1 .0)
+returns-2 c =
+    rule-done (format (start c .args .blocks) (start c .args .roots) (start c .args .bytes)) [] 0 (start c .args .info .now) _ _ _ _ _ _ _ _ _ _ _ _ _
+    (at-if1 c .if1 .left) (at-load c .load .ensures) (at-format c .format .ensures) (at-settle c .settle .ensures .0) (at-settle c .settle .ensures .1 .0) refl
+    .does
 
 pub negvask-format-spec : {M : Type 1} → statement M
 negvask-format-spec =
