@@ -1,6 +1,6 @@
 -- What is answered on a sound card, by the checks in their order.
 use Prim.Native.Nat.{ℕ, _<_, _≤_}
-use mathlib.Core.Path.{_≡_, refl, sym, ap, _∙_}
+use mathlib.Core.Path.{_≡_, sym, ap, _∙_}
 use mathlib.Core.Bool.{Bool, true, false}
 use mathlib.Core.List.{List, []}
 use native.Mathlib.Omega.{arith}
@@ -8,12 +8,13 @@ use lib.ListN.{length}
 use borrow.Author.Tests.{lt-ltb, le-ltb}
 use Rattle.card.specs.Contents.{overwrite}
 use Rattle.card.specs.Card.{Card}
-use Rattle.card.specs.Plan.{here, later, outAfter, placesAfter, changes, judgeSound}
-use Rattle.card.specs.Promises.{Is, is-refused, is-done}
+use Rattle.card.specs.Plan.{here, later, judgeSound}
+use Rattle.card.specs.Promises.{Is, is-refused}
 use Rattle.card.specs.declared.Answer.{Answer}
 use Rattle.card.specs.declared.Answer.the-variants.{Refused, Value}
 use Rattle.card.specs.declared.Refusal.the-variants.{BadOperand}
 use Rattle.report.specs.Report.{given, badKeys, withinReach, listing, reachPlan, lentPlaces}
+use Rattle.report.specs.ReportLaws.{listing-done}
 use Rattle.reach.specs.Within.{markedBelow, Within}
 
 module _ (words places : List ℕ) (c : Card) where
@@ -35,12 +36,10 @@ module _ (words places : List ℕ) (c : Card) where
     pub places-enough : count ≤ length places → length (markedBelow marks (c .public .info .blocks)) ≤ length places
     places-enough l = omega (arith, ap length (w .isMarked), w .counted)
 
-    pub reach-listed : {places' : List ℕ} → count ≤ length places → places' ≡ overwrite places 0 (markedBelow marks (c .public .info .blocks)) → Reports (Value count) places'
-    unfolding reachPlan listing outAfter placesAfter changes
-    reach-listed l p =
-        rw (w .counted)
-        (is-done c (lentPlaces places) (reachPlan words (length places) c)
+    pub list-answered : {places' : List ℕ} → count ≤ length places → places' ≡ overwrite places 0 (markedBelow marks (c .public .info .blocks)) → Reports (Value count) places'
+    unfolding reachPlan
+    list-answered l p =
+        listing-done c places _ (withinReach (given words) c)
         (sym h ∙ e, (le-ltb (length places) (length (withinReach (given words) c)) (omega (arith, w .counted)), tt))
-        refl
-        refl
-        (p ∙ ap (λ (ns : List ℕ). overwrite places 0 ns) (w .isMarked)))
+        (w .counted)
+        (p ∙ ap (λ (ns : List ℕ). overwrite places 0 ns) (w .isMarked))

@@ -1,6 +1,6 @@
 -- The first list has exactly the blocks of `Reach`; laws of both lists.
 use Prim.Native.Nat.{ℕ, _≤_, _<_}
-use mathlib.Core.Path.{_≡_, ap}
+use mathlib.Core.Path.{_≡_, refl, ap}
 use mathlib.Core.Logic.{⊎-elim}
 use mathlib.Core.Bool.{Bool, true, false, _&&_, not}
 use mathlib.Core.List.{List, []}
@@ -9,17 +9,21 @@ use borrow.Author.Tests.{not-true}
 use Rattle.card.specs.Lists.{any, numbersBelow}
 use Rattle.card.specs.ListsLaws.{and-left, and-right, and-true, and-false-right, or-left, or-right, or-cases, false-unless, absurd-test}
 use Rattle.card.specs.Pointers.{ascending, contains}
+use Rattle.card.specs.Contents.{overwrite}
 use Rattle.card.specs.NearestLaws.{numbers-ascend}
 use Rattle.card.specs.Card.{Card, allocated, isRoot, windowOpen, pointsTo}
 use Rattle.card.specs.SoundnessLaws.{allocated-below}
+use Rattle.card.specs.Plan.{Check, NoneHolds, outAfter, placesAfter, changes, judgeSound}
+use Rattle.card.specs.Promises.{Is, is-done}
 use Rattle.card.specs.Calls.{missing}
 use Rattle.card.specs.Reach.{keyPresented, sealed, Reach, unsealedRoot, byKey, openWindow, pointed}
 use Rattle.card.specs.declared.Mode.{Mode}
 use Rattle.card.specs.declared.Mode.the-variants.{Reading, Writing}
+use Rattle.card.specs.declared.Answer.the-variants.{Value}
 use Rattle.card.proofs.Secrecy.Theorem.{reach-allocated}
 use Rattle.report.specs.NumbersLaws.{numbers-most, numbers-none}
 use Rattle.report.specs.LeastLaws.{Some, any-member, member-any, any-within, Monotone, least-in, least-closed, least-own, least-ascends, least-most}
-use Rattle.report.specs.Report.{given, rootUnsealed, someKey, someWindow, withinByItself, withinByPointer, within, withinReach, withWriteKey, unlocks, unlocking}
+use Rattle.report.specs.Report.{given, rootUnsealed, someKey, someWindow, withinByItself, withinByPointer, within, withinReach, withWriteKey, unlocks, unlocking, listing, lentPlaces}
 
 module _ (isPresented : ℕ → ℕ → Bool) (c : Card) where
   -- ---- into the list, and out of it
@@ -156,3 +160,11 @@ module _ (words : List ℕ) (c : Card) (chosen : ℕ) where
   unlocking-missing m =
       numbers-none (unlocks words c chosen) (c .public .info .blocks)
       (λ s l. and-false-right (sealed (given words) c s) _ (missing-unlisted (given (withWriteKey words c s)) c chosen m))
+
+-- ---- what is answered
+
+-- A list is put into the places as its plan says, and its length is the result.
+pub listing-done : (c : Card) (places : List ℕ) (checks : List Check) (list : List ℕ) {count : ℕ} {places' : List ℕ} → NoneHolds checks → count ≡ length list
+    → places' ≡ overwrite places 0 list → Is (judgeSound c (lentPlaces places) (listing checks list)) (Value count) c [] places'
+unfolding listing outAfter placesAfter changes
+listing-done c places checks list h n p = rw n (is-done c (lentPlaces places) (listing checks list) h refl refl p)

@@ -1,6 +1,6 @@
 -- What is answered on a sound card, by the checks in their order.
 use Prim.Native.Nat.{ℕ, _<_, _≤_}
-use mathlib.Core.Path.{_≡_, refl, ap, _∙_, subst}
+use mathlib.Core.Path.{_≡_, ap, _∙_, subst}
 use mathlib.Core.Bool.{true, false}
 use mathlib.Core.List.{List, []}
 use native.Mathlib.Omega.{arith}
@@ -10,13 +10,13 @@ use Rattle.card.specs.Contents.{overwrite}
 use Rattle.card.specs.Pointers.{contains}
 use Rattle.card.specs.Card.{Card}
 use Rattle.card.specs.Calls.{missing}
-use Rattle.card.specs.Plan.{here, later, outAfter, placesAfter, changes, judgeSound}
-use Rattle.card.specs.Promises.{Is, is-refused, is-done}
+use Rattle.card.specs.Plan.{here, later, judgeSound}
+use Rattle.card.specs.Promises.{Is, is-refused}
 use Rattle.card.specs.declared.Answer.{Answer}
 use Rattle.card.specs.declared.Answer.the-variants.{Refused, Value}
 use Rattle.card.specs.declared.Refusal.the-variants.{NotAllocated, BadOperand}
 use Rattle.report.specs.Report.{given, badKeys, withinReach, unlocking, listing, unlockingPlan, lentPlaces}
-use Rattle.report.specs.ReportLaws.{missing-unlisted, unlocking-missing}
+use Rattle.report.specs.ReportLaws.{missing-unlisted, unlocking-missing, listing-done}
 use Rattle.reach.specs.Within.{markedBelow}
 use Rattle.unlocking.specs.declared.Found.{Found}
 use Rattle.unlocking.specs.declared.Found.the-variants.{Within, Unlocked}
@@ -64,13 +64,11 @@ module _ (words places : List ℕ) (chosen : ℕ) (c : Card) where
           is-refused c (lentPlaces places) (unlockingPlan words chosen (length places) c)
           (later e (later (u .outside) (here (lt-ltb (length places) (length (unlocking words c chosen)) (omega (arith, u .counted))))))
 
-      pub unlocking-listed : {places' : List ℕ} → missing (c .public) chosen ≡ false → count ≤ length places
+      pub list-answered : {places' : List ℕ} → missing (c .public) chosen ≡ false → count ≤ length places
           → places' ≡ overwrite places 0 (markedBelow shut (c .public .info .blocks)) → Reports (Value count) places'
-      unfolding unlockingPlan listing outAfter placesAfter changes
-      unlocking-listed m l p =
-          rw (u .counted)
-          (is-done c (lentPlaces places) (unlockingPlan words chosen (length places) c)
+      unfolding unlockingPlan
+      list-answered m l p =
+          listing-done c places _ (unlocking words c chosen)
           (e, (u .outside, (le-ltb (length places) (length (unlocking words c chosen)) (omega (arith, u .counted)), (m, tt))))
-          refl
-          refl
-          (p ∙ ap (λ (ns : List ℕ). overwrite places 0 ns) (u .isKept)))
+          (u .counted)
+          (p ∙ ap (λ (ns : List ℕ). overwrite places 0 ns) (u .isKept))

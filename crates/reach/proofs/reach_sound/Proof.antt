@@ -1,7 +1,7 @@
 -- `reach::reach_sound` meets its contract.
 use mathlib.Core.Path.{refl}
 use borrow.Author.Needs.{needs}
-use Rattle.reach.proofs.Answering.{keys-refused, places-refused, places-enough, reach-listed}
+use Rattle.reach.proofs.Answering.{keys-refused, places-refused, places-enough, list-answered}
 use Rattle.reach.proofs.reach_sound.Statement.{statement}
 use Rattle.reach.proofs.reach_sound.Tie as tie
 
@@ -38,7 +38,7 @@ returns-3 c =
     let at-within : tie.After-mark-within = search in
     let at-if2 : tie.Else2 = search in
     let at-list : tie.After-list = search in
-    reach-listed _ _ _ (at-if1 .before .bad-keys .ensures) (at-if1 .if1 .left) (at-within .mark-within .ensures) (at-if2 .if2 .left) (at-list .list .ensures)
+    list-answered _ _ _ (at-if1 .before .bad-keys .ensures) (at-if1 .if1 .left) (at-within .mark-within .ensures) (at-if2 .if2 .left) (at-list .list .ensures)
 
 pub reach-sound-spec : {M : Type 1} → statement M
 reach-sound-spec =

@@ -2,7 +2,7 @@
 use mathlib.Core.Path.{refl, sym, _∙_}
 use borrow.Author.Needs.{needs}
 use Rattle.access.proofs.Blocks.{missing-told}
-use Rattle.unlocking.proofs.Answering.{found-within, found-unlocked, keys-refused, missing-refused, within-refused, places-refused, places-enough, unlocking-listed}
+use Rattle.unlocking.proofs.Answering.{found-within, found-unlocked, keys-refused, missing-refused, within-refused, places-refused, places-enough, list-answered}
 use Rattle.unlocking.proofs.unlocking_sound.Statement.{statement}
 use Rattle.unlocking.proofs.unlocking_sound.Tie as tie
 
@@ -75,7 +75,7 @@ returns-5 c =
     let at-if2 : tie.Else2 = search in
     let at-if3 : tie.Else3 = search in
     let at-list : tie.After-list = search in
-    unlocking-listed _ _ _ _ (sym (at-keys .bad-keys .ensures) ∙ at-if1 .if1 .left)
+    list-answered _ _ _ _ (sym (at-keys .bad-keys .ensures) ∙ at-if1 .if1 .left)
     (found-unlocked _ _ _ _ _ (at-find .find .ensures) (at-found .found .given .1))
     (missing-told _ _ (at-missing .missing .ensures) (at-if2 .if2 .left)) (at-if3 .if3 .left) (at-list .list .ensures)
 
