@@ -1,6 +1,6 @@
 -- What the rules guarantee of one call: it is refused for the first condition that holds, a refusal changes nothing, a sound card stays sound,
--- nothing unallocated is touched, a window is set by a host's done call that names it, ALLOC_CONTIG gives the nearest run, and KEY_READ and KEY_WRITE set
--- their own key alone.
+-- nothing unallocated is touched, a window is set by a host's done call that names it and shortened by FORCE, a key change and freeing alone, ALLOC_CONTIG
+-- gives the nearest run, and KEY_READ and KEY_WRITE set their own key alone.
 pub mod Judged
 pub mod Steps
 pub mod PointerSteps
@@ -12,4 +12,4 @@ pub mod Safe
 pub mod RefusedIff
 pub mod Runs
 pub mod Keys
-pub mod WindowSet
+pub mod Windows

@@ -1,5 +1,5 @@
 -- Document 01, "Calls", and the requests of document 02: each paragraph as its refusals in order, then what is answered, shown and changed.
-use Prim.Native.Nat.{ℕ, zero, suc, _+_, _-_, _*_}
+use Prim.Native.Nat.{ℕ, zero, suc, _+_, _-_, _*_, max}
 use mathlib.Core.Bool.{Bool, true, false, _&&_, _||_, not, cond}
 use mathlib.Core.List.{List, [], _∷_, _++_}
 use lib.Dec.{eqb, ltb, leb}
@@ -7,7 +7,7 @@ use lib.ListN.{length, replicate}
 use Rattle.card.specs.Lists.{allBelow, numbersBelow, numbersFrom}
 use Rattle.card.specs.Pointers.{remove}
 use Rattle.card.specs.Contents.{zeros, overwrite}
-use Rattle.card.specs.Card.{Public, Card, card, allocated, hasKey, isRoot, freeBlocks, longestInterval, count, pointsTo, hasPointers}
+use Rattle.card.specs.Card.{Public, Card, card, allocated, hasKey, isRoot, freeBlocks, windowEnd, longestInterval, count, pointsTo, hasPointers}
 use Rattle.card.specs.Soundness.{ranges, lengths, timeLimit}
 use Rattle.card.specs.Access.{opens}
 use Rattle.card.specs.Plan.{_⇒_, Change, setWindow, setBlock, setKey, takeBlock, freeBlock, addPointer, dropPointer, setTime, nothing, blockPart, numbers, Plan, Result, refused}
@@ -80,11 +80,11 @@ rootAtHost Service p b = false
 
 -- ---- windows
 
--- The end that a block's window gets by an interval that is not 0.
+-- 2026-04, "a window's end becomes the later of its present end and T + interval": by an interval that is not 0, of READ, WRITE and RENEW alike.
 unfoldable pub windowAfter : Public → Mode → ℕ → ℕ → ℕ
-windowAfter p mode b interval = p .info .time + interval
+windowAfter p mode b interval = max (windowEnd p mode b) (p .info .time + interval)
 
--- A host's READ or WRITE opens a window by an interval that is not 0; calls at the service port open none.
+-- A host's READ or WRITE opens a window by an interval that is not 0; "an interval of 0 still leaves it", and calls at the service port open none.
 unfoldable pub opensWindow : Port → Public → Mode → ℕ → ℕ → List Change
 opensWindow Host p mode b interval = cond (eqb interval 0) [] (setWindow mode b (windowAfter p mode b interval) ∷ [])
 opensWindow Service p mode b interval = []

@@ -74,7 +74,7 @@ windowEnd p mode b = getD (p .windows) (windowAt mode b) 0
 unfoldable pub windowOpen : Public → Mode → ℕ → Bool
 windowOpen p mode b = ltb (p .info .time) (windowEnd p mode b)
 
--- The latest end that a window may have.
+-- The longest interval: a window ends at most so many seconds after T.
 abbrev pub longestInterval : ℕ
 longestInterval = 86400
 

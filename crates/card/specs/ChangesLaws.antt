@@ -27,6 +27,14 @@ getD-set-either P (x ∷ xs) zero v (suc j) new old = old
 getD-set-either P (x ∷ xs) (suc i) v zero new old = old
 getD-set-either P (x ∷ xs) (suc i) v (suc j) new old = getD-set-either P xs i v j new old
 
+-- Where the new element is not below the old one, no element is.
+pub getD-set-raised : (xs : List ℕ) (i v j : ℕ) → getD xs i 0 ≤ v → getD xs j 0 ≤ getD (set xs i v) j 0
+getD-set-raised [] i v j h = omega arith
+getD-set-raised (x ∷ xs) zero v zero h = h
+getD-set-raised (x ∷ xs) zero v (suc j) h = omega arith
+getD-set-raised (x ∷ xs) (suc i) v zero h = omega arith
+getD-set-raised (x ∷ xs) (suc i) v (suc j) h = getD-set-raised xs i v j h
+
 -- An element that is no longer the old one is the new one, at its place.
 pub getD-set-changed : (xs : List ℕ) (i v j : ℕ) → (getD (set xs i v) j 0 ≡ getD xs j 0 → ⊥) → (i ≡ j) × (getD (set xs i v) j 0 ≡ v)
 getD-set-changed [] i v j changed = absurd (changed refl)

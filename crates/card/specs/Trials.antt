@@ -214,6 +214,16 @@ trialTable =
     ∷ writeAll Host 1 (Reference 0) 0 7
     ∷ []
     yields (0 ∷ 1 ∷ []) ∷ (0 ∷ []) ∷ (0 ∷ []) ∷ (0 ∷ []) ∷ (0 ∷ []) ∷ (5 ∷ []) ∷ [])
+    -- 2026-04: a poll by an interval of 5 leaves the window of a running download
+    ∷ (alloc Service 0 65535 1
+    ∷ read Host 0 Nothing 10
+    ∷ read Host 0 Nothing 5
+    ∷ tick 9
+    ∷ read Host 1 (Reference 0) 0
+    ∷ tick 1
+    ∷ read Host 1 (Reference 0) 0
+    ∷ []
+    yields (0 ∷ 1 ∷ []) ∷ (0 ∷ zeros8) ∷ (0 ∷ zeros8) ∷ (0 ∷ 9 ∷ []) ∷ (0 ∷ zeros8) ∷ (0 ∷ 10 ∷ []) ∷ (5 ∷ []) ∷ [])
     ∷ []
 
 -- What the rules report of a row's calls.

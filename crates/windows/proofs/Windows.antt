@@ -3,8 +3,10 @@ use Prim.Native.Nat.{ℕ, _+_, _*_, _<_, _≤_}
 use mathlib.Core.Path.{_≡_, refl, ap, _∙_}
 use mathlib.Core.Bool.{Bool, true, false, cond}
 use mathlib.Core.List.{List, [], _∷_}
+use native.Mathlib.Nat.{le-of-lt, max-eq-left, max-eq-right}
 use native.Mathlib.Omega.{arith}
-use lib.ListN.{set}
+use lib.ListN.{getD, set}
+use lib.Seq.{set-getD}
 use lib.Dec.{eqb}
 use borrow.Author.Tests.{eq-eqb, ne-eqb}
 use Rattle.card.specs.Card.{Public, Card, card, windowAt}
@@ -35,10 +37,17 @@ pub after-whole : (p : Public) (mode : Mode) (b interval : ℕ) → windowAfter 
 unfolding windowAfter
 after-whole p mode b interval = refl
 
-pub after-set : (info : Info) (windows : List ℕ) (mode : Mode) (b interval : ℕ) {at : ℕ} → at ≡ windowAt mode b
-    → set windows at (info .time + interval) ≡ set windows (windowAt mode b) (windowAfter (windowed info windows .public) mode b interval)
-unfolding windowAfter
-after-set info windows mode b interval e = rw e
+module _ (info : Info) (windows : List ℕ) (mode : Mode) (b interval : ℕ) {at : ℕ} where
+  -- A later end is stored, and a sooner one is not.
+  pub after-set : at ≡ windowAt mode b → getD windows at 0 < info .time + interval
+      → set windows at (info .time + interval) ≡ set windows (windowAt mode b) (windowAfter (windowed info windows .public) mode b interval)
+  unfolding windowAfter
+  after-set e later = rw (← e, max-eq-right (le-of-lt later))
+
+  pub after-left : at ≡ windowAt mode b → info .time + interval ≤ getD windows at 0
+      → windows ≡ set windows (windowAt mode b) (windowAfter (windowed info windows .public) mode b interval)
+  unfolding windowAfter
+  after-left e sooner = rw (← e, max-eq-left sooner, set-getD windows at 0)
 
 module _ (info : Info) (windows : List ℕ) (mode : Mode) (b interval : ℕ) {port : Port} where
   pub opened-service : port ≡ Service → windowed info windows ≡ changes (windowed info windows) (opensWindow port (windowed info windows .public) mode b interval)

@@ -1,4 +1,5 @@
--- One row for each mistake in the rules that a must-fail edit makes: the mistake turns it from true to false, and so its theorem.
+-- One row for each mistake in the rules that a must-fail edit makes: the mistake turns it from true to false, and so its theorem. And rows by which what a
+-- theorem excepts is seen to happen.
 use Prim.Native.Nat.{ℕ}
 use mathlib.Core.Path.{_≡_, refl}
 use mathlib.Core.Bool.{Bool, true, false, _&&_}
@@ -8,12 +9,13 @@ use lib.Dec.{eqb, leb}
 use lib.ListN.{replicate}
 use Rattle.card.specs.Contents.{zeros}
 use Rattle.card.specs.Card.{Card, card}
-use Rattle.card.specs.Plan.{withUsed}
-use Rattle.card.specs.Calls.{freshInfo}
-use Rattle.card.specs.Session.{Request, refusals, portOf, replies, afterAll, traits}
+use Rattle.card.specs.Plan.{withUsed, withTime}
+use Rattle.card.specs.Calls.{freshInfo, format}
+use Rattle.card.specs.Session.{Request, Sent, performed, refusals, portOf, replies, afterAll, traits}
 use Rattle.card.specs.Reach.{shows, someShows, presents, presented, keyPresented, sealed, isOne, takesLast, lastTaken}
-use Rattle.card.specs.Trials.{rules, blankCard, playerCard, lending, read, writeAll, alloc, create, delete, free, trialTable, trialReports}
+use Rattle.card.specs.Trials.{rules, blankCard, playerCard, lending, send, key, read, writeAll, alloc, create, delete, free, trialTable, trialReports}
 use Rattle.card.specs.declared.Port.the-variants.{Host, Service}
+use Rattle.card.specs.declared.Mode.{Mode}
 use Rattle.card.specs.declared.Mode.the-variants.{Reading, Writing}
 use Rattle.card.specs.declared.Credential.{Credential}
 use Rattle.card.specs.declared.Credential.the-variants.{Nothing, Reference, Key as KeyCredential}
@@ -21,11 +23,12 @@ use Rattle.card.specs.declared.NewKey.{NewKey}
 use Rattle.card.specs.declared.NewKey.the-variants.{Absent, Present}
 use Rattle.card.specs.declared.AllocOperands.{AllocOperands}
 use Rattle.card.specs.declared.KeyOperands.{KeyOperands}
-use Rattle.card.specs.declared.Call.the-variants.{Alloc, Delete, Renew, Free, Tick}
+use Rattle.card.specs.declared.Call.the-variants.{Alloc, Delete, Renew, Force, Free, Tick}
+use Rattle.card.proofs.Guarantees.Windows.{byRead, byWrite, byRenew}
 use Rattle.card.proofs.Secrecy.Bounds.{bounds}
 use Rattle.card.proofs.Secrecy.Example.{hosted}
 use Rattle.card.proofs.Computed.Same.{sameList, sameLists, replyNumbers, allLines}
-use Rattle.card.proofs.Computed.Tests.{refusalUnchangedTest, portsAlikeTest, doneSoundTest, countsRightTest, pointersAscendingTest, formatSoundTest, untouchedTest, firstNumber, refusedIffTest, noneHold, runFoundTest, runAdjoinsTest, runNearestTest, oneKeyUnsealedTest, otherKeyKeptTest, ownKeySetTest, bothWindowsClosedTest, writeAccessNeededTest, windowSetByTest, withContents, sameHiddenTest, secrecyTest, trialsTest}
+use Rattle.card.proofs.Computed.Tests.{refusalUnchangedTest, portsAlikeTest, doneSoundTest, countsRightTest, pointersAscendingTest, formatSoundTest, untouchedTest, firstNumber, refusedIffTest, noneHold, runFoundTest, runAdjoinsTest, runNearestTest, oneKeyUnsealedTest, otherKeyKeptTest, ownKeySetTest, bothWindowsClosedTest, writeAccessNeededTest, windowSetByTest, windowLaterTest, intervalZeroKeptTest, isSound, endsSooner, windowsKeptTest, withContents, sameHiddenTest, secrecyTest, trialsTest}
 
 -- To compute a row, its proof unfolds this one name. A wrong rule makes use of `orElse`.
 unfoldable pub computing : Unit {0}
@@ -285,6 +288,74 @@ window-set-by-a-refused-read = refl
 pub service-read-opens-a-window : windowSetByTest playerCard (read Service 0 Nothing 10) Reading 0 ≡ true
 unfolding computing
 service-read-opens-a-window = refl
+
+-- ---- window-later, interval-zero-kept and windows-kept: the root with both keys, at second 20, its windows with these ends
+
+abbrev at20 : ℕ → ℕ → Card
+at20 reading writing =
+    card (withTime (freshInfo 16 1 512) 20) (7 ∷ zeros 15) (1 ∷ 2 ∷ 3 ∷ 4 ∷ zeros 60) (zeros 16) (zeros 32) (reading ∷ writing ∷ zeros 30) (zeros 8192)
+
+abbrev force : ℕ → Sent
+force b = send Host (Force (record { block = b }))
+
+abbrev renewReading : ℕ → Sent
+renewReading interval = send Host (Renew (record { mode = 0; block = 0; high = 1; low = 2; interval = interval }))
+
+pub interval-counted-from-the-end : windowLaterTest (at20 30 0) (read Host 0 (KeyCredential 1 2) 15) (byRead _) ≡ true
+unfolding computing
+interval-counted-from-the-end = refl
+
+pub renew-leaves-an-open-window : windowLaterTest (at20 30 0) (renewReading 15) (byRenew _) ≡ true
+unfolding computing
+renew-leaves-an-open-window = refl
+
+pub later-end-by-interval-0 : intervalZeroKeptTest (at20 10 0) (read Host 0 (KeyCredential 1 2) 0) (byRead _) ≡ true
+unfolding computing
+later-end-by-interval-0 = refl
+
+pub interval-0-closes : intervalZeroKeptTest (at20 0 30) (writeAll Host 0 (KeyCredential 3 4) 0 7) (byWrite _) ≡ true
+unfolding computing
+interval-0-closes = refl
+
+pub renew-cuts : windowsKeptTest (at20 30 0) (renewReading 5) Reading 0 ≡ true
+unfolding computing
+renew-cuts = refl
+
+pub interval-of-5-cuts : windowsKeptTest (at20 30 0) (read Host 0 (KeyCredential 1 2) 5) Reading 0 ≡ true
+unfolding computing
+interval-of-5-cuts = refl
+
+pub write-compares-with-the-read-window : windowsKeptTest (at20 30 60) (writeAll Host 0 (KeyCredential 3 4) 5 7) Writing 0 ≡ true
+unfolding computing
+write-compares-with-the-read-window = refl
+
+pub force-shuts-another-block : windowsKeptTest keyedOpen (force 0) Reading 1 ≡ true
+unfolding computing
+force-shuts-another-block = refl
+
+-- What `windows-kept` excepts happens: on a sound card FORCE, either key change, freeing and FORMAT each let a window end sooner.
+abbrev shortens : Card → Card → Mode → ℕ → Bool
+shortens c d m b = isSound c && endsSooner c d m b
+
+pub force-shortens : shortens (at20 30 60) (performed (at20 30 60) (force 0) .after) Reading 0 ≡ true
+unfolding computing
+force-shortens = refl
+
+pub key-read-shortens : shortens (at20 30 60) (performed (at20 30 60) (key Service Reading 0 Nothing (Present 5 6)) .after) Writing 0 ≡ true
+unfolding computing
+key-read-shortens = refl
+
+pub key-write-shortens : shortens (at20 30 60) (performed (at20 30 60) (key Service Writing 0 Nothing (Present 5 6)) .after) Reading 0 ≡ true
+unfolding computing
+key-write-shortens = refl
+
+pub freeing-shortens : shortens keyedOpen (performed keyedOpen (delete Service 0 1) .after) Reading 1 ≡ true
+unfolding computing
+freeing-shortens = refl
+
+pub format-shortens : shortens (at20 30 60) (format 16 1 512 (at20 30 60) .after) Writing 0 ≡ true
+unfolding computing
+format-shortens = refl
 
 -- ---- same-hidden
 

@@ -1,6 +1,6 @@
 -- For each theorem about the rules a test: what it says of given cards and calls, or a part of it, as a value that can be computed.
 -- Each test is shown to hold of everything by its theorem. So where a test is false, its theorem is false.
-use Prim.Native.Nat.{ℕ, zero, suc, _+_, _<_}
+use Prim.Native.Nat.{ℕ, zero, suc, _+_, _<_, max}
 use mathlib.Core.Path.{_≡_, refl, sym, ap, _∙_, subst}
 use mathlib.Core.Logic.{_⊎_, inl, inr, ⊎-elim}
 use mathlib.Core.Bool.{Bool, true, false, _&&_, _||_, not, cond}
@@ -13,7 +13,7 @@ use Rattle.card.specs.Lists.{every, all, allBelow}
 use Rattle.card.specs.ListsLaws.{and-left, and-right, and-true, or-left, or-right, or-cases, or-else, absurd-test, false-unless, not-cases, every-true, true-every, allBelow-true, true-allBelow}
 use Rattle.card.specs.Pointers.{ascending, pointersTo}
 use Rattle.card.specs.Contents.{zeros}
-use Rattle.card.specs.Card.{Card, allocated, hasKey, isRoot, freeBlocks, windowEnd, windowOpen, count, inUse, pointsTo, keyHigh, keyLow, block}
+use Rattle.card.specs.Card.{Public, Card, allocated, hasKey, isRoot, freeBlocks, windowEnd, windowOpen, count, inUse, pointsTo, keyHigh, keyLow, block}
 use Rattle.card.specs.Soundness.{ranges, lengths, shape, sound}
 use Rattle.card.specs.SoundCard.{SoundCard}
 use Rattle.card.specs.SoundnessLaws.{shape-true, true-shape, sound-true, true-sound}
@@ -37,6 +37,7 @@ use Rattle.card.specs.declared.Answer.{Answer}
 use Rattle.card.specs.declared.Answer.the-variants.{Refused, Done, Value}
 use Rattle.card.specs.declared.Refusal.the-variants.{Misshapen, Unsound, NotAllocated, BadOperand, NotOpened, IsRoot, PointerExists, NoPointer, HasPointers, TooFewBlocks, TooFewPlaces, TimeEnds, BadRecord, NoRun}
 use Rattle.card.specs.declared.Call.{Call}
+use Rattle.card.specs.declared.Call.the-variants.{Read, Write, Alloc, AllocContig, Create, Delete, KeyRead, KeyWrite, Renew, Force, Free, Tick, Audit}
 use Rattle.card.specs.declared.AllocOperands.{AllocOperands}
 use Rattle.card.specs.declared.KeyOperands.{KeyOperands}
 use Rattle.card.proofs.Guarantees.Judged.{RefusedBy}
@@ -47,7 +48,7 @@ use Rattle.card.proofs.Guarantees.Untouched.{LeftAlone, AllottedZeroed,
 use Rattle.card.proofs.Guarantees.RefusedIff.{RefusedIff, refused-iff}
 use Rattle.card.proofs.Guarantees.Runs.{Run, contig, RunFound, RunAdjoins, RunNearest, some-blocks, run-found, run-adjoins, run-nearest}
 use Rattle.card.proofs.Guarantees.Keys.{setting, WriteAccess, byWriteKey, byReference, one-key-unsealed, other-key-kept, own-key-set, both-windows-closed, write-access-needed}
-use Rattle.card.proofs.Guarantees.WindowSet.{SetBy, window-set-by}
+use Rattle.card.proofs.Guarantees.Windows.{SetsWindow, SetBy, Shortens, byForce, byKeyRead, byKeyWrite, byFreeing, window-set-by, window-later, interval-zero-kept, windows-kept}
 use Rattle.card.proofs.Secrecy.Theorem.{EqualBut, HiddenOrFree, Secret, same-hidden, secrecy}
 use Rattle.card.proofs.Secrecy.Bounds.{bounds, reach-inside}
 use Rattle.card.proofs.Computed.Same.{sameList, sameList-true, true-sameList, sameLists, true-sameLists, cardNumbers, replyNumbers, allLines}
@@ -432,6 +433,77 @@ window-set-by-tested c s m b =
     go false false e f =
         let set : SetBy (s .port) c (s .request .call) (performed c s) m b = window-set-by (s .port) c (s .request) m b (eqb-false _ _ e) (eqb-false _ _ f) in
         and-true _ _ (ap isHost (set .atHost)) (ap isDone (set .answer))
+
+-- ---- window-later and interval-zero-kept, of a call that sets a window
+
+isHost-true : (port : Port) → isHost port ≡ true → port ≡ Host
+isHost-true Host e = refl
+isHost-true Service e = absurd-test e refl
+
+-- Done for a host by an interval that is not 0, it leaves the later end.
+abbrev pub windowLaterTest : (c : Card) (s : Sent) {m : Mode} {b interval : ℕ} → SetsWindow (s .request .call) m b interval → Bool
+windowLaterTest c s {m} {b} {interval} sets =
+    let r = performed c s in
+    implies (isHost (portOf (s .port) (s .request .call)) && (not (eqb interval 0) && isDone (r .answer)))
+    (eqb (windowEnd (r .after .public) m b) (max (windowEnd (c .public) m b) (c .public .info .time + interval)))
+
+pub window-later-tested : (c : Card) (s : Sent) {m : Mode} {b interval : ℕ} (sets : SetsWindow (s .request .call) m b interval) → windowLaterTest c s sets ≡ true
+window-later-tested c s {m} {b} {interval} sets =
+    true-implies (isHost (portOf (s .port) (s .request .call)) && (not (eqb interval 0) && isDone (performed c s .answer))) _
+    (λ h.
+    let rest : not (eqb interval 0) && isDone (performed c s .answer) ≡ true = and-right (isHost (portOf (s .port) (s .request .call))) _ h in
+    eq-eqb _ _
+    (window-later (s .port) c (s .request) sets
+    (isHost-true _ (and-left _ _ h))
+    (eqb-false interval 0 (not-true _ (and-left _ _ rest)))
+    (and-right (not (eqb interval 0)) _ rest)))
+
+-- By an interval of 0, it leaves all windows.
+abbrev pub intervalZeroKeptTest : (c : Card) (s : Sent) {m : Mode} {b interval : ℕ} → SetsWindow (s .request .call) m b interval → Bool
+intervalZeroKeptTest c s {m} {b} {interval} sets = implies (eqb interval 0) (sameList (performed c s .after .public .windows) (c .public .windows))
+
+pub interval-zero-kept-tested : (c : Card) (s : Sent) {m : Mode} {b interval : ℕ} (sets : SetsWindow (s .request .call) m b interval) → intervalZeroKeptTest c s sets ≡ true
+interval-zero-kept-tested c s {m} {b} {interval} sets =
+    true-implies (eqb interval 0) _ (λ z. true-sameList (interval-zero-kept (s .port) c (s .request) sets (eqb-true interval 0 z)))
+
+-- ---- windows-kept
+
+-- FORCE or a key change of the block.
+abbrev closesBlock : Call → ℕ → Bool
+closesBlock (Read o) b = false
+closesBlock (Write o) b = false
+closesBlock (Alloc o) b = false
+closesBlock (AllocContig o) b = false
+closesBlock (Create o) b = false
+closesBlock (Delete o) b = false
+closesBlock (KeyRead o) b = eqb (o .block) b
+closesBlock (KeyWrite o) b = eqb (o .block) b
+closesBlock (Renew o) b = false
+closesBlock (Force o) b = eqb (o .block) b
+closesBlock Free b = false
+closesBlock (Tick o) b = false
+closesBlock Audit b = false
+
+abbrev pub endsSooner : Card → Card → Mode → ℕ → Bool
+endsSooner c d m b = ltb (windowEnd (d .public) m b) (windowEnd (c .public) m b)
+
+abbrev pub windowsKeptTest : Card → Sent → Mode → ℕ → Bool
+windowsKeptTest c s m b =
+    let d = performed c s .after in
+    implies (endsSooner c d m b) (closesBlock (s .request .call) b || (allocated (c .public) b && not (allocated (d .public) b)))
+
+shortens-closes : {p q : Public} {b : ℕ} {call : Call} → Shortens p q b call → closesBlock call b || (allocated p b && not (allocated q b)) ≡ true
+shortens-closes (byForce o e) = or-left _ _ (eq-eqb _ _ e)
+shortens-closes (byKeyRead o e) = or-left _ _ (eq-eqb _ _ e)
+shortens-closes (byKeyWrite o e) = or-left _ _ (eq-eqb _ _ e)
+shortens-closes {b = b} (byFreeing {call = call} held free) = or-right (closesBlock call b) _ (and-true _ _ held (ap not free))
+
+pub windows-kept-tested : (c : Card) (s : Sent) (m : Mode) (b : ℕ) → windowsKeptTest c s m b ≡ true
+windows-kept-tested c s m b =
+    true-implies (endsSooner c (performed c s .after) m b) _
+    (λ sooner.
+    let below = ltb-true (windowEnd (performed c s .after .public) m b) (windowEnd (c .public) m b) sooner in
+    ⊎-elim (λ kept. absurd (omega (arith, kept, below))) shortens-closes (windows-kept (s .port) c (s .request) m b))
 
 -- ---- same-hidden
 

@@ -3,6 +3,7 @@ use Prim.Native.Nat.{ℕ, _+_, _≤_, _<_}
 use mathlib.Core.Path.{_≡_, refl, ap, _∙_}
 use mathlib.Core.Bool.{Bool, true, false, _&&_, _||_, not, cond}
 use mathlib.Core.List.{List, [], _∷_}
+use native.Mathlib.Nat.{max-le}
 use native.Mathlib.Omega.{arith}
 use lib.Dec.{eqb, ltb}
 use lib.ListN.{length, drop, set}
@@ -48,14 +49,20 @@ not-missing p b e = not-false _ e
 
 -- ---- READ, WRITE, RENEW and FORCE
 
+-- The later of two ends lies within T + 86,400, as both do.
+after-low : (c : Card) (mode : Mode) (b interval : ℕ) → SoundCard c → allocated (c .public) b ≡ true → interval ≤ longestInterval
+    → windowAfter (c .public) mode b interval ≤ c .public .info .time + longestInterval
+unfolding windowAfter
+after-low c mode b interval s a low = max-le (s .isSound .windowsLow mode b (allocated-below (c .public) b a)) (omega arith)
+
 opensWindow-sound : (port : Port) {c : Card} (mode : Mode) (b interval : ℕ) → SoundCard c → allocated (c .public) b ≡ true → interval ≤ longestInterval
     → SoundCard (changes c (opensWindow port (c .public) mode b interval))
-unfolding opensWindow windowAfter changes
+unfolding opensWindow changes
 opensWindow-sound Host {c} mode b interval s a low = go (eqb interval 0)
   where
     go : (t : Bool) → SoundCard (changes c (cond t [] (setWindow mode b (windowAfter (c .public) mode b interval) ∷ [])))
     go true = s
-    go false = setWindow-sound mode b (c .public .info .time + interval) s a (omega arith)
+    go false = setWindow-sound mode b _ s a (after-low c mode b interval s a low)
 opensWindow-sound Service mode b interval s a low = s
 
 closeWindows-sound : {c : Card} (b : ℕ) → SoundCard c → allocated (c .public) b ≡ true → SoundCard (changes c (closeWindows b))
@@ -82,10 +89,11 @@ write-sound port c opened o input s h =
 
 renew-sound : (c : Card) (opened : Bool) (o : RenewOperands) → SoundCard c → NoneHolds (renewPlan (c .public) opened o .checks)
     → SoundCard (changes c (renewPlan (c .public) opened o .steps))
-unfolding renewPlan windowAfter changes
+unfolding renewPlan changes
 renew-sound c opened o s h =
     let low : o .interval ≤ longestInterval = ltb-false _ _ (or-false-right (ltb 1 (o .mode) || eqb (o .interval) 0) _ (h .0)) in
-    setWindow-sound (modeOf (o .mode)) (o .block) (c .public .info .time + o .interval) s (not-missing _ _ (h .1 .0)) (omega arith)
+    let a : allocated (c .public) (o .block) ≡ true = not-missing _ _ (h .1 .0) in
+    setWindow-sound (modeOf (o .mode)) (o .block) _ s a (after-low c (modeOf (o .mode)) (o .block) (o .interval) s a low)
 
 force-sound : (c : Card) (o : ForceOperands) → SoundCard c → NoneHolds (forcePlan (c .public) o .checks) → SoundCard (changes c (forcePlan (c .public) o .steps))
 unfolding forcePlan

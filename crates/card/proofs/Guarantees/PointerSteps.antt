@@ -22,7 +22,7 @@ use Rattle.card.specs.SoundnessLaws.{pointerRight-true, true-pointerRigh
 use Rattle.card.specs.Plan.{takeBlock, freeBlock, addPointer, dropPointer, withFlags, changePublic, changeKeys, changeContents, change}
 use Rattle.card.specs.declared.Mode.{Mode}
 use Rattle.card.specs.declared.Mode.the-variants.{Reading, Writing}
-use Rattle.card.specs.ChangesLaws.{inserted-take, inserted-drop, inserted-length, removed-take, removed-drop, removed-length, getD-set-either, getD-set-cases, clearKeys-length, cleared-high, cleared-low, uncleared-high, uncleared-low}
+use Rattle.card.specs.ChangesLaws.{inserted-take, inserted-drop, inserted-length, removed-take, removed-drop, removed-length, getD-set-either, getD-set-cases, windowAt-block, clearKeys-length, cleared-high, cleared-low, uncleared-high, uncleared-low}
 use Rattle.card.proofs.Guarantees.Steps.{shaped-with, filled-length, keyZero-from, empty-from, not-allocated, allocated-set, allocated-other, right-kept, set-flag-pointers}
 
 -- ---- soundness but for one block
@@ -236,10 +236,10 @@ dropPointer-sound {c} a b s toAllocated there =
     }
 
 -- Both windows of a block set to 0.
-abbrev closed : List ℕ → ℕ → List ℕ
+abbrev pub closed : List ℕ → ℕ → List ℕ
 closed windows b = set (set windows (windowAt Reading b) 0) (windowAt Writing b) 0
 
-closed-either : (P : ℕ → Type 0) (windows : List ℕ) (b j : ℕ) → P 0 → P (getD windows j 0) → P (getD (closed windows b) j 0)
+pub closed-either : (P : ℕ → Type 0) (windows : List ℕ) (b j : ℕ) → P 0 → P (getD windows j 0) → P (getD (closed windows b) j 0)
 closed-either P windows b j new old =
     getD-set-either P (set windows (windowAt Reading b) 0) (windowAt Writing b) 0 j new
     (getD-set-either P windows (windowAt Reading b) 0 j new old)
@@ -249,6 +249,11 @@ closed-same windows b fits Reading =
     getD-set-other (set windows (2 * b) 0) (2 * b + 1) (2 * b) 0 0 (λ e. omega arith) ∙ getD-set-same windows (2 * b) 0 0 (omega arith)
 closed-same windows b fits Writing =
     getD-set-same (set windows (2 * b) 0) (2 * b + 1) 0 0 (subst (λ (n : ℕ). 2 * b + 1 < n) (sym (length-set windows (2 * b) 0)) fits)
+
+pub closed-other : (windows : List ℕ) (b x : ℕ) (mode : Mode) → (b ≡ x → ⊥) → getD (closed windows b) (windowAt mode x) 0 ≡ getD windows (windowAt mode x) 0
+closed-other windows b x mode other =
+    getD-set-other (set windows (windowAt Reading b) 0) (windowAt Writing b) (windowAt mode x) 0 0 (λ e. other (windowAt-block Writing mode b x (sym e)))
+    ∙ getD-set-other windows (windowAt Reading b) (windowAt mode x) 0 0 (λ e. other (windowAt-block Reading mode b x (sym e)))
 
 free-pointers : (p : Public) (b : ℕ) (ws : List ℕ)
     → all (λ w. pointerRight p w) ws ≡ true
