@@ -1,7 +1,7 @@
 /*
  * A short host: formats a card, has a block allotted and keyed by the service port, then writes and reads as a host,
- * by key and by reference within a window, and is refused once the window has ended. It sets the read key of a new
- * season, and takes a run of blocks for an event file.
+ * by key and by reference within a window, which a shorter poll does not cut, and is refused once the window has ended.
+ * It sets the read key of a new season, and takes a run of blocks for an event file.
  *
  *   cc -I include examples/host.c path/to/libinterface.a -o host && ./host
  *
@@ -91,6 +91,9 @@ int main(void)
 		negvask_read(CARD, NEGVASK_HOST, places[1], NEGVASK_BYTES(root), 0, out, BYTES));
 	show("host: read root 0, window of 10 seconds",
 		negvask_read(CARD, NEGVASK_HOST, 0, NEGVASK_BYTES(nothing), 10, out, BYTES));
+	/* A status poll by a shorter interval meanwhile leaves the window as it is. */
+	show("host: poll root 0, window of 5 seconds",
+		negvask_read(CARD, NEGVASK_HOST, 0, NEGVASK_BYTES(nothing), 5, out, BYTES));
 	answer = negvask_tick(CARD, 9, &value);
 	show("9 seconds pass", answer);
 	show("host: read the second by reference again",

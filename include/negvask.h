@@ -78,7 +78,9 @@
  *             then of its write window, in seconds
  *   contents  N * B bytes: block b from b * B on
  *
- * A window is open while T is less than its end.
+ * A window is open while T is less than its end. No call lets it end
+ * sooner but negvask_force(), a key change, a negvask_delete() that frees
+ * the block, and negvask_format(): they set the end to 0.
  *
  * A card as a caller keeps it
  * ---------------------------
@@ -588,8 +590,8 @@ uint32_t negvask_audit(NEGVASK_TABLES);
  * \brief Read a block.
  *
  * Copies the B bytes of the block to `out`. If `interval` is not 0 and
- * the call is a host's, the block's read window then ends at
- * T + `interval`, even if sooner than before; 0 leaves the window as it
+ * the call is a host's, the end of the block's read window becomes the
+ * later of its present end and T + `interval`; 0 leaves the window as it
  * is. Unmodified: all tables but that window, and the record.
  *
  * The caller provides `out` with exactly B places and keeps it.
@@ -619,8 +621,8 @@ uint32_t negvask_read(NEGVASK_TABLES,
  * \brief Write a block.
  *
  * Copies `data` to the B bytes of the block. If `interval` is not 0 and
- * the call is a host's, the block's write window then ends at
- * T + `interval`, even if sooner than before; 0 leaves the window as it
+ * the call is a host's, the end of the block's write window becomes the
+ * later of its present end and T + `interval`; 0 leaves the window as it
  * is. Unmodified: `data`, the contents of all other blocks, all other
  * tables but that window, and the record.
  *
@@ -853,8 +855,9 @@ uint32_t negvask_key_write(NEGVASK_TABLES,
  * \brief Renew a window by a key, without reading or writing: a host's
  * call.
  *
- * The block's window for the mode then ends at T + `interval`, even if
- * sooner than before. Unmodified: all else.
+ * The end of the block's window for the mode becomes the later of its
+ * present end and T + `interval`, so that a done call may change nothing.
+ * Unmodified: all else.
  *
  * Refusals, in order:
  *   13  the credential is ill formed or no key

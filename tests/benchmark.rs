@@ -94,6 +94,22 @@ mod plain {
         card.keys[at] == key.high && card.keys[at + 1] == key.low
     }
 
+    /// The mode is 0 for reading and 1 for writing.
+    fn opens(card: &Card, mode: u8, b: u16, key: Key) -> bool {
+        let f = card.flags[b as usize];
+        let by_write_key = f & WRITE_KEY != 0 && is_key(card, b, 2, key);
+        match mode {
+            0 => f & READ_KEY != 0 && (is_key(card, b, 0, key) || by_write_key),
+            _ => by_write_key,
+        }
+    }
+
+    /// The later of the window's present end and T + interval.
+    fn extend_window(card: &mut Card, mode: u8, b: u16, interval: u32) {
+        let window = &mut card.windows[2 * b as usize + mode as usize];
+        *window = (*window).max(card.info[4] + interval as u64);
+    }
+
     pub fn read(card: &mut Card, b: u16, key: Key, interval: u32, out: &mut [u8]) -> u32 {
         match audit(card) {
             0 => {}
@@ -106,12 +122,11 @@ mod plain {
         if !allocated(card, b) {
             return 3;
         }
-        let f = card.flags[b as usize];
-        if f & READ_KEY == 0 || !(is_key(card, b, 0, key) || (f & WRITE_KEY != 0 && is_key(card, b, 2, key))) {
+        if !opens(card, 0, b, key) {
             return 5;
         }
         out.copy_from_slice(&card.contents[b as usize * bytes..][..bytes]);
-        card.windows[2 * b as usize] = card.info[4] + interval as u64;
+        extend_window(card, 0, b, interval);
         0
     }
 
@@ -127,11 +142,29 @@ mod plain {
         if !allocated(card, b) {
             return 3;
         }
-        if card.flags[b as usize] & WRITE_KEY == 0 || !is_key(card, b, 2, key) {
+        if !opens(card, 1, b, key) {
             return 5;
         }
         card.contents[b as usize * bytes..][..bytes].copy_from_slice(data);
-        card.windows[2 * b as usize + 1] = card.info[4] + interval as u64;
+        extend_window(card, 1, b, interval);
+        0
+    }
+
+    pub fn renew(card: &mut Card, mode: u8, b: u16, key: Key, interval: u32) -> u32 {
+        match audit(card) {
+            0 => {}
+            refusal => return refusal,
+        }
+        if mode > 1 || interval == 0 || interval as u64 > DAY {
+            return 4;
+        }
+        if !allocated(card, b) {
+            return 3;
+        }
+        if !opens(card, mode, b, key) {
+            return 5;
+        }
+        extend_window(card, mode, b, interval);
         0
     }
 
@@ -159,7 +192,7 @@ mod plain {
         if (r as u64) < card.info[1] {
             return 6;
         }
-        if card.flags[r as usize] & WRITE_KEY == 0 || !is_key(card, r, 2, key) {
+        if !opens(card, 1, r, key) {
             return 5;
         }
         0
@@ -255,7 +288,7 @@ mod plain {
             return 6;
         }
         for b in [s, d] {
-            if card.flags[b as usize] & WRITE_KEY == 0 || !is_key(card, b, 2, key) {
+            if !opens(card, 1, b, key) {
                 return 5;
             }
         }
@@ -282,7 +315,7 @@ mod plain {
         if (s as u64) < card.info[1] {
             return 6;
         }
-        if card.flags[s as usize] & WRITE_KEY == 0 || !is_key(card, s, 2, key) {
+        if !opens(card, 1, s, key) {
             return 5;
         }
         let m = card.info[3] as usize;
@@ -316,7 +349,7 @@ mod plain {
         if (b as u64) < card.info[1] {
             return 6;
         }
-        if card.flags[b as usize] & WRITE_KEY == 0 || !is_key(card, b, 2, key) {
+        if !opens(card, 1, b, key) {
             return 5;
         }
         let b = b as usize;
@@ -1128,6 +1161,8 @@ fn rows(size: Size) -> Vec<Row> {
     let read = repeated(s, calls, &read_call, |c, out| done(plain::read(c, 2, READER, 10, black_box(out))));
     let write_call = Direct::Write { port: 0, block: 2, credential: key(WRITER), interval: 10, data: data.clone() };
     let write = repeated(s, calls, &write_call, |c, _| done(plain::write(c, 2, WRITER, 10, black_box(&data))));
+    let renew_call = Direct::Renew { mode: 1, block: 2, key: key(WRITER), interval: 20 };
+    let renew = repeated(s, calls, &renew_call, |c, _| done(plain::renew(c, 1, 2, WRITER, black_box(20))));
     let new = |k| new_key_bytes(Some(k));
     let plain_key = |c: &mut Card, operation, k| done(plain::set_key(c, operation, 2, WRITER, black_box(Some(k))));
     let read_key_call = Direct::KeyRead { port: 0, block: 2, credential: key(WRITER), key: new(READER) };
@@ -1256,6 +1291,7 @@ fn rows(size: Size) -> Vec<Row> {
     let (read_model, write_model) = (full_model(&read_key_call), full_model(&write_key_call));
     rows.push(row("KEY_READ", read_key[0], read_key[1], read_model, pass, read_key[1], Some(1.5)));
     rows.push(row("KEY_WRITE", write_key[0], write_key[1], write_model, pass, write_key[1], Some(1.5)));
+    rows.push(row("RENEW", renew[0], renew[1], full_model(&renew_call), pass, renew[1], Some(1.5)));
     rows.push(row("TICK", tick[0], tick[1], full_model(&tick_call), pass, tick[1], None));
     rows
 }
@@ -1293,8 +1329,8 @@ fn main() {
     }
     println!();
     println!("Targets: AUDIT against the plain audit; READ and WRITE against the library's own audit plus a copy of");
-    println!("B bytes; ALLOC 64, CONTIG 64, CREATE, DELETE, KEY_READ and KEY_WRITE against the plain call, audit");
-    println!("included.");
+    println!("B bytes; ALLOC 64, CONTIG 64, CREATE, DELETE, KEY_READ, KEY_WRITE and RENEW against the plain call,");
+    println!("audit included.");
     println!();
     println!("| growth of | from | to | N + P grows | library grows | plain grows |");
     println!("| --- | --- | --- | ---: | ---: | ---: |");

@@ -32,6 +32,7 @@ use random_call::{buffers, random_format, spoilt_record, Chooser};
 use random_card::{random_card, random_size, Random, Size, KEYS};
 use reach::Reports;
 use secrecy::{byte_secrecy, secrecy, ByteSecrecy, Secrecy};
+use std::cmp::Ordering;
 use std::collections::BTreeMap;
 use trials::trials;
 use wires::{bytes, other_ports, service_kinds, Bytes, OtherPorts, ServiceKinds};
@@ -117,11 +118,56 @@ fn key_changes() -> Vec<KeyChange> {
     changes
 }
 
+/// What a READ, a WRITE or a RENEW finds: the call, its port, whether its interval is 0, whether the window is open, and
+/// T + interval beside the window's end. What becomes of the end shows in the cards.
+type WindowChange = (&'static str, Port, bool, bool, Ordering);
+
+/// The change of a window that the call makes, if it is done.
+fn window_change(card: &Card, port: Port, call: &Call) -> Option<WindowChange> {
+    let (name, operation, block, interval) = match call {
+        Call::Read { block, interval, .. } => ("READ", Operation::Reading, *block, *interval),
+        Call::Write { block, interval, .. } => ("WRITE", Operation::Writing, *block, *interval),
+        Call::Renew { mode: 0, block, interval, .. } => ("RENEW", Operation::Reading, *block, *interval),
+        Call::Renew { block, interval, .. } => ("RENEW", Operation::Writing, *block, *interval),
+        _ => return None,
+    };
+    let b = block as usize;
+    if !card.shaped() || !card.allocated(b) {
+        return None;
+    }
+    let end = card.time() + interval as u64;
+    Some((name, port, interval == 0, card.window_open(b, operation), end.cmp(&card.window(b, operation))))
+}
+
+/// Every change of a window: one that is not open ends at T or before.
+fn window_changes() -> Vec<WindowChange> {
+    use Ordering::{Equal, Greater, Less};
+    let by_interval = [(false, false, Greater), (false, true, Less), (false, true, Equal), (false, true, Greater)];
+    let by_0 = [(true, true, Less), (true, false, Equal), (true, false, Greater)];
+    let mut changes = Vec::new();
+    for (name, port) in [("READ", Port::Host), ("WRITE", Port::Host), ("READ", Port::Service), ("WRITE", Port::Service)] {
+        changes.extend(by_interval.iter().chain(&by_0).map(|&(zero, open, end)| (name, port, zero, open, end)));
+    }
+    changes.extend(by_interval.map(|(zero, open, end)| ("RENEW", Port::Host, zero, open, end)));
+    changes
+}
+
+/// A block of which a window ends sooner than before, though the call neither shut its windows nor freed it.
+fn cut(before: &Card, after: &Card, call: &Call) -> Option<usize> {
+    let shut = match call {
+        Call::Force { block } | Call::KeyRead { block, .. } | Call::KeyWrite { block, .. } => Some(*block as usize),
+        _ => None,
+    };
+    let sooner = |b: usize| (2 * b..2 * b + 2).any(|at| after.windows[at] < before.windows[at]);
+    (0..before.blocks()).find(|&b| sooner(b) && shut != Some(b) && after.allocated(b))
+}
+
 /// Counts by route (0 by function, 1 by record), call, port and answer.
 #[derive(Default)]
 struct Reached {
     counts: BTreeMap<(usize, usize, u8, u32), u64>,
     key_changes: BTreeMap<KeyChange, u64>,
+    window_changes: BTreeMap<WindowChange, u64>,
     damages: BTreeMap<usize, u64>,
     calls: u64,
 }
@@ -240,14 +286,8 @@ impl Reached {
             }
         }
         missing.extend(self.without_call());
-        println!(
-            "key changes: {} sorts, each done {} times or more",
-            self.key_changes.len(),
-            self.key_changes.values().min().unwrap_or(&0)
-        );
-        for change in key_changes().iter().filter(|change| !self.key_changes.contains_key(change)) {
-            missing.push(format!("key change: {change:?}"));
-        }
+        missing.extend(sorts("key change", &self.key_changes, &key_changes()));
+        missing.extend(sorts("window change", &self.window_changes, &window_changes()));
         println!(
             "damage: {} ways, each refused {} times or more",
             self.damages.len(),
@@ -260,6 +300,19 @@ impl Reached {
         }
         missing
     }
+}
+
+/// Counts a change, if there is one.
+fn count<T: Ord>(counts: &mut BTreeMap<T, u64>, change: Option<T>) {
+    if let Some(change) = change {
+        *counts.entry(change).or_default() += 1;
+    }
+}
+
+/// Prints how often each sort of change was done; gives those that were not.
+fn sorts<T: Ord + std::fmt::Debug>(name: &str, done: &BTreeMap<T, u64>, all: &[T]) -> Vec<String> {
+    println!("{name}s: {} sorts, each done {} times or more", done.len(), done.values().min().unwrap_or(&0));
+    all.iter().filter(|change| !done.contains_key(change)).map(|change| format!("{name}: {change:?}")).collect()
 }
 
 // ---- Library against model ----
@@ -282,7 +335,7 @@ impl Bench {
         self.model = card;
     }
 
-    /// The model's answer. A refusal must have changed nothing.
+    /// The model's answer. A refusal must have changed nothing, and a done call must have cut no window.
     fn expect(&mut self, step: &Step, buffers: &mut Buffers) -> Result<u32, String> {
         let small = self.model.contents.len() <= 1 << 16;
         let before = (small.then(|| self.model.clone()), buffers.clone());
@@ -294,8 +347,13 @@ impl Bench {
             },
             Step::Record(wire, kind, body) => model::serve(&mut self.model, *wire, *kind, body, buffers),
         });
-        if answer != 0 && (before.0.is_some_and(|b| b != self.model) || before.1 != *buffers) {
+        if answer != 0 && (before.0.as_ref().is_some_and(|b| *b != self.model) || before.1 != *buffers) {
             return Err("the model changed something in a refusal".to_string());
+        }
+        if let (0, Some(before), Some((_, call))) = (answer, &before.0, step.plain()) {
+            if let Some(b) = cut(before, &self.model, &call) {
+                return Err(format!("the model let a window of block {b} end sooner"));
+            }
         }
         Ok(answer)
     }
@@ -304,10 +362,12 @@ impl Bench {
     /// difference.
     fn step(&mut self, step: &Step, lent: &Buffers, reached: &mut Reached) -> Result<u32, String> {
         let mut expected = lent.clone();
-        let change = step.plain().and_then(|(port, call)| key_change(&self.model, port, &call));
+        let key = step.plain().and_then(|(port, call)| key_change(&self.model, port, &call));
+        let window = step.plain().and_then(|(port, call)| window_change(&self.model, port, &call));
         let answer = self.expect(step, &mut expected)?;
-        if let Some(change) = change.filter(|_| answer == 0) {
-            *reached.key_changes.entry(change).or_default() += 1;
+        if answer == 0 {
+            count(&mut reached.key_changes, key);
+            count(&mut reached.window_changes, window);
         }
         let (by_function, by_record) = step.routes();
         if let Some(call) = &by_function {

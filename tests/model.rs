@@ -278,8 +278,11 @@ impl Card {
         b * self.bytes()..(b + 1) * self.bytes()
     }
 
-    fn set_window(&mut self, b: usize, operation: Operation, end: u64) {
-        self.windows[2 * b + operation as usize] = end;
+    /// The window's end becomes the later of its present end and T + interval.
+    fn extend_window(&mut self, b: usize, operation: Operation, interval: u32) {
+        let end = self.time() + interval as u64;
+        let present = self.window(b, operation);
+        self.windows[2 * b + operation as usize] = present.max(end);
     }
 
     fn set_pointers(&mut self, mut used: Vec<u32>) {
@@ -356,7 +359,7 @@ impl Card {
     /// A host's READ or WRITE with an interval opens the window; the service port opens none.
     fn open_window(&mut self, port: Port, b: usize, operation: Operation, interval: u32) {
         if port == Port::Host && interval != 0 {
-            self.set_window(b, operation, self.time() + interval as u64);
+            self.extend_window(b, operation, interval);
         }
     }
 
@@ -520,7 +523,7 @@ impl Card {
         let operation = if mode == 0 { Reading } else { Writing };
         let keyed = self.key(b, operation).is_some();
         refuse_if(!keyed || !self.opens(Credential::Key(key), b, operation), NOT_OPENED)?;
-        self.set_window(b, operation, self.time() + interval as u64);
+        self.extend_window(b, operation, interval);
         Ok(())
     }
 

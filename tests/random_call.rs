@@ -158,7 +158,13 @@ impl Chooser {
         raw
     }
 
-    pub fn interval(&self, rnd: &mut Random) -> u32 {
+    /// An interval of any length, or one that ends where the block's window does, a second sooner or a second later.
+    pub fn interval(&self, rnd: &mut Random, card: &Card, block: u16, operation: Operation) -> u32 {
+        let b = block as usize;
+        if card.allocated(b) && rnd.percent(20) {
+            let left = card.window(b, operation).saturating_sub(card.time());
+            return (left + rnd.below(3)).saturating_sub(1) as u32;
+        }
         match rnd.below(16) {
             0 => 86_401,
             1 => rnd.of(&[86_402, 1 << 31, u32::MAX]),
@@ -234,14 +240,16 @@ impl Chooser {
             0..=16 => {
                 let block = self.block(rnd, card);
                 let credential = self.raw(rnd, card, block, Operation::Reading);
-                Direct::Read { port, block, credential, interval: self.interval(rnd) }
+                let interval = self.interval(rnd, card, block, Operation::Reading);
+                Direct::Read { port, block, credential, interval }
             }
             17..=33 => {
                 let block = self.block(rnd, card);
                 let credential = self.raw(rnd, card, block, Operation::Writing);
                 let b = card.bytes();
                 let length = if rnd.percent(97) { b } else { rnd.of(&[0, b - 1, b + 1, 2 * b, 512, 511]) };
-                Direct::Write { port, block, credential, interval: self.interval(rnd), data: rnd.bytes(length) }
+                let interval = self.interval(rnd, card, block, Operation::Writing);
+                Direct::Write { port, block, credential, interval, data: rnd.bytes(length) }
             }
             34..=46 => {
                 let reference = self.block(rnd, card);
@@ -301,7 +309,7 @@ impl Chooser {
                     _ => Credential::Key(rnd.of(&self.known)),
                 };
                 let key = self.perhaps_wrong(rnd, credential_bytes(credential), &[3, 4, 128, 255]);
-                Direct::Renew { mode, block, key, interval: self.interval(rnd) }
+                Direct::Renew { mode, block, key, interval: self.interval(rnd, card, block, operation) }
             }
             89..=91 => Direct::Force { block: self.block(rnd, card) },
             92..=93 => Direct::Free,

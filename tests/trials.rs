@@ -121,7 +121,8 @@ pub fn trials() -> Result<usize, String> {
     let delete = |source, destination| Call::Delete { source, credential: Nothing, destination };
     let tick = |seconds| Call::Tick { seconds };
     let write = |block, credential| Call::Write { block, credential, interval: 0, data: vec![0; 512] };
-    let renew = |mode, key| Call::Renew { mode, block: 1, key, interval: 10 };
+    let fill = |block, interval| Call::Write { block, credential: Nothing, interval, data: vec![0; 512] };
+    let renew = |mode, key, interval| Call::Renew { mode, block: 1, key, interval };
     let key = Some(KEYS[4]);
     let [reader, writer, other] = [KEYS[4], KEYS[5], KEYS[7]];
     // Block 1 has both keys and points to block 2, and both its windows are open.
@@ -130,8 +131,8 @@ pub fn trials() -> Result<usize, String> {
         (SERVICE, alloc_at(1, NO_HINT, 1), "131 0 2"),
         (SERVICE, key_read(1, Nothing, Some(reader)), "134 0"),
         (SERVICE, key_write(1, Nothing, Some(writer)), "141 0"),
-        (HOST, renew(0, reader), "7 0"),
-        (HOST, renew(1, writer), "7 0"),
+        (HOST, renew(0, reader, 10), "7 0"),
+        (HOST, renew(1, writer, 10), "7 0"),
     ];
     let closed = [(HOST, read(2, Reference(1), 0), "1 5"), (HOST, write(2, Reference(1)), "2 5")];
     let by = Credential::Key;
@@ -278,6 +279,43 @@ pub fn trials() -> Result<usize, String> {
         (
             "2026-02, no write key",
             [&both_keys[..], &[(HOST, key_write(1, by(writer), None), "13 0")], &closed].concat(),
+        ),
+        (
+            "2026-04, a shorter READ",
+            vec![
+                (SERVICE, alloc(NO_HINT, 1), "131 0 1"),
+                (HOST, read(0, Nothing, 10), zeros),
+                (HOST, read(0, Nothing, 5), zeros),
+                (HOST, tick(9), "10 0 9"),
+                (HOST, read(1, Reference(0), 0), zeros),
+                (HOST, tick(1), "10 0 10"),
+                (HOST, read(1, Reference(0), 0), "1 5"),
+            ],
+        ),
+        // The read window, which ends later, does not count.
+        (
+            "2026-04, a shorter WRITE",
+            vec![
+                (SERVICE, alloc(NO_HINT, 1), "131 0 1"),
+                (HOST, read(0, Nothing, 20), zeros),
+                (HOST, fill(0, 10), "2 0"),
+                (HOST, fill(0, 5), "2 0"),
+                (HOST, tick(9), "10 0 9"),
+                (HOST, write(1, Reference(0)), "2 0"),
+                (HOST, tick(1), "10 0 10"),
+                (HOST, write(1, Reference(0)), "2 5"),
+            ],
+        ),
+        (
+            "2026-04, a shorter RENEW",
+            [
+                &both_keys[..],
+                &[(HOST, renew(0, reader, 5), "7 0"), (HOST, renew(1, writer, 5), "7 0"), (HOST, tick(9), "10 0 9")],
+                &[(HOST, read(2, Reference(1), 0), zeros), (HOST, write(2, Reference(1)), "2 0")],
+                &[(HOST, tick(1), "10 0 10")],
+                &closed,
+            ]
+            .concat(),
         ),
     ];
     example_batch(&rows[0].1)?;
