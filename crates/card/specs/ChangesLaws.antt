@@ -66,6 +66,10 @@ windowAt-mode Reading Writing a b e = absurd (omega arith)
 windowAt-mode Writing Reading a b e = absurd (omega arith)
 windowAt-mode Writing Writing a b e = refl
 
+pub windowAt-within : (m : Mode) (b n : ℕ) → 2 * b + 2 ≤ n → windowAt m b < n
+windowAt-within Reading b n h = omega arith
+windowAt-within Writing b n h = omega arith
+
 -- ---- keys
 
 pub other-mode : (mode : Mode) → otherMode mode ≡ mode → ⊥

@@ -4,13 +4,13 @@ use mathlib.Core.Path.{_≡_, refl, ap, _∙_}
 use mathlib.Core.Bool.{Bool, true, false, cond}
 use mathlib.Core.List.{List, [], _∷_}
 use native.Mathlib.Nat.{le-of-lt, max-eq-left, max-eq-right}
-use native.Mathlib.Omega.{arith}
 use lib.ListN.{getD, set}
 use lib.Seq.{set-getD}
 use lib.Dec.{eqb}
 use borrow.Author.Tests.{eq-eqb, ne-eqb}
 use Rattle.card.specs.Card.{Public, Card, card, windowAt}
 use Rattle.card.specs.Plan.{setWindow, changes, change, changePublic, changeKeys, changeContents}
+use Rattle.card.specs.ChangesLaws.{windowAt-within}
 use Rattle.card.specs.Calls.{windowAfter, opensWindow}
 use Rattle.card.specs.declared.Info.{Info}
 use Rattle.card.specs.declared.Mode.{Mode}
@@ -25,8 +25,7 @@ pub at-writing : (b : ℕ) {m : Mode} → m ≡ Writing → 2 * b + 1 ≡ window
 at-writing b e = rw e
 
 pub at-within : (m : Mode) (b n : ℕ) {at : ℕ} → at ≡ windowAt m b → 2 * b + 2 ≤ n → at < n
-at-within Reading b n e h = omega arith
-at-within Writing b n e h = omega arith
+at-within m b n e h = rw e (windowAt-within m b n h)
 
 -- The card by its record and windows alone.
 abbrev pub windowed : Info → List ℕ → Card

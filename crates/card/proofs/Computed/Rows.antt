@@ -41,6 +41,11 @@ computing = tt
 abbrev drawn : (used : ℕ) (flags keys counts pointers contents : List ℕ) → Card
 drawn used flags keys counts pointers contents = card (withUsed (freshInfo 16 1 512) used) flags keys counts pointers (zeros 32) contents
 
+-- A card at this second, with these windows.
+abbrev timed : Card → ℕ → List ℕ → Card
+timed c time windows =
+    card (withTime (c .public .info) time) (c .public .flags) (c .keys) (c .public .counts) (c .public .pointers) windows (c .contents)
+
 -- The root points to blocks 1 and 2.
 abbrev twoBelow : Card
 twoBelow = drawn 2 (1 ∷ 1 ∷ 1 ∷ zeros 13) (zeros 64) (0 ∷ 1 ∷ 1 ∷ zeros 13) (1 ∷ 2 ∷ zeros 30) (zeros 8192)
@@ -242,10 +247,7 @@ of1 credential key = record { block = 1; credential = credential; key = key }
 
 -- Block 1 has both keys, and both of its windows are open.
 abbrev keyedOpen : Card
-keyedOpen =
-    card (withUsed (freshInfo 16 1 512) 1) (1 ∷ 7 ∷ zeros 14) (zeros 4 ++ (1 ∷ 2 ∷ 3 ∷ 4 ∷ zeros 56)) (0 ∷ 1 ∷ zeros 14) (1 ∷ zeros 31)
-    (0 ∷ 0 ∷ 10 ∷ 10 ∷ zeros 28)
-    (zeros 8192)
+keyedOpen = timed (keyed (zeros 8192)) 0 (0 ∷ 0 ∷ 10 ∷ 10 ∷ zeros 28)
 
 pub write-key-cleared-with-the-read-key : otherKeyKeptTest Service (keyed (zeros 8192)) Reading (of1 Nothing (Present 5 6)) (lending []) ≡ true
 unfolding computing
@@ -292,8 +294,7 @@ service-read-opens-a-window = refl
 -- ---- window-later, interval-zero-kept and windows-kept: the root with both keys, at second 20, its windows with these ends
 
 abbrev at20 : ℕ → ℕ → Card
-at20 reading writing =
-    card (withTime (freshInfo 16 1 512) 20) (7 ∷ zeros 15) (1 ∷ 2 ∷ 3 ∷ 4 ∷ zeros 60) (zeros 16) (zeros 32) (reading ∷ writing ∷ zeros 30) (zeros 8192)
+at20 reading writing = timed (keyedRoot (zeros 8192)) 20 (reading ∷ writing ∷ zeros 30)
 
 abbrev force : ℕ → Sent
 force b = send Host (Force (record { block = b }))

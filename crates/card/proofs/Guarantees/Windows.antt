@@ -1,7 +1,7 @@
 -- What moves the end of a window. A host's READ, WRITE or RENEW of the block, done by an interval that is not 0, sets it: by the request 2026-04 to the later
 -- of its present end and T + interval. FORCE, a key change and freeing set it to 0, and so shorten it. Nothing else moves it.
 use Prim.Native.Nat.{ℕ, _+_, _≤_, _<_, max}
-use mathlib.Core.Path.{_≡_, refl, sym, ap, ap₂, _∙_, subst}
+use mathlib.Core.Path.{_≡_, refl, ap, ap₂, _∙_, subst}
 use mathlib.Core.Logic.{_⊎_, inl, inr, ⊎-elim}
 use mathlib.Core.Bool.{Bool, true, false, _&&_, cond}
 use mathlib.Core.List.{List, [], _∷_}
@@ -16,7 +16,7 @@ use Rattle.card.specs.Card.{Public, Card, allocatedFlag, allocated, free
 use Rattle.card.specs.SoundCard.{SoundCard}
 use Rattle.card.specs.SoundnessLaws.{allocated-below}
 use Rattle.card.specs.Plan.{NoneHolds, setWindow, setBlock, takeBlock, freeBlock, addPointer, dropPointer, changePublic, change, changes, Buffers, Result, done, settle}
-use Rattle.card.specs.ChangesLaws.{getD-set-raised, getD-set-changed, windowAt-block, windowAt-mode}
+use Rattle.card.specs.ChangesLaws.{getD-set-raised, getD-set-changed, windowAt-block, windowAt-mode, windowAt-within}
 use Rattle.card.specs.Calls.{isDone, windowAfter, opensWindow, wanted, picks, takeAll, modeOf, readPlan, writePlan, allocPlan, runStarts, nearestRun, allocContigPlan, createPlan, deletePlan, keyPlan, renewPlan, forcePlan, freePlan, tickPlan, auditPlan}
 use Rattle.card.specs.Session.{Request, plan, portOf, perform}
 use Rattle.card.specs.declared.Port.{Port}
@@ -170,8 +170,7 @@ window-set-by port c q m b =
 -- ---- 2026-04: the later end
 
 within : (c : Card) (mode : Mode) (b : ℕ) → SoundCard c → allocated (c .public) b ≡ true → windowAt mode b < length (c .public .windows)
-within c Reading b s held = omega (arith, allocated-below (c .public) b held, s .shaped .hasLengths .windows)
-within c Writing b s held = omega (arith, allocated-below (c .public) b held, s .shaped .hasLengths .windows)
+within c mode b s held = windowAt-within mode b _ (omega (arith, allocated-below (c .public) b held, s .shaped .hasLengths .windows))
 
 opens-later : (port : Port) (c : Card) (p : Public) (mode : Mode) (a interval : ℕ) → port ≡ Host → (interval ≡ 0 → ⊥) → windowAt mode a < length (c .public .windows)
     → windowEnd (changes c (opensWindow port p mode a interval) .public) mode a ≡ windowAfter p mode a interval

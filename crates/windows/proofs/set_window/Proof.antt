@@ -17,7 +17,7 @@ mul-if1 c =
     omega (arith, at-within (start .args .mode) _ _ (c .window-at .ensures) (start .pre .1 .1))
 
 slice-read-if1 : tie.Need-slice-read-if1
-slice-read-if1 c = search at-within
+slice-read-if1 c = search (needs, at-within)
 
 mul-windows : tie.Need-mul-windows
 mul-windows c =
