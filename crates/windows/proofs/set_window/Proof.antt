@@ -1,5 +1,4 @@
 -- `windows::set_window` stores the end of the definition at the window's place, where that is later than the end that stands there.
-use native.Mathlib.Omega.{arith}
 use Rattle.windows.proofs.Windows.{at-within, after-set, after-left}
 use borrow.Author.Needs.{needs}
 use Rattle.windows.proofs.set_window.Statement.{statement}
@@ -12,17 +11,13 @@ window-at-requires : tie.Need-window-at-requires
 window-at-requires c κs = search needs
 
 mul-if1 : tie.Need-mul-if1
-mul-if1 c =
-    let start : tie.Start = search in
-    omega (arith, at-within (start .args .mode) _ _ (c .window-at .ensures) (start .pre .1 .1))
+mul-if1 c = search (needs, at-within)
 
 slice-read-if1 : tie.Need-slice-read-if1
 slice-read-if1 c = search (needs, at-within)
 
 mul-windows : tie.Need-mul-windows
-mul-windows c =
-    let start : tie.Start = search in
-    omega (arith, at-within (start .args .mode) _ _ (c .before .before .window-at .ensures) (start .pre .1 .1))
+mul-windows c = search (needs, at-within)
 
 slice-write-windows : tie.Need-slice-write-windows
 slice-write-windows c = search at-within
