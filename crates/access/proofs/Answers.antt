@@ -44,11 +44,11 @@ module _ (c : Card) (b high low : ℕ) {keys : List ℕ} {mode : Mode} {write : 
 -- ---- references
 
 module _ (info : Info) (windows : List ℕ) (b : ℕ) {mode : Mode} where
-  pub window-reading : mode ≡ Reading → ltb (info .time) (getD windows (2 * b) 0) ≡ windowOpen (card info [] [] [] [] windows [] .public) mode b
+  pub window-reading : mode ≡ Reading → ltb (info .time) (getD windows (2 * b) 0) ≡ windowOpen (card info [] [] [] [] [] windows [] .public) mode b
   unfolding windowOpen
   window-reading e = rw e
 
-  pub window-writing : mode ≡ Writing → ltb (info .time) (getD windows (2 * b + 1) 0) ≡ windowOpen (card info [] [] [] [] windows [] .public) mode b
+  pub window-writing : mode ≡ Writing → ltb (info .time) (getD windows (2 * b + 1) 0) ≡ windowOpen (card info [] [] [] [] [] windows [] .public) mode b
   unfolding windowOpen
   window-writing e = rw e
 
@@ -61,7 +61,7 @@ module _ (p : Public) (mode : Mode) (b r : ℕ) where
   unfolding opensPointed allocated
   reference-unallocated told h = rw (and-false-right (ltb r (p .info .blocks)) _ (sym told ∙ not-true _ h))
 
-  pub reference-followed : {held points opened : Bool} → r < p .info .blocks → held ≡ allocatedFlag (flag p r) → not held ≡ false → points ≡ contains (pointer r b) (take (p .info .used) (p .pointers)) → opened ≡ windowOpen (card (p .info) [] [] [] [] (p .windows) [] .public) mode r
+  pub reference-followed : {held points opened : Bool} → r < p .info .blocks → held ≡ allocatedFlag (flag p r) → not held ≡ false → points ≡ contains (pointer r b) (take (p .info .used) (p .pointers)) → opened ≡ windowOpen (card (p .info) [] [] [] [] [] (p .windows) [] .public) mode r
       → points && opened ≡ opensPointed p mode b (Reference r)
   unfolding opensPointed pointsTo windowOpen
   reference-followed l told h e o = rw (flag-allocated p r l (sym told ∙ not-false _ h), e, o)

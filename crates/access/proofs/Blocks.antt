@@ -23,7 +23,7 @@ use Rattle.access.specs.AccessibleLaws.{sound-accessible, admits-bare}
 
 -- The public part by its record and flags alone.
 abbrev pub flagged : Public → Public
-flagged p = card (p .info) (p .flags) [] [] [] [] [] .public
+flagged p = card (p .info) (p .flags) [] [] [] [] [] [] .public
 
 pub missing-above : (p : Public) (b : ℕ) → p .info .blocks ≤ b → true ≡ not (allocated p b)
 unfolding allocated
@@ -73,19 +73,19 @@ module _ (port : Port) (c : Card) (mode : Mode) (b : ℕ) (credential : Credenti
 
 -- ---- roots
 
-pub root-host : (info : Info) (b : ℕ) {port : Port} → port ≡ Host → ltb b (info .roots) ≡ rootAtHost port (card info [] [] [] [] [] [] .public) b
+pub root-host : (info : Info) (b : ℕ) {port : Port} → port ≡ Host → ltb b (info .roots) ≡ rootAtHost port (card info [] [] [] [] [] [] [] .public) b
 unfolding rootAtHost
 root-host info b e = rw e
 
-pub root-service : (info : Info) (b : ℕ) {port : Port} → port ≡ Service → false ≡ rootAtHost port (card info [] [] [] [] [] [] .public) b
+pub root-service : (info : Info) (b : ℕ) {port : Port} → port ≡ Service → false ≡ rootAtHost port (card info [] [] [] [] [] [] [] .public) b
 unfolding rootAtHost
 root-service info b e = rw e
 
-same-root : (port : Port) (p : Public) (b : ℕ) → rootAtHost port (card (p .info) [] [] [] [] [] [] .public) b ≡ rootAtHost port p b
+same-root : (port : Port) (p : Public) (b : ℕ) → rootAtHost port (card (p .info) [] [] [] [] [] [] [] .public) b ≡ rootAtHost port p b
 unfolding rootAtHost
 same-root Host p b = refl
 same-root Service p b = refl
 
 -- A test of a root, whichever way it came out.
-pub root-told : (port : Port) (p : Public) (b : ℕ) {t s : Bool} → t ≡ rootAtHost port (card (p .info) [] [] [] [] [] [] .public) b → t ≡ s → rootAtHost port p b ≡ s
+pub root-told : (port : Port) (p : Public) (b : ℕ) {t s : Bool} → t ≡ rootAtHost port (card (p .info) [] [] [] [] [] [] [] .public) b → t ≡ s → rootAtHost port p b ≡ s
 root-told port p b told e = sym (told ∙ same-root port p b) ∙ e

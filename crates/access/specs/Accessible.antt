@@ -1,4 +1,4 @@
--- What the access test asks of a card and a block: lengths of tables and sorted pointers. Counts and contents play no part.
+-- What the access test asks of a card and a block: lengths of tables and sorted pointers. Counts, multiplicities and contents play no part.
 use Prim.Native.Nat.{ℕ, _*_, _≤_, _<_}
 use mathlib.Core.Path.{_≡_}
 use mathlib.Core.List.{[]}
@@ -18,6 +18,6 @@ pub record Accessible (c : Card) (b : ℕ) : Type 0 where
   pub referable : Referable (c .public) b
   pub keys : length (c .keys) ≡ 4 * c .public .info .blocks
 
--- The card with empty counts and contents.
+-- The card with empty counts, multiplicities and contents.
 abbrev pub bare : Card → Card
-bare c = card (c .public .info) (c .public .flags) (c .keys) [] (c .public .pointers) (c .public .windows) []
+bare c = card (c .public .info) (c .public .flags) (c .keys) [] (c .public .pointers) [] (c .public .windows) []

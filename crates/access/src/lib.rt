@@ -21,7 +21,7 @@ ghost use Rattle.access.specs.Accessible.{Referable, Accessible};
 // "3": the block is not below N or not allocated.
 pub fn missing(info: Info, flags: &[u8], block: usize) -> bool
     requires { ⌜ length (now flags) ≡ info .blocks ⌝ }
-    ensures { λ r. ⌜ r ≡ missing (card info (now (flags .entry)) [] [] [] [] [] .public) block ⌝ }
+    ensures { λ r. ⌜ r ≡ missing (card info (now (flags .entry)) [] [] [] [] [] [] .public) block ⌝ }
 {
     if info.blocks <= block {
         return true;
@@ -31,7 +31,7 @@ pub fn missing(info: Info, flags: &[u8], block: usize) -> bool
 
 // "6": the block is a root and the call is a host's.
 pub fn root_at_host(port: Port, info: Info, block: usize) -> bool
-    ensures { λ r. ⌜ r ≡ rootAtHost port (card info [] [] [] [] [] [] .public) block ⌝ }
+    ensures { λ r. ⌜ r ≡ rootAtHost port (card info [] [] [] [] [] [] [] .public) block ⌝ }
 {
     match port {
         Port::Host => block < info.roots,
@@ -82,7 +82,7 @@ fn key_opens(flag: u8, keys: &[u64], mode: Mode, block: usize, high: u64, low: u
 // The block's window for the mode is open: the time is below its end.
 pub fn window_open(info: Info, windows: &[u64], mode: Mode, block: usize) -> bool
     requires { ⌜ 2 * block + 2 ≤ length (now windows) ⌝ }
-    ensures { λ r. ⌜ r ≡ windowOpen (card info [] [] [] [] (now (windows .entry)) [] .public) mode block ⌝ }
+    ensures { λ r. ⌜ r ≡ windowOpen (card info [] [] [] [] [] (now (windows .entry)) [] .public) mode block ⌝ }
 {
     let at = 2 * block;
     let read = windows[at];
@@ -103,8 +103,8 @@ fn reference_opens(
     block: usize,
     reference: u16,
 ) -> bool
-    requires { ⌜ Referable (card info (now flags) [] [] (now pointers) (now windows) [] .public) block ⌝ }
-    ensures { λ r. ⌜ r ≡ opensPointed (card info (now (flags .entry)) [] [] (now (pointers .entry)) (now (windows .entry)) [] .public) mode block (Reference reference) ⌝ }
+    requires { ⌜ Referable (card info (now flags) [] [] (now pointers) [] (now windows) [] .public) block ⌝ }
+    ensures { λ r. ⌜ r ≡ opensPointed (card info (now (flags .entry)) [] [] (now (pointers .entry)) [] (now (windows .entry)) [] .public) mode block (Reference reference) ⌝ }
 {
     let source = reference as usize;
     if info.blocks <= source {
@@ -130,8 +130,8 @@ pub fn opens(
     block: usize,
     credential: Credential,
 ) -> bool
-    requires { ⌜ Accessible (card info (now flags) (now keys) [] (now pointers) (now windows) []) block ⌝ }
-    ensures { λ r. ⌜ r ≡ opens (card info (now (flags .entry)) (now (keys .entry)) [] (now (pointers .entry)) (now (windows .entry)) []) mode block credential ⌝ }
+    requires { ⌜ Accessible (card info (now flags) (now keys) [] (now pointers) [] (now windows) []) block ⌝ }
+    ensures { λ r. ⌜ r ≡ opens (card info (now (flags .entry)) (now (keys .entry)) [] (now (pointers .entry)) [] (now (windows .entry)) []) mode block credential ⌝ }
 {
     let flag = flags[block];
     let keyed = flags::has_key(flag, mode);
@@ -165,8 +165,8 @@ pub fn admits(
     block: usize,
     credential: Credential,
 ) -> bool
-    requires { ⌜ Accessible (card info (now flags) (now keys) [] (now pointers) (now windows) []) block ⌝ }
-    ensures { λ r. ⌜ r ≡ admits port (card info (now (flags .entry)) (now (keys .entry)) [] (now (pointers .entry)) (now (windows .entry)) []) mode block credential ⌝ }
+    requires { ⌜ Accessible (card info (now flags) (now keys) [] (now pointers) [] (now windows) []) block ⌝ }
+    ensures { λ r. ⌜ r ≡ admits port (card info (now (flags .entry)) (now (keys .entry)) [] (now (pointers .entry)) [] (now (windows .entry)) []) mode block credential ⌝ }
 {
     match port {
         Port::Host => opens(

@@ -94,46 +94,46 @@ pub record Gives (want : Effect) (number value : ℕ) (info : List ℕ) (after :
   pub gives : value ≡ want .value
 
 -- What a function returns and leaves is the effect of the rule on the record and the card at its entry.
-abbrev pub Effects : (List ℕ → Card → Effect) → Lent → Lent → Lent → Lent → Lent → Lent → Lent → ℕ → List ℕ → List ℕ → Type 0
-Effects rule info flags keys counts pointers windows contents r out places =
-    Does (rule (now (info .entry)) (atEntry (recordOf (now (info .entry))) flags keys counts pointers windows contents))
+abbrev pub Effects : (List ℕ → Card → Effect) → Lent → Lent → Lent → Lent → Lent → Lent → Lent → Lent → ℕ → List ℕ → List ℕ → Type 0
+Effects rule info flags keys counts pointers multiplicities windows contents r out places =
+    Does (rule (now (info .entry)) (atEntry (recordOf (now (info .entry))) flags keys counts pointers multiplicities windows contents))
     r
     (now (info .exit))
-    (atExit (recordOf (now (info .exit))) flags keys counts pointers windows contents)
+    (atExit (recordOf (now (info .exit))) flags keys counts pointers multiplicities windows contents)
     out
     places
 
 -- The same of a function that may have a result.
-abbrev pub EffectsGiving : (ℕ → List ℕ → Card → Effect) → Lent → Lent → Lent → Lent → Lent → Lent → Lent → LentNumber → ℕ → Type 0
-EffectsGiving rule info flags keys counts pointers windows contents value r =
-    Gives (rule (now (value .entry)) (now (info .entry)) (atEntry (recordOf (now (info .entry))) flags keys counts pointers windows contents))
+abbrev pub EffectsGiving : (ℕ → List ℕ → Card → Effect) → Lent → Lent → Lent → Lent → Lent → Lent → Lent → Lent → LentNumber → ℕ → Type 0
+EffectsGiving rule info flags keys counts pointers multiplicities windows contents value r =
+    Gives (rule (now (value .entry)) (now (info .entry)) (atEntry (recordOf (now (info .entry))) flags keys counts pointers multiplicities windows contents))
     r
     (now (value .exit))
     (now (info .exit))
-    (atExit (recordOf (now (info .exit))) flags keys counts pointers windows contents)
+    (atExit (recordOf (now (info .exit))) flags keys counts pointers multiplicities windows contents)
     []
     []
 
 -- The same of a function that any call may be given to, so that it is lent READ's buffer and the places of ALLOC and ALLOC_CONTIG.
-abbrev pub EffectsLent : (List ℕ → List ℕ → ℕ → List ℕ → Card → Effect) → Lent → Lent → Lent → Lent → Lent → Lent → Lent → Lent → Lent → LentNumber → ℕ → Type 0
-EffectsLent rule info flags keys counts pointers windows contents out places value r =
+abbrev pub EffectsLent : (List ℕ → List ℕ → ℕ → List ℕ → Card → Effect) → Lent → Lent → Lent → Lent → Lent → Lent → Lent → Lent → Lent → Lent → LentNumber → ℕ → Type 0
+EffectsLent rule info flags keys counts pointers multiplicities windows contents out places value r =
     Gives
-    (rule (now (out .entry)) (now (places .entry)) (now (value .entry)) (now (info .entry)) (atEntry (recordOf (now (info .entry))) flags keys counts pointers windows contents))
+    (rule (now (out .entry)) (now (places .entry)) (now (value .entry)) (now (info .entry)) (atEntry (recordOf (now (info .entry))) flags keys counts pointers multiplicities windows contents))
     r
     (now (value .exit))
     (now (info .exit))
-    (atExit (recordOf (now (info .exit))) flags keys counts pointers windows contents)
+    (atExit (recordOf (now (info .exit))) flags keys counts pointers multiplicities windows contents)
     (now (out .exit))
     (now (places .exit))
 
 -- The same of a function that lists numbers in lent places, and is lent the record and the tables to read.
-abbrev pub EffectsListing : (List ℕ → ℕ → List ℕ → Card → Effect) → Lent → Lent → Lent → Lent → Lent → Lent → Lent → Lent → LentNumber → ℕ → Type 0
-EffectsListing rule info flags keys counts pointers windows contents places value r =
+abbrev pub EffectsListing : (List ℕ → ℕ → List ℕ → Card → Effect) → Lent → Lent → Lent → Lent → Lent → Lent → Lent → Lent → Lent → LentNumber → ℕ → Type 0
+EffectsListing rule info flags keys counts pointers multiplicities windows contents places value r =
     Gives
-    (rule (now (places .entry)) (now (value .entry)) (now (info .entry)) (atEntry (recordOf (now (info .entry))) flags keys counts pointers windows contents))
+    (rule (now (places .entry)) (now (value .entry)) (now (info .entry)) (atEntry (recordOf (now (info .entry))) flags keys counts pointers multiplicities windows contents))
     r
     (now (value .exit))
     (now (info .exit))
-    (atExit (recordOf (now (info .exit))) flags keys counts pointers windows contents)
+    (atExit (recordOf (now (info .exit))) flags keys counts pointers multiplicities windows contents)
     []
     (now (places .exit))

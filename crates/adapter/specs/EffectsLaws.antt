@@ -15,7 +15,7 @@ use Rattle.card.specs.declared.Port.{Port}
 use Rattle.card.specs.declared.Call.{Call}
 use Rattle.card.specs.declared.Answer.{Answer}
 use Rattle.card.specs.declared.Refusal.{Refusal}
-use Rattle.card.specs.declared.Refusal.the-variants.{Misshapen, Unsound, NotAllocated, BadOperand, NotOpened, IsRoot, PointerExists, NoPointer, HasPointers, TooFewBlocks, TooFewPlaces, TimeEnds, BadRecord, NoRun}
+use Rattle.card.specs.declared.Refusal.the-variants.{Misshapen, Unsound, NotAllocated, BadOperand, NotOpened, IsRoot, CannotPoint, NoPointer, HasPointers, TooFewBlocks, TooFewPlaces, TimeEnds, BadRecord, NoRun}
 use Rattle.kinds.specs.KindsLaws.{data-right}
 use Rattle.records.specs.Decode.{nameOf, dataOf}
 use Rattle.records.specs.Parsed.{ParsedIs}
@@ -24,7 +24,7 @@ use Rattle.records.specs.declared.Decoding.the-variants.{Decoded, Bad}
 use Rattle.records.specs.declared.Parsed.{Parsed}
 use Rattle.parameters.specs.Numbers.{recordLength, recordOf, numbersOf}
 use Rattle.parameters.specs.NumbersLaws.{numbers-record}
-use Rattle.adapter.specs.Effects.{Effect, valueAfter, effectOf, effect, ruleEffect, dataIn, Does, Gives}
+use Rattle.adapter.specs.Effects.{Effect, valueAfter, effectOf, effect, ruleEffect, dataIn, Gives}
 
 -- The number of a refusal fits 32 bits.
 pub refusal-small : (r : Refusal) → refusalNumber r ≤ 14
@@ -34,7 +34,7 @@ refusal-small NotAllocated = omega arith
 refusal-small BadOperand = omega arith
 refusal-small NotOpened = omega arith
 refusal-small IsRoot = omega arith
-refusal-small PointerExists = omega arith
+refusal-small CannotPoint = omega arith
 refusal-small NoPointer = omega arith
 refusal-small HasPointers = omega arith
 refusal-small TooFewBlocks = omega arith
@@ -61,14 +61,14 @@ module _ (input out places : List ℕ) (value : ℕ) (info : List ℕ) (c : Card
 -- ---- a call
 
 -- What a rule's result comes to, once its answer is reported and the record stored.
-reported : {want : Result} (value : ℕ) (left : Info) (flags keys counts pointers windows contents : List ℕ) {answer : Answer} {number given : ℕ} {numbers out places : List ℕ}
-    → Is want answer (card left flags keys counts pointers windows contents) out places → numbers ≡ numbersOf left → number ≡ answerNumber answer → given ≡ valueAfter answer value
-    → Gives (effectOf want value) number given numbers (card (recordOf numbers) flags keys counts pointers windows contents) out places
-reported value left flags keys counts pointers windows contents i s a g = record {
+reported : {want : Result} (value : ℕ) (left : Info) (flags keys counts pointers multiplicities windows contents : List ℕ) {answer : Answer} {number given : ℕ} {numbers out places : List ℕ}
+    → Is want answer (card left flags keys counts pointers multiplicities windows contents) out places → numbers ≡ numbersOf left → number ≡ answerNumber answer → given ≡ valueAfter answer value
+    → Gives (effectOf want value) number given numbers (card (recordOf numbers) flags keys counts pointers multiplicities windows contents) out places
+reported value left flags keys counts pointers multiplicities windows contents i s a g = record {
   does = record {
     answers = a ∙ ap answerNumber (i .answers);
     records = s ∙ ap (λ (after : Card). numbersOf (after .public .info)) (i .leaves);
-    leaves = ap (λ (xs : List ℕ). card (recordOf xs) flags keys counts pointers windows contents) s ∙ i .leaves;
+    leaves = ap (λ (xs : List ℕ). card (recordOf xs) flags keys counts pointers multiplicities windows contents) s ∙ i .leaves;
     fillsOut = i .fillsOut;
     fillsPlaces = i .fillsPlaces;
   };
@@ -76,17 +76,17 @@ reported value left flags keys counts pointers windows contents i s a g = record
 }
 
 -- The call was performed on the record that was loaded, and its answer reported.
-module _ (input out places : List ℕ) (value : ℕ) (info flags keys counts pointers windows contents : List ℕ) {d : Decoding} {port : Port} {call : Call} where
-  pub effect-called : {loaded : Info} (left : Info) (flags' keys' counts' pointers' windows' contents' : List ℕ) {answer : Answer} {number given : ℕ} {numbers out' places' : List ℕ}
+module _ (input out places : List ℕ) (value : ℕ) (info flags keys counts pointers multiplicities windows contents : List ℕ) {d : Decoding} {port : Port} {call : Call} where
+  pub effect-called : {loaded : Info} (left : Info) (flags' keys' counts' pointers' multiplicities' windows' contents' : List ℕ) {answer : Answer} {number given : ℕ} {numbers out' places' : List ℕ}
       → d ≡ Decoded port call → length info ≡ recordLength → loaded ≡ recordOf info
-      → Is (perform port (card loaded flags keys counts pointers windows contents) (request call input out places)) answer (card left flags' keys' counts' pointers' windows' contents') out' places'
+      → Is (perform port (card loaded flags keys counts pointers multiplicities windows contents) (request call input out places)) answer (card left flags' keys' counts' pointers' multiplicities' windows' contents') out' places'
       → numbers ≡ numbersOf left → number ≡ answerNumber answer → given ≡ valueAfter answer value
-      → Gives (effect d input out places value info (card (recordOf info) flags keys counts pointers windows contents)) number given numbers (card (recordOf numbers) flags' keys' counts' pointers' windows' contents') out' places'
+      → Gives (effect d input out places value info (card (recordOf info) flags keys counts pointers multiplicities windows contents)) number given numbers (card (recordOf numbers) flags' keys' counts' pointers' multiplicities' windows' contents') out' places'
   unfolding effect
-  effect-called left flags' keys' counts' pointers' windows' contents' {answer} {out' = out'} {places' = places'} e n l j s a g =
-      let i : Is (perform port (card (recordOf info) flags keys counts pointers windows contents) (request call input out places)) answer (card left flags' keys' counts' pointers' windows' contents') out' places' =
-      subst (λ (o : Info). Is (perform port (card o flags keys counts pointers windows contents) (request call input out places)) answer (card left flags' keys' counts' pointers' windows' contents') out' places') l j in
-      rw (e, eq-eqb (length info) recordLength n) (reported value left flags' keys' counts' pointers' windows' contents' i s a g)
+  effect-called left flags' keys' counts' pointers' multiplicities' windows' contents' {answer} {out' = out'} {places' = places'} e n l j s a g =
+      let i : Is (perform port (card (recordOf info) flags keys counts pointers multiplicities windows contents) (request call input out places)) answer (card left flags' keys' counts' pointers' multiplicities' windows' contents') out' places' =
+      subst (λ (o : Info). Is (perform port (card o flags keys counts pointers multiplicities windows contents) (request call input out places)) answer (card left flags' keys' counts' pointers' multiplicities' windows' contents') out' places') l j in
+      rw (e, eq-eqb (length info) recordLength n) (reported value left flags' keys' counts' pointers' multiplicities' windows' contents' i s a g)
 
 -- ---- buffers of no length
 
@@ -111,26 +111,26 @@ module _ (rule : Card → Result) (places : List ℕ) (value : ℕ) (info : List
       rw (ne-eqb (length info) recordLength n)
       (record { does = record { answers = refl; records = refl; leaves = refl; fillsOut = refl; fillsPlaces = refl }; gives = refl })
 
-  pub rule-done : (flags keys counts pointers windows contents : List ℕ) {loaded : Info} (left : Info) (flags' keys' counts' pointers' windows' contents' : List ℕ)
+  pub rule-done : (flags keys counts pointers multiplicities windows contents : List ℕ) {loaded : Info} (left : Info) (flags' keys' counts' pointers' multiplicities' windows' contents' : List ℕ)
       {answer : Answer} {number given : ℕ} {numbers places' : List ℕ}
       → length info ≡ recordLength → loaded ≡ recordOf info
-      → Is (rule (card loaded flags keys counts pointers windows contents)) answer (card left flags' keys' counts' pointers' windows' contents') [] places'
+      → Is (rule (card loaded flags keys counts pointers multiplicities windows contents)) answer (card left flags' keys' counts' pointers' multiplicities' windows' contents') [] places'
       → numbers ≡ numbersOf left → number ≡ answerNumber answer → given ≡ valueAfter answer value
-      → Gives (ruleEffect rule places value info (card (recordOf info) flags keys counts pointers windows contents)) number given numbers (card (recordOf numbers) flags' keys' counts' pointers' windows' contents') [] places'
+      → Gives (ruleEffect rule places value info (card (recordOf info) flags keys counts pointers multiplicities windows contents)) number given numbers (card (recordOf numbers) flags' keys' counts' pointers' multiplicities' windows' contents') [] places'
   unfolding ruleEffect
-  rule-done flags keys counts pointers windows contents left flags' keys' counts' pointers' windows' contents' {answer} {places' = places'} n l j s a g =
-      let i : Is (rule (card (recordOf info) flags keys counts pointers windows contents)) answer (card left flags' keys' counts' pointers' windows' contents') [] places' =
-      subst (λ (o : Info). Is (rule (card o flags keys counts pointers windows contents)) answer (card left flags' keys' counts' pointers' windows' contents') [] places') l j in
-      rw (eq-eqb (length info) recordLength n) (reported value left flags' keys' counts' pointers' windows' contents' i s a g)
+  rule-done flags keys counts pointers multiplicities windows contents left flags' keys' counts' pointers' multiplicities' windows' contents' {answer} {places' = places'} n l j s a g =
+      let i : Is (rule (card (recordOf info) flags keys counts pointers multiplicities windows contents)) answer (card left flags' keys' counts' pointers' multiplicities' windows' contents') [] places' =
+      subst (λ (o : Info). Is (rule (card o flags keys counts pointers multiplicities windows contents)) answer (card left flags' keys' counts' pointers' multiplicities' windows' contents') [] places') l j in
+      rw (eq-eqb (length info) recordLength n) (reported value left flags' keys' counts' pointers' multiplicities' windows' contents' i s a g)
 
   -- The same of a rule that leaves record and tables.
-  pub rule-listed : (flags keys counts pointers windows contents : List ℕ) {loaded : Info} {answer : Answer} {number given : ℕ} {places' : List ℕ}
+  pub rule-listed : (flags keys counts pointers multiplicities windows contents : List ℕ) {loaded : Info} {answer : Answer} {number given : ℕ} {places' : List ℕ}
       → length info ≡ recordLength → loaded ≡ recordOf info
-      → Is (rule (card loaded flags keys counts pointers windows contents)) answer (card loaded flags keys counts pointers windows contents) [] places'
+      → Is (rule (card loaded flags keys counts pointers multiplicities windows contents)) answer (card loaded flags keys counts pointers multiplicities windows contents) [] places'
       → number ≡ answerNumber answer → given ≡ valueAfter answer value
-      → Gives (ruleEffect rule places value info (card (recordOf info) flags keys counts pointers windows contents)) number given info (card (recordOf info) flags keys counts pointers windows contents) [] places'
-  rule-listed flags keys counts pointers windows contents {loaded} n l i a g =
-      rule-done flags keys counts pointers windows contents loaded flags keys counts pointers windows contents n l i
+      → Gives (ruleEffect rule places value info (card (recordOf info) flags keys counts pointers multiplicities windows contents)) number given info (card (recordOf info) flags keys counts pointers multiplicities windows contents) [] places'
+  rule-listed flags keys counts pointers multiplicities windows contents {loaded} n l i a g =
+      rule-done flags keys counts pointers multiplicities windows contents loaded flags keys counts pointers multiplicities windows contents n l i
       (sym (numbers-record info n) ∙ ap (λ (o : Info). numbersOf o) (sym l)) a g
 
 -- ---- a call record

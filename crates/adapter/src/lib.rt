@@ -42,8 +42,9 @@ pub fn perform(
     info: &mut [u64],
     flags: &mut [u8],
     keys: &mut [u64],
-    counts: &mut [u16],
+    counts: &mut [u32],
     pointers: &mut [u32],
+    multiplicities: &mut [u16],
     windows: &mut [u64],
     contents: &mut [u8],
     decoding: Decoding,
@@ -52,7 +53,7 @@ pub fn perform(
     places: &mut [u16],
     value: &mut u64,
 ) -> u32
-    ensures { λ r. ⌜ EffectsLent (effect decoding (now (input .entry))) info flags keys counts pointers windows contents out places value r ⌝ }
+    ensures { λ r. ⌜ EffectsLent (effect decoding (now (input .entry))) info flags keys counts pointers multiplicities windows contents out places value r ⌝ }
 {
     let Decoding::Decoded(port, call) = decoding else {
         return 13;
@@ -66,6 +67,7 @@ pub fn perform(
         keys,
         counts,
         pointers,
+        multiplicities,
         windows,
         contents,
         port,
@@ -82,15 +84,16 @@ pub fn perform_without_buffers(
     info: &mut [u64],
     flags: &mut [u8],
     keys: &mut [u64],
-    counts: &mut [u16],
+    counts: &mut [u32],
     pointers: &mut [u32],
+    multiplicities: &mut [u16],
     windows: &mut [u64],
     contents: &mut [u8],
     decoding: Decoding,
     input: &[u8],
     value: &mut u64,
 ) -> u32
-    ensures { λ r. ⌜ EffectsGiving (effect decoding (now (input .entry)) [] []) info flags keys counts pointers windows contents value r ⌝ }
+    ensures { λ r. ⌜ EffectsGiving (effect decoding (now (input .entry)) [] []) info flags keys counts pointers multiplicities windows contents value r ⌝ }
 {
     perform(
         info,
@@ -98,6 +101,7 @@ pub fn perform_without_buffers(
         keys,
         counts,
         pointers,
+        multiplicities,
         windows,
         contents,
         decoding,

@@ -85,9 +85,9 @@ module _ (port : Port) (c : Card) (o : AllocOperands) (places : List ℕ) where
         pub can-take-picked : CanTakeAll c (o .reference) (take (o .count) left)
         can-take-picked = can-take-all picked port s shared-passed room
 
-        pub alloc-done : {r : Outcome} {info : Info} {flags counts pointers contents : List ℕ} → r ≡ outcome Done info
-            → card info flags (c .keys) counts pointers (c .public .windows) contents ≡ changes c (takeAll (o .reference) (take (o .count) left))
-            → Is (performSound port c allocRequest) (r .answer) (card (r .info) flags (c .keys) counts pointers (c .public .windows) contents) [] left
+        pub alloc-done : {r : Outcome} {info : Info} {flags counts pointers multiplicities contents : List ℕ} → r ≡ outcome Done info
+            → card info flags (c .keys) counts pointers multiplicities (c .public .windows) contents ≡ changes c (takeAll (o .reference) (take (o .count) left))
+            → Is (performSound port c allocRequest) (r .answer) (card (r .info) flags (c .keys) counts pointers multiplicities (c .public .windows) contents) [] left
         unfolding performSound plan allocPlan outAfter placesAfter
         alloc-done f t =
             finishes c (allocRequest .lent) (plan port c (allocRequest .call) (allocRequest .lent)) f h

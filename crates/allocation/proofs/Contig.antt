@@ -172,9 +172,9 @@ module _ (port : Port) (c : Card) (o : AllocOperands) (places : List ℕ) where
       pub can-take-run : CanTakeAll c (o .reference) (take (o .count) left)
       can-take-run = can-take-all chosen port s shared-passed room
 
-      pub contig-done : {r : Outcome} {info : Info} {flags counts pointers contents : List ℕ} → r ≡ outcome Done info
-          → card info flags (c .keys) counts pointers (c .public .windows) contents ≡ changes c (takeAll (o .reference) (take (o .count) left))
-          → Is (performSound port c contigRequest) (r .answer) (card (r .info) flags (c .keys) counts pointers (c .public .windows) contents) [] left
+      pub contig-done : {r : Outcome} {info : Info} {flags counts pointers multiplicities contents : List ℕ} → r ≡ outcome Done info
+          → card info flags (c .keys) counts pointers multiplicities (c .public .windows) contents ≡ changes c (takeAll (o .reference) (take (o .count) left))
+          → Is (performSound port c contigRequest) (r .answer) (card (r .info) flags (c .keys) counts pointers multiplicities (c .public .windows) contents) [] left
       unfolding performSound plan allocContigPlan outAfter placesAfter
       contig-done f t =
           finishes c (contigRequest .lent) (plan port c (contigRequest .call) (contigRequest .lent)) f h

@@ -10,7 +10,7 @@ use lib.Dec.{eqb, ltb}
 use borrow.Author.Tests.{lt-ltb, le-ltb, eq-eqb, ne-eqb}
 use Rattle.card.specs.Lists.{any, numbersBelow}
 use Rattle.card.specs.ListsLaws.{or-left, absurd-test, false-unless, same-or-other, numbersBelow-same}
-use Rattle.card.specs.Pointers.{ascending, contains, remove}
+use Rattle.card.specs.Pointers.{ascending, contains, remove, removeBeside}
 use Rattle.card.specs.PointersLaws.{contains-cons, ascending-tail}
 use Rattle.card.specs.Calls.{distance, nearest, picks}
 use Rattle.card.specs.NearestLaws.{contains-here, contains-there, contains-rest, first-below, numbers-hold, hold-numbers, IsNearest}
@@ -60,7 +60,7 @@ picks-nearest want m b (x ∷ xs) a i h =
 -- ---- one of them removed
 
 remove-absent : (b : ℕ) (xs ys : List ℕ) → contains b xs ≡ false → remove b (xs ++ ys) ≡ xs ++ remove b ys
-unfolding remove
+unfolding remove removeBeside
 remove-absent b [] ys h = refl
 remove-absent b (x ∷ xs) ys h =
     let other : (x ≡ b → ⊥) = λ e. absurd-test (contains-cons b x xs ∙ or-left (eqb x b) _ (eq-eqb x b e)) h in
@@ -68,7 +68,7 @@ remove-absent b (x ∷ xs) ys h =
     (ap (λ (l : List ℕ). x ∷ l) (remove-absent b xs ys (false-unless _ (λ i. absurd-test (contains-there b x xs i) h))))
 
 remove-present : (b : ℕ) (xs ys : List ℕ) → contains b xs ≡ true → remove b (xs ++ ys) ≡ remove b xs ++ ys
-unfolding remove contains any
+unfolding remove removeBeside contains any
 remove-present b [] ys h = absurd-test {t = false} h refl
 remove-present b (x ∷ xs) ys h =
     ⊎-elim
@@ -78,7 +78,7 @@ remove-present b (x ∷ xs) ys h =
 
 -- The last is removed.
 remove-last : (b n : ℕ) (xs ys : List ℕ) → b ≡ n → xs ≡ ys → xs ++ remove b (n ∷ []) ≡ ys ++ []
-unfolding remove
+unfolding remove removeBeside
 remove-last b n xs ys e s = rw (eq-eqb n b (sym e), s)
 
 -- Without b they are those of a test that fails of b and else agrees.

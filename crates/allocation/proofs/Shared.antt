@@ -68,7 +68,7 @@ module _ (port : Port) (c : Card) (o : AllocOperands) (places : List ℕ) where
       unfolding sharedChecks allocPlan
       reference-missing h = later (sym e1 ∙ h1) (here (missing-told (c .public) _ e2 h))
 
-      module _ (h2 : t2 ≡ false) {t3 : Bool} (e3 : t3 ≡ rootAtHost port (card (c .public .info) [] [] [] [] [] [] .public) (o .reference)) where
+      module _ (h2 : t2 ≡ false) {t3 : Bool} (e3 : t3 ≡ rootAtHost port (card (c .public .info) [] [] [] [] [] [] [] .public) (o .reference)) where
         pub root-reference : t3 ≡ true → FirstHolds shared IsRoot
         unfolding sharedChecks allocPlan
         root-reference h = later (sym e1 ∙ h1) (later (missing-told (c .public) _ e2 h2) (here (root-told port (c .public) _ e3 h)))

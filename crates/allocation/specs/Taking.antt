@@ -13,7 +13,7 @@ use Rattle.card.specs.Takeable.{Takeable}
 pub record CanTake (bytes : ℕ) (flags counts contents : List ℕ) (b : ℕ) : Type 0 where
   pub inFlags : b < length flags
   pub inCounts : b < length counts
-  pub countLow : getD counts b 0 < 65535
+  pub countLow : getD counts b 0 < 4294967295
   pub inContents : b * bytes + bytes ≤ length contents
 
 -- What taking it leaves of these tables.

@@ -93,7 +93,7 @@ fn list_run(first: usize, count: usize, places: &mut [u16])
 // ---- blocks taken
 
 // An unallocated block is allocated, counted once more, and filled with zeros in its own part of the contents.
-fn take(bytes: usize, flags: &mut [u8], counts: &mut [u16], contents: &mut [u8], block: usize)
+fn take(bytes: usize, flags: &mut [u8], counts: &mut [u32], contents: &mut [u8], block: usize)
     requires { ⌜ CanTake bytes (now flags) (now counts) (now contents) block ⌝ }
     ensures { λ _. ⌜ BlockTaken bytes block (now (flags .entry)) (now (counts .entry)) (now (contents .entry)) (now (flags .exit)) (now (counts .exit)) (now (contents .exit)) ⌝ }
 {
@@ -109,15 +109,16 @@ fn take_all(
     info: Info,
     flags: &mut [u8],
     keys: &[u64],
-    counts: &mut [u16],
+    counts: &mut [u32],
     pointers: &mut [u32],
+    multiplicities: &mut [u16],
     windows: &[u64],
     contents: &mut [u8],
     reference: u16,
     numbers: &[u16],
 ) -> Info
-    requires { ⌜ CanTakeAll (lent info flags keys counts pointers windows contents) reference (now numbers) ⌝ }
-    ensures { λ r. ⌜ atExit r flags keys counts pointers windows contents ≡ changes (atEntry info flags keys counts pointers windows contents) (takeAll reference (now (numbers .entry))) ⌝ }
+    requires { ⌜ CanTakeAll (lent info flags keys counts pointers multiplicities windows contents) reference (now numbers) ⌝ }
+    ensures { λ r. ⌜ atExit r flags keys counts pointers multiplicities windows contents ≡ changes (atEntry info flags keys counts pointers multiplicities windows contents) (takeAll reference (now (numbers .entry))) ⌝ }
 {
     let bytes = info.bytes;
     let count = numbers.len();
@@ -131,7 +132,7 @@ fn take_all(
         tables::insert(&mut added, taken, pointer);
         taken += 1;
     }
-    tables::merge(pointers, info.used, &added, count);
+    tables::merge(pointers, multiplicities, info.used, &added, count);
     tables::with_used(info, info.used + count)
 }
 
@@ -161,16 +162,17 @@ fn shared_check(
     info: Info,
     flags: &[u8],
     keys: &[u64],
-    counts: &[u16],
+    counts: &[u32],
     pointers: &[u32],
+    multiplicities: &[u16],
     windows: &[u64],
     contents: &[u8],
     port: Port,
     o: AllocOperands,
     places: &[u16],
 ) -> Checked
-    requires { ⌜ SoundCard (lent info flags keys counts pointers windows contents) ⌝ }
-    ensures { λ r. ⌜ r ≡ byRefusal (first (sharedChecks port (atEntry info flags keys counts pointers windows contents) o (length (now (places .entry))))) ⌝ }
+    requires { ⌜ SoundCard (lent info flags keys counts pointers multiplicities windows contents) ⌝ }
+    ensures { λ r. ⌜ r ≡ byRefusal (first (sharedChecks port (atEntry info flags keys counts pointers multiplicities windows contents) o (length (now (places .entry))))) ⌝ }
 {
     let credential = o.credential;
     let from = o.reference as usize;
@@ -208,16 +210,17 @@ fn alloc_check(
     info: Info,
     flags: &[u8],
     keys: &[u64],
-    counts: &[u16],
+    counts: &[u32],
     pointers: &[u32],
+    multiplicities: &[u16],
     windows: &[u64],
     contents: &[u8],
     port: Port,
     o: AllocOperands,
     places: &[u16],
 ) -> Checked
-    requires { ⌜ SoundCard (lent info flags keys counts pointers windows contents) ⌝ }
-    ensures { λ r. ⌜ r ≡ checked port (atEntry info flags keys counts pointers windows contents) (request (Alloc o) [] [] (now (places .entry))) ⌝ }
+    requires { ⌜ SoundCard (lent info flags keys counts pointers multiplicities windows contents) ⌝ }
+    ensures { λ r. ⌜ r ≡ checked port (atEntry info flags keys counts pointers multiplicities windows contents) (request (Alloc o) [] [] (now (places .entry))) ⌝ }
 {
     match shared_check(
         info,
@@ -225,6 +228,7 @@ fn alloc_check(
         keys,
         counts,
         pointers,
+        multiplicities,
         windows,
         contents,
         port,
@@ -246,16 +250,17 @@ pub fn alloc_sound(
     info: Info,
     flags: &mut [u8],
     keys: &[u64],
-    counts: &mut [u16],
+    counts: &mut [u32],
     pointers: &mut [u32],
+    multiplicities: &mut [u16],
     windows: &[u64],
     contents: &mut [u8],
     port: Port,
     o: AllocOperands,
     places: &mut [u16],
 ) -> Outcome
-    requires { ⌜ SoundCard (lent info flags keys counts pointers windows contents) ⌝ }
-    ensures { λ r. ⌜ Performs (λ c. performSound port c (request (Alloc o) [] [] (now (places .entry)))) info flags keys counts pointers windows contents r [] (now (places .exit)) ⌝ }
+    requires { ⌜ SoundCard (lent info flags keys counts pointers multiplicities windows contents) ⌝ }
+    ensures { λ r. ⌜ Performs (λ c. performSound port c (request (Alloc o) [] [] (now (places .entry)))) info flags keys counts pointers multiplicities windows contents r [] (now (places .exit)) ⌝ }
 {
     match alloc_check(
         info,
@@ -263,6 +268,7 @@ pub fn alloc_sound(
         keys,
         counts,
         pointers,
+        multiplicities,
         windows,
         contents,
         port,
@@ -279,6 +285,7 @@ pub fn alloc_sound(
                 keys,
                 counts,
                 pointers,
+                multiplicities,
                 windows,
                 contents,
                 o.reference,
@@ -294,16 +301,17 @@ fn alloc_contig_check(
     info: Info,
     flags: &[u8],
     keys: &[u64],
-    counts: &[u16],
+    counts: &[u32],
     pointers: &[u32],
+    multiplicities: &[u16],
     windows: &[u64],
     contents: &[u8],
     port: Port,
     o: AllocOperands,
     places: &[u16],
 ) -> RunChecked
-    requires { ⌜ SoundCard (lent info flags keys counts pointers windows contents) ⌝ }
-    ensures { λ r. ⌜ r ≡ runChecked (checked port (atEntry info flags keys counts pointers windows contents) (request (AllocContig o) [] [] (now (places .entry)))) (nearestOf (wanted (o .hint)) (startsIn (now (flags .entry)) (o .count))) ⌝ }
+    requires { ⌜ SoundCard (lent info flags keys counts pointers multiplicities windows contents) ⌝ }
+    ensures { λ r. ⌜ r ≡ runChecked (checked port (atEntry info flags keys counts pointers multiplicities windows contents) (request (AllocContig o) [] [] (now (places .entry)))) (nearestOf (wanted (o .hint)) (startsIn (now (flags .entry)) (o .count))) ⌝ }
 {
     let shared = shared_check(
         info,
@@ -311,6 +319,7 @@ fn alloc_contig_check(
         keys,
         counts,
         pointers,
+        multiplicities,
         windows,
         contents,
         port,
@@ -335,16 +344,17 @@ pub fn alloc_contig_sound(
     info: Info,
     flags: &mut [u8],
     keys: &[u64],
-    counts: &mut [u16],
+    counts: &mut [u32],
     pointers: &mut [u32],
+    multiplicities: &mut [u16],
     windows: &[u64],
     contents: &mut [u8],
     port: Port,
     o: AllocOperands,
     places: &mut [u16],
 ) -> Outcome
-    requires { ⌜ SoundCard (lent info flags keys counts pointers windows contents) ⌝ }
-    ensures { λ r. ⌜ Performs (λ c. performSound port c (request (AllocContig o) [] [] (now (places .entry)))) info flags keys counts pointers windows contents r [] (now (places .exit)) ⌝ }
+    requires { ⌜ SoundCard (lent info flags keys counts pointers multiplicities windows contents) ⌝ }
+    ensures { λ r. ⌜ Performs (λ c. performSound port c (request (AllocContig o) [] [] (now (places .entry)))) info flags keys counts pointers multiplicities windows contents r [] (now (places .exit)) ⌝ }
 {
     match alloc_contig_check(
         info,
@@ -352,6 +362,7 @@ pub fn alloc_contig_sound(
         keys,
         counts,
         pointers,
+        multiplicities,
         windows,
         contents,
         port,
@@ -368,6 +379,7 @@ pub fn alloc_contig_sound(
                 keys,
                 counts,
                 pointers,
+                multiplicities,
                 windows,
                 contents,
                 o.reference,

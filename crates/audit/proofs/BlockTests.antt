@@ -1,17 +1,20 @@
 -- The tests of one pointer and of one block, in the form in which the code computes them.
 -- The code joins tests to the left, `every` to the right and with `true` at the end.
 use Prim.Native.Nat.{ℕ, _+_, _*_, _≤_, _<_}
-use mathlib.Core.Path.{_≡_, refl}
-use mathlib.Core.Bool.{Bool, true, false, _&&_, _||_, not, and-assoc, and-true}
+use mathlib.Core.Path.{_≡_, refl, sym, _∙_}
+use mathlib.Core.Bool.{Bool, false, _&&_, _||_, not, and-assoc, and-true}
+use mathlib.Core.List.{List}
+use native.Mathlib.Omega.{arith}
 use lib.Dec.{eqb, ltb, leb}
 use lib.ListN.{getD}
 use borrow.Author.Tests.{lt-ltb, le-ltb}
 use Rattle.card.specs.Lists.{every}
 use Rattle.card.specs.Pointers.{source, destination}
 use Rattle.card.specs.Card.{Public, Card, flag, allocatedFlag, keyFlag, allocated, count}
-use Rattle.card.specs.Soundness.{flagsBelow8, rootAllocated, keyZero, unallocatedEmpty, absentKeyZero, pointedTo, windowInTime, pointerRight}
+use Rattle.card.specs.Soundness.{flagsBelow8, rootAllocated, keyZero, unallocatedEmpty, absentKeyZero, pointedTo, windowInTime}
+use Rattle.card.specs.declared.Info.{Info}
 use Rattle.card.specs.declared.Mode.the-variants.{Reading, Writing}
-use Rattle.audit.specs.Walks.{blockSound}
+use Rattle.audit.specs.Walks.{flagged, linkRight, blockSound}
 
 -- ---- a pointer
 
@@ -23,10 +26,11 @@ pub allocated-outside : (p : Public) (b : ℕ) → p .info .blocks ≤ b → fal
 unfolding allocated
 allocated-outside p b l = rw (le-ltb _ _ l) refl
 
-pub right-pointer : (p : Public) (w : ℕ) (s d : Bool) → s ≡ allocated p (source w) → d ≡ allocated p (destination w)
-    → s && d && not (ltb (destination w) (p .info .roots)) && not (eqb (source w) (destination w)) ≡ pointerRight p w
-unfolding pointerRight every
-right-pointer p w s d e f = simp (e, f, and-assoc, and-true)
+module _ (info : Info) (flags : List ℕ) (w : ℕ) where
+  pub looked-up : {s : Bool} → s ≡ allocated (flagged info flags) (source w)
+      → ltb (destination w) (info .blocks) && not (eqb (source w) (destination w)) && s ≡ linkRight info flags w
+  unfolding linkRight every
+  looked-up e = simp (e, and-assoc, and-true)
 
 -- ---- a block
 
@@ -49,6 +53,7 @@ pub sound-block : (c : Card) (tallied b : ℕ) {held readKey writeKey read write
     && (readKey || read)
     && (writeKey || write)
     && eqb n tallied
+    && (not root || eqb tallied 0)
     && (root || not held || leb 1 n)
     && leb reading latest
     && leb writing latest

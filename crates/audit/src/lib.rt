@@ -3,13 +3,13 @@ ghost use mathlib.Core.Path.{_≡_};
 ghost use mathlib.Core.Bool.{_&&_};
 ghost use mathlib.Core.List.{[]};
 ghost use Prim.Native.Nat.{_+_, _<_, _≤_};
-ghost use lib.ListN.{length, drop, getD, replicate};
+ghost use lib.ListN.{length, take, drop, getD, replicate};
 ghost use lib.Dec.{eqb};
 ghost use Rattle.card.specs.Lent.{atEntry};
 ghost use Rattle.card.specs.Lists.{all, allBelow};
 ghost use Rattle.card.specs.Card.{card, allocated};
-ghost use Rattle.card.specs.Soundness.{pointerRight, sound, verdict};
-ghost use Rattle.audit.specs.Walks.{pointing, rowed, blockSound, PointersFit, RowsFit, PointersWalked, judged};
+ghost use Rattle.card.specs.Soundness.{sound, verdict};
+ghost use Rattle.audit.specs.Walks.{flagged, linkRight, rowed, blockSound, PointersFit, RowsFit, PointersWalked, judged};
 use card::BLOCK_LIMIT;
 use card::Info;
 use card::LONGEST_INTERVAL;
@@ -20,7 +20,7 @@ use card::Verdict;
 
 fn is_allocated(info: Info, flags: &[u8], b: usize) -> bool
     requires { ⌜ length (now flags) ≡ info .blocks ⌝ }
-    ensures { λ r. ⌜ r ≡ allocated (pointing info (now (flags .entry)) []) b ⌝ }
+    ensures { λ r. ⌜ r ≡ allocated (flagged info (now (flags .entry))) b ⌝ }
 {
     if b < info.blocks {
         flags::allocated(flags[b])
@@ -29,33 +29,39 @@ fn is_allocated(info: Info, flags: &[u8], b: usize) -> bool
     }
 }
 
-fn pointer_right(info: Info, flags: &[u8], w: u32) -> bool
+// The test of one pointer's ends. The destination's flags are not looked at: the walk of the blocks
+// finds by the tally what is wrong with it.
+fn link_right(info: Info, flags: &[u8], w: u32) -> bool
     requires { ⌜ length (now flags) ≡ info .blocks ⌝ }
-    ensures { λ r. ⌜ r ≡ pointerRight (pointing info (now (flags .entry)) []) w ⌝ }
+    ensures { λ r. ⌜ r ≡ linkRight info (now (flags .entry)) w ⌝ }
 {
     let source = (w / 65536) as usize;
     let destination = (w % 65536) as usize;
-    is_allocated(info, flags, source)
-        & is_allocated(info, flags, destination)
-        & !(destination < info.roots)
-        & !(source == destination)
+    (destination < info.blocks) & !(source == destination) & is_allocated(info, flags, source)
 }
 
-// Whether the pointers in use ascend and are right. If so, each block's place of the tally has
-// the number of pointers to it; else the tally says nothing. `least` is the least word that the
-// next pointer may be.
-fn walk_pointers(info: Info, flags: &[u8], pointers: &[u32], tally: &mut [u16; BLOCK_LIMIT]) -> bool
-    requires { ⌜ PointersFit info (now flags) (now pointers) ⌝ ∗ ⌜ now tally ≡ replicate 4096 0 ⌝ }
-    ensures { λ r. ⌜ PointersWalked (pointing info (now (flags .entry)) (now (pointers .entry))) r (now (tally .exit)) ⌝ }
+// Whether the pointers in use ascend and have right ends and multiplicities. If so, each block's
+// place of the tally has the multiplicities of the pointers to it added up; else the tally says
+// nothing. `least` is the least word that the next pointer may be.
+fn walk_pointers(
+    info: Info,
+    flags: &[u8],
+    pointers: &[u32],
+    multiplicities: &[u16],
+    tally: &mut [u32; BLOCK_LIMIT],
+) -> bool
+    requires { ⌜ PointersFit info (now flags) (now pointers) (now multiplicities) ⌝ ∗ ⌜ now tally ≡ replicate 4096 0 ⌝ }
+    ensures { λ r. ⌜ PointersWalked info (now (flags .entry)) (take (info .used) (now (pointers .entry))) (take (info .used) (now (multiplicities .entry))) r (now (tally .exit)) ⌝ }
 {
     let used = info.used;
     let mut least: u64 = 0;
     let mut i: usize = 0;
     'walk: while i < used {
         let w = pointers[i];
-        if pointer_right(info, flags, w) & (least <= w as u64) {
+        let times = multiplicities[i];
+        if link_right(info, flags, w) & (least <= w as u64) & (1 <= times) {
             let destination = (w % 65536) as usize;
-            tally[destination] += 1;
+            tally[destination] += times as u32;
             least = w as u64 + 1;
             i += 1;
         } else {
@@ -65,15 +71,15 @@ fn walk_pointers(info: Info, flags: &[u8], pointers: &[u32], tally: &mut [u16; B
     i == used
 }
 
-// Whether each place from `used` on is 0.
-fn walk_unused(pointers: &[u32], used: usize) -> bool
-    requires { ⌜ used ≤ length (now pointers) ⌝ }
-    ensures { λ r. ⌜ r ≡ all (λ w. eqb w 0) (drop used (now (pointers .entry))) ⌝ }
+// Whether each place from `used` on is 0, in both tables.
+fn walk_unused(pointers: &[u32], multiplicities: &[u16], used: usize) -> bool
+    requires { ⌜ used ≤ length (now pointers) ⌝ ∗ ⌜ length (now multiplicities) ≡ length (now pointers) ⌝ }
+    ensures { λ r. ⌜ r ≡ all (λ w. eqb w 0) (drop used (now (pointers .entry))) && all (λ n. eqb n 0) (drop used (now (multiplicities .entry))) ⌝ }
 {
     let places = pointers.len();
     let mut i = used;
     'walk: while i < places {
-        if pointers[i] == 0 {
+        if (pointers[i] == 0) & (multiplicities[i] == 0) {
             i += 1;
         } else {
             break 'walk;
@@ -96,9 +102,9 @@ fn block_sound(
     info: Info,
     flags: &[u8],
     keys: &[u64],
-    counts: &[u16],
+    counts: &[u32],
     windows: &[u64],
-    tallied: u16,
+    tallied: u32,
     b: usize,
 ) -> bool
     requires { ⌜ RowsFit info (now flags) (now keys) (now counts) (now windows) ⌝ ∗ ⌜ b < info .blocks ⌝ }
@@ -128,6 +134,7 @@ fn block_sound(
         & (read_key | zero_read)
         & (write_key | zero_write)
         & (count == tallied)
+        & (!root | (tallied == 0))
         & (root | !held | (1 <= count))
         & (reading <= latest)
         & (writing <= latest)
@@ -137,9 +144,9 @@ fn walk_blocks(
     info: Info,
     flags: &[u8],
     keys: &[u64],
-    counts: &[u16],
+    counts: &[u32],
     windows: &[u64],
-    tally: &[u16; BLOCK_LIMIT],
+    tally: &[u32; BLOCK_LIMIT],
 ) -> Verdict
     requires { ⌜ RowsFit info (now flags) (now keys) (now counts) (now windows) ⌝ }
     ensures { λ r. ⌜ r ≡ judged (allBelow (λ b. blockSound (rowed info (now (flags .entry)) (now (keys .entry)) (now (counts .entry)) (now (windows .entry))) (getD (now (tally .entry)) b 0) b) (info .blocks)) ⌝ }
@@ -165,16 +172,17 @@ fn walk(
     info: Info,
     flags: &[u8],
     keys: &[u64],
-    counts: &[u16],
+    counts: &[u32],
     pointers: &[u32],
+    multiplicities: &[u16],
     windows: &[u64],
 ) -> Verdict
-    requires { ⌜ PointersFit info (now flags) (now pointers) ⌝ ∗ ⌜ RowsFit info (now flags) (now keys) (now counts) (now windows) ⌝ }
-    ensures { λ r. ⌜ r ≡ judged (sound (card info (now (flags .entry)) (now (keys .entry)) (now (counts .entry)) (now (pointers .entry)) (now (windows .entry)) [])) ⌝ }
+    requires { ⌜ PointersFit info (now flags) (now pointers) (now multiplicities) ⌝ ∗ ⌜ RowsFit info (now flags) (now keys) (now counts) (now windows) ⌝ }
+    ensures { λ r. ⌜ r ≡ judged (sound (card info (now (flags .entry)) (now (keys .entry)) (now (counts .entry)) (now (pointers .entry)) (now (multiplicities .entry)) (now (windows .entry)) [])) ⌝ }
 {
-    let mut tally = [0u16; BLOCK_LIMIT];
-    if walk_pointers(info, flags, pointers, &mut tally) {
-        if walk_unused(pointers, info.used) {
+    let mut tally = [0u32; BLOCK_LIMIT];
+    if walk_pointers(info, flags, pointers, multiplicities, &mut tally) {
+        if walk_unused(pointers, multiplicities, info.used) {
             walk_blocks(info, flags, keys, counts, windows, &tally)
         } else {
             Verdict::Unsound
@@ -189,15 +197,25 @@ pub fn audit(
     info: Info,
     flags: &[u8],
     keys: &[u64],
-    counts: &[u16],
+    counts: &[u32],
     pointers: &[u32],
+    multiplicities: &[u16],
     windows: &[u64],
     contents: &[u8],
 ) -> Verdict
-    ensures { λ r. ⌜ r ≡ verdict (atEntry info flags keys counts pointers windows contents) ⌝ }
+    ensures { λ r. ⌜ r ≡ verdict (atEntry info flags keys counts pointers multiplicities windows contents) ⌝ }
 {
-    if shape::shaped(info, flags, keys, counts, pointers, windows, contents) {
-        walk(info, flags, keys, counts, pointers, windows)
+    if shape::shaped(
+        info,
+        flags,
+        keys,
+        counts,
+        pointers,
+        multiplicities,
+        windows,
+        contents,
+    ) {
+        walk(info, flags, keys, counts, pointers, multiplicities, windows)
     } else {
         Verdict::Misshapen
     }

@@ -9,18 +9,22 @@ enum Lack {
     Keys,
     Counts,
     Pointers,
+    Multiplicities,
     Windows,
     Contents,
 }
 
-// One store into a table of the good card.
+// One store into a table of the good card; or a fourth pointer, its multiplicity, a block and that
+// block's count.
 enum Fault {
     Nothing,
     Flag(usize, u8),
     Key(usize, u64),
-    Count(usize, u16),
+    Count(usize, u32),
     Pointer(usize, u32),
+    Multiplicity(usize, u16),
     Window(usize, u64),
+    Fourth(u32, u16, usize, u32),
 }
 
 fn write_verdict(name: &[u8], verdict: Verdict) {
@@ -43,14 +47,24 @@ fn show(
     info: Info,
     flags: &[u8],
     keys: &[u64],
-    counts: &[u16],
+    counts: &[u32],
     pointers: &[u32],
+    multiplicities: &[u16],
     windows: &[u64],
     contents: &[u8],
 ) {
     write_verdict(
         name,
-        audit::audit(info, flags, keys, counts, pointers, windows, contents),
+        audit::audit(
+            info,
+            flags,
+            keys,
+            counts,
+            pointers,
+            multiplicities,
+            windows,
+            contents,
+        ),
     );
 }
 
@@ -60,8 +74,9 @@ fn lend(
     info: Info,
     flags: &[u8; 16],
     keys: &[u64; 64],
-    counts: &[u16; 16],
+    counts: &[u32; 16],
     pointers: &[u32; 32],
+    multiplicities: &[u16; 32],
     windows: &[u64; 32],
 ) {
     let contents = [0u8; 8192];
@@ -72,13 +87,14 @@ fn lend(
         keys,
         counts,
         pointers,
+        multiplicities,
         windows,
         &contents,
     );
 }
 
-// The good card with one store: root 0, block 1 with both keys, block 2 without, pointers 0 to 1,
-// 0 to 2 and 1 to 2, and block 0's read window at its latest end.
+// The good card with one fault: root 0, block 1 with both keys, block 2 without, pointers 0 to 1,
+// 0 to 2, made twice, and 1 to 2, and block 0's read window at its latest end.
 fn judge(
     name: &[u8],
     blocks: usize,
@@ -92,8 +108,9 @@ fn judge(
     let info = tables::with_time(tables::with_used(fresh, used), time);
     let mut flags = [0u8; 16];
     let mut keys = [0u64; 64];
-    let mut counts = [0u16; 16];
+    let mut counts = [0u32; 16];
     let mut pointers = [0u32; 32];
+    let mut multiplicities = [0u16; 32];
     let mut windows = [0u64; 32];
     flags[0] = 1;
     flags[1] = 7;
@@ -101,10 +118,13 @@ fn judge(
     keys[4] = 1;
     keys[7] = 2;
     counts[1] = 1;
-    counts[2] = 2;
+    counts[2] = 3;
     pointers[0] = 1;
     pointers[1] = 2;
     pointers[2] = 65538;
+    multiplicities[0] = 1;
+    multiplicities[1] = 2;
+    multiplicities[2] = 1;
     windows[0] = 86500;
     match fault {
         Fault::Nothing => {}
@@ -128,13 +148,34 @@ fn judge(
                 pointers[at] = to;
             }
         }
+        Fault::Multiplicity(at, to) => {
+            if at < 32 {
+                multiplicities[at] = to;
+            }
+        }
         Fault::Window(at, to) => {
             if at < 32 {
                 windows[at] = to;
             }
         }
+        Fault::Fourth(w, times, b, count) => {
+            pointers[3] = w;
+            multiplicities[3] = times;
+            if b < 16 {
+                counts[b] = count;
+            }
+        }
     }
-    lend(name, info, &flags, &keys, &counts, &pointers, &windows);
+    lend(
+        name,
+        info,
+        &flags,
+        &keys,
+        &counts,
+        &pointers,
+        &multiplicities,
+        &windows,
+    );
 }
 
 // The good card's own record and one store.
@@ -177,6 +218,25 @@ fn faults_of_pointers() {
     damage(b"write-window-latest", Fault::Window(5, 86500));
 }
 
+// The good card with a fourth pointer and one count.
+fn lengthen(name: &[u8], w: u32, times: u16, b: usize, count: u32) {
+    judge(name, 16, 1, 512, 4, 100, Fault::Fourth(w, times, b, count));
+}
+
+// Multiplicities, counts that are their sums, and the pointers that a count alone gives away.
+fn faults_of_multiplicities() {
+    damage(b"multiplicity-low", Fault::Multiplicity(1, 1));
+    damage(b"multiplicity-behind", Fault::Multiplicity(3, 1));
+    damage(b"last-multiplicity-behind", Fault::Multiplicity(31, 1));
+    damage(b"count-of-places", Fault::Count(2, 2));
+    lengthen(b"fourth-pointer", 131073, 1, 1, 2);
+    lengthen(b"multiplicity-zero", 131073, 0, 1, 1);
+    lengthen(b"highest-multiplicity", 131073, 65535, 1, 65536);
+    lengthen(b"count-of-16-bits", 131073, 65535, 1, 0);
+    lengthen(b"root-counted", 131072, 1, 0, 1);
+    lengthen(b"free-counted", 131077, 1, 5, 1);
+}
+
 // Ranges of the record.
 fn faults_of_records() {
     judge(b"blocks-15", 15, 1, 512, 3, 100, Fault::Nothing);
@@ -201,14 +261,25 @@ fn lend_lacking(
     lack: Lack,
     flags: &[u8],
     keys: &[u64],
-    counts: &[u16],
+    counts: &[u32],
     pointers: &[u32],
+    multiplicities: &[u16],
     windows: &[u64],
     contents: &[u8],
 ) {
     let info = tables::with_time(tables::fresh(16, 1, 512), 100);
     match lack {
-        Lack::Nothing => show(name, info, flags, keys, counts, pointers, windows, contents),
+        Lack::Nothing => show(
+            name,
+            info,
+            flags,
+            keys,
+            counts,
+            pointers,
+            multiplicities,
+            windows,
+            contents,
+        ),
         Lack::Flags => show(
             name,
             info,
@@ -216,6 +287,7 @@ fn lend_lacking(
             keys,
             counts,
             pointers,
+            multiplicities,
             windows,
             contents,
         ),
@@ -226,6 +298,7 @@ fn lend_lacking(
             &keys[..0],
             counts,
             pointers,
+            multiplicities,
             windows,
             contents,
         ),
@@ -236,6 +309,7 @@ fn lend_lacking(
             keys,
             &counts[..0],
             pointers,
+            multiplicities,
             windows,
             contents,
         ),
@@ -246,6 +320,18 @@ fn lend_lacking(
             keys,
             counts,
             &pointers[..0],
+            multiplicities,
+            windows,
+            contents,
+        ),
+        Lack::Multiplicities => show(
+            name,
+            info,
+            flags,
+            keys,
+            counts,
+            pointers,
+            &multiplicities[..0],
             windows,
             contents,
         ),
@@ -256,6 +342,7 @@ fn lend_lacking(
             keys,
             counts,
             pointers,
+            multiplicities,
             &windows[..0],
             contents,
         ),
@@ -266,6 +353,7 @@ fn lend_lacking(
             keys,
             counts,
             pointers,
+            multiplicities,
             windows,
             &contents[..0],
         ),
@@ -276,8 +364,9 @@ fn lend_lacking(
 fn judge_lacking(name: &[u8], lack: Lack) {
     let mut flags = [0u8; 16];
     let keys = [0u64; 64];
-    let counts = [0u16; 16];
+    let counts = [0u32; 16];
     let pointers = [0u32; 32];
+    let multiplicities = [0u16; 32];
     let windows = [0u64; 32];
     let contents = [0u8; 8192];
     flags[0] = 1;
@@ -288,6 +377,7 @@ fn judge_lacking(name: &[u8], lack: Lack) {
         &keys,
         &counts,
         &pointers,
+        &multiplicities,
         &windows,
         &contents,
     );
@@ -300,6 +390,7 @@ fn faults_of_lengths() {
     judge_lacking(b"no-keys", Lack::Keys);
     judge_lacking(b"no-counts", Lack::Counts);
     judge_lacking(b"no-places", Lack::Pointers);
+    judge_lacking(b"no-multiplicities", Lack::Multiplicities);
     judge_lacking(b"no-windows", Lack::Windows);
     judge_lacking(b"no-contents", Lack::Contents);
 }
@@ -307,6 +398,7 @@ fn faults_of_lengths() {
 fn main() {
     faults_of_blocks();
     faults_of_pointers();
+    faults_of_multiplicities();
     faults_of_records();
     faults_of_lengths();
 }

@@ -138,8 +138,8 @@ module _ (wire : Port) (c₀ : Card) (xs out₀ : List ℕ) where
 -- ---- the loop's invariant
 
 -- The tables and the answers keep their lengths, and the batch has come so far.
-pub record ServeLoop (wire : Port) (info₀ : Info) (flags₀ keys₀ counts₀ pointers₀ windows₀ contents₀ input answers₀ : List ℕ)
-    (info : Info) (flags keys counts pointers windows contents answers : List ℕ) (count from at : ℕ) : Type 0 where
-  pub tables : SameTables flags₀ keys₀ counts₀ pointers₀ windows₀ contents₀ flags keys counts pointers windows contents
+pub record ServeLoop (wire : Port) (info₀ : Info) (flags₀ keys₀ counts₀ pointers₀ multiplicities₀ windows₀ contents₀ input answers₀ : List ℕ)
+    (info : Info) (flags keys counts pointers multiplicities windows contents answers : List ℕ) (count from at : ℕ) : Type 0 where
+  pub tables : SameTables flags₀ keys₀ counts₀ pointers₀ multiplicities₀ windows₀ contents₀ flags keys counts pointers multiplicities windows contents
   pub sameAnswers : length answers ≡ length answers₀
-  pub serving : Serving wire (card info₀ flags₀ keys₀ counts₀ pointers₀ windows₀ contents₀) input answers₀ count (card info flags keys counts pointers windows contents) from at answers
+  pub serving : Serving wire (card info₀ flags₀ keys₀ counts₀ pointers₀ multiplicities₀ windows₀ contents₀) input answers₀ count (card info flags keys counts pointers multiplicities windows contents) from at answers

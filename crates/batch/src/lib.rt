@@ -137,8 +137,9 @@ fn answer_call(
     info: Info,
     flags: &mut [u8],
     keys: &mut [u64],
-    counts: &mut [u16],
+    counts: &mut [u32],
     pointers: &mut [u32],
+    multiplicities: &mut [u16],
     windows: &mut [u64],
     contents: &mut [u8],
     port: Port,
@@ -147,8 +148,8 @@ fn answer_call(
     to: &mut [u8],
     at: usize,
 ) -> Wrote
-    requires { ⌜ found ≡ verdict (lent info flags keys counts pointers windows contents) ⌝ ∗ ⌜ at + answerRoom (info .bytes) call ≤ length (now to) ⌝ }
-    ensures { λ r. ⌜ Writes (λ c. served port c call (now (payload .entry))) (answerBytes call) (answerRoom (info .bytes) call) info flags keys counts pointers windows contents to at r ⌝ }
+    requires { ⌜ found ≡ verdict (lent info flags keys counts pointers multiplicities windows contents) ⌝ ∗ ⌜ at + answerRoom (info .bytes) call ≤ length (now to) ⌝ }
+    ensures { λ r. ⌜ Writes (λ c. served port c call (now (payload .entry))) (answerBytes call) (answerRoom (info .bytes) call) info flags keys counts pointers multiplicities windows contents to at r ⌝ }
 {
     let mut places = [0u16; MOST_BLOCKS as usize];
     let size = lent_size(info, call);
@@ -161,6 +162,7 @@ fn answer_call(
         keys,
         counts,
         pointers,
+        multiplicities,
         windows,
         contents,
         port,
@@ -185,8 +187,9 @@ fn serve_turn(
     info: Info,
     flags: &mut [u8],
     keys: &mut [u64],
-    counts: &mut [u16],
+    counts: &mut [u32],
     pointers: &mut [u32],
+    multiplicities: &mut [u16],
     windows: &mut [u64],
     contents: &mut [u8],
     input: &[u8],
@@ -194,8 +197,8 @@ fn serve_turn(
     to: &mut [u8],
     at: usize,
 ) -> Turned
-    requires { ⌜ found ≡ verdict (lent info flags keys counts pointers windows contents) ⌝ ∗ ⌜ from ≤ length (now input) ⌝ ∗ ⌜ at ≤ length (now to) ⌝ }
-    ensures { λ r. ⌜ Turns (serveTurn wire (roomFrom (now (to .entry)) at)) (roomFrom (now (to .entry)) at) info flags keys counts pointers windows contents input from to at r ⌝ }
+    requires { ⌜ found ≡ verdict (lent info flags keys counts pointers multiplicities windows contents) ⌝ ∗ ⌜ from ≤ length (now input) ⌝ ∗ ⌜ at ≤ length (now to) ⌝ }
+    ensures { λ r. ⌜ Turns (serveTurn wire (roomFrom (now (to .entry)) at)) (roomFrom (now (to .entry)) at) info flags keys counts pointers multiplicities windows contents input from to at r ⌝ }
 {
     let sent = input::find(wire, input, from);
     match sent {
@@ -226,6 +229,7 @@ fn serve_turn(
                 keys,
                 counts,
                 pointers,
+                multiplicities,
                 windows,
                 contents,
                 port,
@@ -253,16 +257,26 @@ pub fn serve(
     info: Info,
     flags: &mut [u8],
     keys: &mut [u64],
-    counts: &mut [u16],
+    counts: &mut [u32],
     pointers: &mut [u32],
+    multiplicities: &mut [u16],
     windows: &mut [u64],
     contents: &mut [u8],
     input: &[u8],
     answers: &mut [u8],
 ) -> Part
-    ensures { λ r. ⌜ Plays (serve wire) info flags keys counts pointers windows contents input answers r ⌝ }
+    ensures { λ r. ⌜ Plays (serve wire) info flags keys counts pointers multiplicities windows contents input answers r ⌝ }
 {
-    let found = audit::audit(info, flags, keys, counts, pointers, windows, contents);
+    let found = audit::audit(
+        info,
+        flags,
+        keys,
+        counts,
+        pointers,
+        multiplicities,
+        windows,
+        contents,
+    );
     let mut left = info;
     let mut count = 0;
     let mut from = 0;
@@ -276,6 +290,7 @@ pub fn serve(
             keys,
             counts,
             pointers,
+            multiplicities,
             windows,
             contents,
             input,

@@ -13,3 +13,4 @@ pub mod RefusedIff
 pub mod Runs
 pub mod Keys
 pub mod Windows
+pub mod Ledger

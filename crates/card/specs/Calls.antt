@@ -7,10 +7,9 @@ use lib.ListN.{length, replicate}
 use Rattle.card.specs.Lists.{allBelow, numbersBelow, numbersFrom}
 use Rattle.card.specs.Pointers.{remove}
 use Rattle.card.specs.Contents.{zeros, overwrite}
-use Rattle.card.specs.Card.{Public, Card, card, allocated, hasKey, isRoot, freeBlocks, windowEnd, longestInterval, count, pointsTo, hasPointers}
+use Rattle.card.specs.Card.{Public, Card, card, allocated, hasKey, isRoot, freeBlocks, windowEnd, longestInterval, count, multiplicity, highestMultiplicity, pointsTo, hasPointers}
 use Rattle.card.specs.Soundness.{ranges, lengths, timeLimit}
-use Rattle.card.specs.Access.{opens}
-use Rattle.card.specs.Plan.{_⇒_, Change, setWindow, setBlock, setKey, takeBlock, freeBlock, addPointer, dropPointer, setTime, nothing, blockPart, numbers, Plan, Result, refused}
+use Rattle.card.specs.Plan.{_⇒_, Change, setWindow, setBlock, setKey, takeBlock, freeBlock, addPointer, raisePointer, lowerPointer, dropPointer, setTime, nothing, blockPart, numbers, Plan, Result}
 use Rattle.card.specs.declared.Info.{Info}
 use Rattle.card.specs.declared.Port.{Port}
 use Rattle.card.specs.declared.Port.the-variants.{Host, Service}
@@ -26,7 +25,7 @@ use Rattle.card.specs.declared.RenewOperands.{RenewOperands}
 use Rattle.card.specs.declared.ForceOperands.{ForceOperands}
 use Rattle.card.specs.declared.TickOperands.{TickOperands}
 use Rattle.card.specs.declared.Refusal.{Refusal}
-use Rattle.card.specs.declared.Refusal.the-variants.{Misshapen, Unsound, NotAllocated, BadOperand, NotOpened, IsRoot, PointerExists, NoPointer, HasPointers, TooFewBlocks, TooFewPlaces, TimeEnds, BadRecord, NoRun}
+use Rattle.card.specs.declared.Refusal.the-variants.{Misshapen, Unsound, NotAllocated, BadOperand, NotOpened, IsRoot, CannotPoint, NoPointer, HasPointers, TooFewBlocks, TooFewPlaces, TimeEnds, BadRecord, NoRun}
 use Rattle.card.specs.declared.Answer.{Answer}
 use Rattle.card.specs.declared.Answer.the-variants.{Refused, Done, Value}
 
@@ -40,7 +39,7 @@ refusalNumber NotAllocated = 3
 refusalNumber BadOperand = 4
 refusalNumber NotOpened = 5
 refusalNumber IsRoot = 6
-refusalNumber PointerExists = 7
+refusalNumber CannotPoint = 7
 refusalNumber NoPointer = 8
 refusalNumber HasPointers = 9
 refusalNumber TooFewBlocks = 10
@@ -103,6 +102,7 @@ freshCard blocks roots bytes c =
     (zeros (4 * blocks))
     (zeros blocks)
     (zeros (length (c .public .pointers)))
+    (zeros (length (c .public .multiplicities)))
     (zeros (2 * blocks))
     (overwrite (c .contents) 0 (zeros (roots * bytes)))
 
@@ -235,7 +235,7 @@ allocContigPlan port p opened o places =
 
 -- ---- CREATE and DELETE
 
--- "CREATE(src, credential, dest, credential)"
+-- "CREATE(src, credential, dest, credential)": "on an existing pointer adds one and uses no new place, so 11 doesn't arise then".
 unfoldable pub createPlan : Port → Public → Bool → Bool → CreateOperands → Plan
 createPlan port p sourceOpened destinationOpened o = record {
   checks =
@@ -244,17 +244,18 @@ createPlan port p sourceOpened destinationOpened o = record {
       ∷ (isRoot p (o .destination) || rootAtHost port p (o .source) ⇒ IsRoot)
       ∷ (not sourceOpened ⇒ NotOpened)
       ∷ (not destinationOpened ⇒ NotOpened)
-      ∷ (eqb (o .source) (o .destination) || pointsTo p (o .source) (o .destination) ⇒ PointerExists)
-      ∷ (eqb (p .info .used) (length (p .pointers)) ⇒ TooFewPlaces)
+      ∷ (eqb (o .source) (o .destination) || eqb (multiplicity p (o .source) (o .destination)) highestMultiplicity ⇒ CannotPoint)
+      ∷ (not (pointsTo p (o .source) (o .destination)) && eqb (p .info .used) (length (p .pointers)) ⇒ TooFewPlaces)
       ∷ [];
   answer = Done;
   shown = nothing;
-  steps = addPointer (o .source) (o .destination) ∷ [];
+  steps = cond (pointsTo p (o .source) (o .destination)) (raisePointer (o .source) (o .destination)) (addPointer (o .source) (o .destination)) ∷ [];
 }
 
--- "DELETE(src, credential, dest)": "at count 0 dest is freed". Result 1 if freed, else 0.
+-- "DELETE(src, credential, dest)": "DELETE takes one"; a pointer of multiplicity 1 goes; "at count 0 dest is freed". Result 1 if freed, else 0.
 unfoldable pub deletePlan : Port → Public → Bool → DeleteOperands → Plan
 deletePlan port p opened o =
+    let once = eqb (multiplicity p (o .source) (o .destination)) 1 in
     let last = eqb (count p (o .destination)) 1 in
     record {
       checks =
@@ -267,7 +268,7 @@ deletePlan port p opened o =
           ∷ [];
       answer = Value (cond last 1 0);
       shown = nothing;
-      steps = dropPointer (o .source) (o .destination) ∷ cond last (freeBlock (o .destination) ∷ []) [];
+      steps = cond once (dropPointer (o .source) (o .destination)) (lowerPointer (o .source) (o .destination)) ∷ cond last (freeBlock (o .destination) ∷ []) [];
     }
 
 -- ---- KEY_READ and KEY_WRITE, the request 2026-02; RENEW and FORCE

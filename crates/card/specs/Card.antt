@@ -5,7 +5,7 @@ use mathlib.Core.List.{List}
 use lib.Dec.{eqb, ltb}
 use lib.ListN.{take, getD}
 use Rattle.card.specs.Lists.{numbersBelow}
-use Rattle.card.specs.Pointers.{pointer, contains, pointsFrom}
+use Rattle.card.specs.Pointers.{pointer, contains, pointsFrom, beside}
 use Rattle.card.specs.Contents.{part}
 use Rattle.card.specs.declared.Info.{Info}
 use Rattle.card.specs.declared.Mode.{Mode}
@@ -17,6 +17,7 @@ pub record Public : Type 0 where
   pub flags : List ℕ
   pub counts : List ℕ
   pub pointers : List ℕ
+  pub multiplicities : List ℕ
   pub windows : List ℕ
 
 pub record Card : Type 0 where
@@ -24,10 +25,10 @@ pub record Card : Type 0 where
   pub keys : List ℕ
   pub contents : List ℕ
 
--- A card from its record and its six tables, in document 01's order.
-abbrev pub card : Info → List ℕ → List ℕ → List ℕ → List ℕ → List ℕ → List ℕ → Card
-card info flags keys counts pointers windows contents = record {
-  public = record { info = info; flags = flags; counts = counts; pointers = pointers; windows = windows };
+-- A card from its record and its seven tables, in document 01's order, the multiplicities after the pointers.
+abbrev pub card : Info → List ℕ → List ℕ → List ℕ → List ℕ → List ℕ → List ℕ → List ℕ → Card
+card info flags keys counts pointers multiplicities windows contents = record {
+  public = record { info = info; flags = flags; counts = counts; pointers = pointers; multiplicities = multiplicities; windows = windows };
   keys = keys;
   contents = contents;
 }
@@ -86,6 +87,18 @@ count p b = getD (p .counts) b 0
 -- The pointers in use: the first M places.
 abbrev pub inUse : Public → List ℕ
 inUse p = take (p .info .used) (p .pointers)
+
+-- The multiplicities beside them.
+abbrev pub timesInUse : Public → List ℕ
+timesInUse p = take (p .info .used) (p .multiplicities)
+
+-- How often a points to b: the multiplicity of that pointer, 0 where there is none.
+unfoldable pub multiplicity : Public → ℕ → ℕ → ℕ
+multiplicity p a b = beside (pointer a b) (inUse p) (timesInUse p)
+
+-- Request 2026-05, "a multiplicity from 1 to 65,535".
+abbrev pub highestMultiplicity : ℕ
+highestMultiplicity = 65535
 
 unfoldable pub pointsTo : Public → ℕ → ℕ → Bool
 pointsTo p a b = contains (pointer a b) (inUse p)

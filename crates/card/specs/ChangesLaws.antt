@@ -8,8 +8,9 @@ use native.Mathlib.Omega.{arith}
 use lib.ListN.{length, take, drop, getD, set, length-set, length-append, length-drop}
 use lib.Seq.{getD-set-same, getD-set-other, take-at, drop-at, drop-drop, length-take-le}
 use Rattle.card.specs.ListsLaws.{same-or-other}
-use Rattle.card.specs.Pointers.{contains, insert, remove}
+use Rattle.card.specs.Pointers.{contains, insert, remove, insertBeside, removeBeside, setBeside}
 use Rattle.card.specs.PointersLaws.{insert-length, remove-length}
+use Rattle.card.specs.BesideLaws.{InStep, in-step, insertBeside-length, removeBeside-length, setBeside-length}
 use Rattle.card.specs.Card.{allocatedFlag, keyFlag, windowAt, keyAt, keyHigh, keyLow}
 use Rattle.card.specs.Plan.{isPresent, highWord, lowWord, otherMode, keyBit, keyedFlags, replaceKey, clearKeys}
 use Rattle.card.specs.declared.Mode.{Mode}
@@ -248,3 +249,62 @@ module _ (w used : ℕ) (ps : List ℕ) (fit : used ≤ length ps) (there : cont
 
   pub removed-length : length (removed ++ (0 ∷ drop used ps)) ≡ length ps
   removed-length = omega (arith, length-append removed (0 ∷ drop used ps), length-drop used ps, removed-long)
+
+-- ---- the multiplicities' table
+
+module _ (w m used : ℕ) (ps ms : List ℕ) (fit : used ≤ length ps) (same : length ms ≡ length ps) where
+  -- The pointers in use and the numbers beside them are in step.
+  pub used-in-step : InStep (take used ps) (take used ms)
+  used-in-step = in-step (take used ps) (take used ms) (length-take-le used ps fit ∙ sym (length-take-le used ms (omega arith)))
+
+  times-long : length (take used ms) ≡ used
+  times-long = length-take-le used ms (omega arith)
+
+  -- A number inserted beside a pointer, and as many places behind it as before.
+  abbrev insertedTimes : List ℕ
+  insertedTimes = insertBeside w m (take used ps) (take used ms)
+
+  insertedTimes-long : length insertedTimes ≡ used + 1
+  insertedTimes-long = omega (arith, insertBeside-length w m used-in-step, times-long)
+
+  pub insertedTimes-take : take (used + 1) (insertedTimes ++ drop (used + 1) ms) ≡ insertedTimes
+  insertedTimes-take = take-at insertedTimes (drop (used + 1) ms) (used + 1) insertedTimes-long
+
+  pub insertedTimes-drop : drop (used + 1) (insertedTimes ++ drop (used + 1) ms) ≡ drop 1 (drop used ms)
+  insertedTimes-drop = drop-at insertedTimes (drop (used + 1) ms) (used + 1) insertedTimes-long ∙ sym (drop-drop 1 used ms)
+
+  pub insertedTimes-length : used < length ps → length (insertedTimes ++ drop (used + 1) ms) ≡ length ms
+  insertedTimes-length room = omega (arith, length-append insertedTimes (drop (used + 1) ms), length-drop (used + 1) ms, insertedTimes-long)
+
+  -- Another number beside a pointer.
+  abbrev setTimes : List ℕ
+  setTimes = setBeside w m (take used ps) (take used ms)
+
+  setTimes-long : length setTimes ≡ used
+  setTimes-long = setBeside-length w m used-in-step ∙ times-long
+
+  pub setTimes-take : take used (setTimes ++ drop used ms) ≡ setTimes
+  setTimes-take = take-at setTimes (drop used ms) used setTimes-long
+
+  pub setTimes-drop : drop used (setTimes ++ drop used ms) ≡ drop used ms
+  setTimes-drop = drop-at setTimes (drop used ms) used setTimes-long
+
+  pub setTimes-length : length (setTimes ++ drop used ms) ≡ length ms
+  setTimes-length = omega (arith, length-append setTimes (drop used ms), length-drop used ms, setTimes-long)
+
+module _ (w used : ℕ) (ps ms : List ℕ) (fit : used ≤ length ps) (same : length ms ≡ length ps) (there : contains w (take used ps) ≡ true) where
+  -- The number beside a pointer that goes, and a 0 behind them.
+  abbrev removedTimes : List ℕ
+  removedTimes = removeBeside w (take used ps) (take used ms)
+
+  removedTimes-long : suc (length removedTimes) ≡ used
+  removedTimes-long = removeBeside-length w (used-in-step w 0 used ps ms fit same) there ∙ times-long w 0 used ps ms fit same
+
+  pub removedTimes-take : take (used - 1) (removedTimes ++ (0 ∷ drop used ms)) ≡ removedTimes
+  removedTimes-take = take-at removedTimes (0 ∷ drop used ms) (used - 1) (omega (arith, removedTimes-long))
+
+  pub removedTimes-drop : drop (used - 1) (removedTimes ++ (0 ∷ drop used ms)) ≡ 0 ∷ drop used ms
+  removedTimes-drop = drop-at removedTimes (0 ∷ drop used ms) (used - 1) (omega (arith, removedTimes-long))
+
+  pub removedTimes-length : length (removedTimes ++ (0 ∷ drop used ms)) ≡ length ms
+  removedTimes-length = omega (arith, length-append removedTimes (0 ∷ drop used ms), length-drop used ms, removedTimes-long)

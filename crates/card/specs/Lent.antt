@@ -17,22 +17,22 @@ abbrev pub LentNumber : Type 0
 LentNumber = Both (RefT ℕ) (RefT ℕ)
 
 -- The card that a `requires` speaks of.
-abbrev pub lent : Info → RefT (List ℕ) → RefT (List ℕ) → RefT (List ℕ) → RefT (List ℕ) → RefT (List ℕ) → RefT (List ℕ) → Card
-lent info flags keys counts pointers windows contents = card info (now flags) (now keys) (now counts) (now pointers) (now windows) (now contents)
+abbrev pub lent : Info → RefT (List ℕ) → RefT (List ℕ) → RefT (List ℕ) → RefT (List ℕ) → RefT (List ℕ) → RefT (List ℕ) → RefT (List ℕ) → Card
+lent info flags keys counts pointers multiplicities windows contents = card info (now flags) (now keys) (now counts) (now pointers) (now multiplicities) (now windows) (now contents)
 
-abbrev pub atEntry : Info → Lent → Lent → Lent → Lent → Lent → Lent → Card
-atEntry info flags keys counts pointers windows contents =
-    lent info (flags .entry) (keys .entry) (counts .entry) (pointers .entry) (windows .entry) (contents .entry)
+abbrev pub atEntry : Info → Lent → Lent → Lent → Lent → Lent → Lent → Lent → Card
+atEntry info flags keys counts pointers multiplicities windows contents =
+    lent info (flags .entry) (keys .entry) (counts .entry) (pointers .entry) (multiplicities .entry) (windows .entry) (contents .entry)
 
-abbrev pub atExit : Info → Lent → Lent → Lent → Lent → Lent → Lent → Card
-atExit info flags keys counts pointers windows contents =
-    lent info (flags .exit) (keys .exit) (counts .exit) (pointers .exit) (windows .exit) (contents .exit)
+abbrev pub atExit : Info → Lent → Lent → Lent → Lent → Lent → Lent → Lent → Card
+atExit info flags keys counts pointers multiplicities windows contents =
+    lent info (flags .exit) (keys .exit) (counts .exit) (pointers .exit) (multiplicities .exit) (windows .exit) (contents .exit)
 
 -- What a function answers and leaves, its buffers among it, is what the rule makes of the card at its entry.
-abbrev pub Performs : (Card → Result) → Info → Lent → Lent → Lent → Lent → Lent → Lent → Outcome → List ℕ → List ℕ → Type 0
-Performs rule info flags keys counts pointers windows contents r out places =
-    Is (rule (atEntry info flags keys counts pointers windows contents))
+abbrev pub Performs : (Card → Result) → Info → Lent → Lent → Lent → Lent → Lent → Lent → Lent → Outcome → List ℕ → List ℕ → Type 0
+Performs rule info flags keys counts pointers multiplicities windows contents r out places =
+    Is (rule (atEntry info flags keys counts pointers multiplicities windows contents))
     (r .answer)
-    (atExit (r .info) flags keys counts pointers windows contents)
+    (atExit (r .info) flags keys counts pointers multiplicities windows contents)
     out
     places

@@ -1,6 +1,7 @@
 pub mod Lists
 pub mod ListsLaws
 pub mod Pointers
+pub mod BesideLaws
 pub mod PointersLaws
 pub mod Contents
 pub mod ContentsLaws
@@ -21,6 +22,7 @@ pub mod Promises
 pub mod Lent
 pub mod Session
 pub mod SessionLaws
+pub mod Ledger
 pub mod BuffersLaws
 pub mod Reach
 pub mod Trials

@@ -1,5 +1,5 @@
--- Tests over a list, and over the numbers below a bound; numbers in a row.
-use Prim.Native.Nat.{ℕ, zero, suc}
+-- Tests over a list, and over the numbers below a bound; numbers in a row; sums.
+use Prim.Native.Nat.{ℕ, zero, suc, _+_}
 use mathlib.Core.Bool.{Bool, true, false, _&&_, _||_, cond}
 use mathlib.Core.List.{List, [], _∷_, _++_}
 
@@ -30,3 +30,8 @@ numbersBelow p (suc n) = numbersBelow p n ++ cond (p n) (n ∷ []) []
 unfoldable pub numbersFrom : ℕ → ℕ → List ℕ
 numbersFrom first zero = []
 numbersFrom first (suc n) = first ∷ numbersFrom (suc first) n
+
+-- The numbers f gives of those below n, added up.
+unfoldable pub sumBelow : (ℕ → ℕ) → ℕ → ℕ
+sumBelow f zero = 0
+sumBelow f (suc n) = f n + sumBelow f n

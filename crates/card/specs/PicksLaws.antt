@@ -11,7 +11,7 @@ use lib.ListN.{length}
 use borrow.Author.Tests.{lt-ltb, ltb-true, eq-eqb, ne-eqb, eqb-true}
 use Rattle.card.specs.Lists.{all, any, numbersBelow}
 use Rattle.card.specs.ListsLaws.{or-left, or-right, or-cases, all-cons, all-head, all-tail, all-append, all-map}
-use Rattle.card.specs.Pointers.{contains, remove}
+use Rattle.card.specs.Pointers.{contains, remove, removeBeside}
 use Rattle.card.specs.PointersLaws.{all-remove, remove-length}
 use Rattle.card.specs.Card.{Public, allocated, freeBlocks}
 use Rattle.card.specs.Takeable.{Without, Distinct, none, more, Takeable}
@@ -26,7 +26,7 @@ pub distinct-tail : {x : ℕ} {xs : List ℕ} → Distinct (x ∷ xs) → Distin
 distinct-tail (more w d) = d
 
 remove-distinct : (w : ℕ) {xs : List ℕ} → Distinct xs → Distinct (remove w xs)
-unfolding remove
+unfolding remove removeBeside
 remove-distinct w none = none
 remove-distinct w (more {x = x} {xs = xs} h d) = go (eqb x w) (remove-distinct w d)
   where
@@ -36,7 +36,7 @@ remove-distinct w (more {x = x} {xs = xs} h d) = go (eqb x w) (remove-distinct w
 
 -- What is removed from a list of different numbers is no more in it.
 remove-without : (w : ℕ) {xs : List ℕ} → Distinct xs → Without w (remove w xs)
-unfolding remove all
+unfolding remove removeBeside all
 remove-without w none = refl
 remove-without w (more {x = x} {xs = xs} h d) = go (eqb x w) refl (remove-without w d)
   where

@@ -6,9 +6,9 @@ use mathlib.Core.Bool.{Bool, true, false, not, cond}
 use mathlib.Core.List.{List, [], _∷_, _++_}
 use mathlib.Core.Option.{Option, none, some}
 use lib.ListN.{drop, set}
-use Rattle.card.specs.Pointers.{pointer, insert, remove}
+use Rattle.card.specs.Pointers.{pointer, insert, remove, insertBeside, removeBeside, setBeside}
 use Rattle.card.specs.Contents.{overwrite, fill, zeros}
-use Rattle.card.specs.Card.{Public, Card, keyFlag, flag, count, windowAt, keyAt, inUse, block}
+use Rattle.card.specs.Card.{Public, Card, keyFlag, flag, count, windowAt, keyAt, inUse, timesInUse, multiplicity, block}
 use Rattle.card.specs.Soundness.{shape, sound}
 use Rattle.card.specs.declared.Info.{Info}
 use Rattle.card.specs.declared.Mode.{Mode}
@@ -55,6 +55,8 @@ pub data Change : Type 0 where
   takeBlock : ℕ → Change
   freeBlock : ℕ → Change
   addPointer : ℕ → ℕ → Change
+  raisePointer : ℕ → ℕ → Change
+  lowerPointer : ℕ → ℕ → Change
   dropPointer : ℕ → ℕ → Change
   setTime : ℕ → Change
 
@@ -93,7 +95,7 @@ abbrev pub withTime : Info → ℕ → Info
 withTime info time = record { blocks = info .blocks; roots = info .roots; bytes = info .bytes; used = info .used; time = time }
 
 abbrev pub withFlags : Public → List ℕ → Public
-withFlags p flags = record { info = p .info; flags = flags; counts = p .counts; pointers = p .pointers; windows = p .windows }
+withFlags p flags = record { info = p .info; flags = flags; counts = p .counts; pointers = p .pointers; multiplicities = p .multiplicities; windows = p .windows }
 
 abbrev pub withWindow : Public → Mode → ℕ → ℕ → Public
 withWindow p mode b end = record {
@@ -101,7 +103,29 @@ withWindow p mode b end = record {
   flags = p .flags;
   counts = p .counts;
   pointers = p .pointers;
+  multiplicities = p .multiplicities;
   windows = set (p .windows) (windowAt mode b) end;
+}
+
+-- A pointer that is there gets another multiplicity.
+abbrev pub withMultiplicity : Public → ℕ → ℕ → ℕ → Public
+withMultiplicity p a b times = record {
+  info = p .info;
+  flags = p .flags;
+  counts = p .counts;
+  pointers = p .pointers;
+  multiplicities = setBeside (pointer a b) times (inUse p) (timesInUse p) ++ drop (p .info .used) (p .multiplicities);
+  windows = p .windows;
+}
+
+abbrev pub withCount : Public → ℕ → ℕ → Public
+withCount p b times = record {
+  info = p .info;
+  flags = p .flags;
+  counts = set (p .counts) b times;
+  pointers = p .pointers;
+  multiplicities = p .multiplicities;
+  windows = p .windows;
 }
 
 -- The flags of a block that is freed.
@@ -120,16 +144,20 @@ changePublic (addPointer a b) p = record {
   flags = p .flags;
   counts = set (p .counts) b (count p b + 1);
   pointers = insert (pointer a b) (inUse p) ++ drop (p .info .used + 1) (p .pointers);
+  multiplicities = insertBeside (pointer a b) 1 (inUse p) (timesInUse p) ++ drop (p .info .used + 1) (p .multiplicities);
   windows = p .windows;
 }
+changePublic (raisePointer a b) p = withMultiplicity (withCount p b (count p b + 1)) a b (multiplicity p a b + 1)
+changePublic (lowerPointer a b) p = withMultiplicity (withCount p b (count p b - 1)) a b (multiplicity p a b - 1)
 changePublic (dropPointer a b) p = record {
   info = withUsed (p .info) (p .info .used - 1);
   flags = p .flags;
-  counts = set (p .counts) b (count p b - 1);
+  counts = set (p .counts) b (count p b - multiplicity p a b);
   pointers = remove (pointer a b) (inUse p) ++ (0 ∷ drop (p .info .used) (p .pointers));
+  multiplicities = removeBeside (pointer a b) (inUse p) (timesInUse p) ++ (0 ∷ drop (p .info .used) (p .multiplicities));
   windows = p .windows;
 }
-changePublic (setTime time) p = record { info = withTime (p .info) time; flags = p .flags; counts = p .counts; pointers = p .pointers; windows = p .windows }
+changePublic (setTime time) p = record { info = withTime (p .info) time; flags = p .flags; counts = p .counts; pointers = p .pointers; multiplicities = p .multiplicities; windows = p .windows }
 
 -- The two words of a block's key for the mode; those of the other key stay.
 abbrev pub replaceKey : List ℕ → Mode → ℕ → NewKey → List ℕ
@@ -147,6 +175,8 @@ changeKeys (setKey mode b key) keys = replaceKey keys mode b key
 changeKeys (takeBlock b) keys = keys
 changeKeys (freeBlock b) keys = clearKeys keys b
 changeKeys (addPointer a b) keys = keys
+changeKeys (raisePointer a b) keys = keys
+changeKeys (lowerPointer a b) keys = keys
 changeKeys (dropPointer a b) keys = keys
 changeKeys (setTime time) keys = keys
 
@@ -158,6 +188,8 @@ changeContents bytes (setKey mode b key) contents = contents
 changeContents bytes (takeBlock b) contents = fill bytes contents b (zeros bytes)
 changeContents bytes (freeBlock b) contents = contents
 changeContents bytes (addPointer a b) contents = contents
+changeContents bytes (raisePointer a b) contents = contents
+changeContents bytes (lowerPointer a b) contents = contents
 changeContents bytes (dropPointer a b) contents = contents
 changeContents bytes (setTime time) contents = contents
 

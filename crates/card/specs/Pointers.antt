@@ -27,20 +27,47 @@ contains w ws = any (λ x. eqb x w) ws
 unfoldable pub pointsFrom : ℕ → List ℕ → Bool
 pointsFrom b ws = any (λ x. eqb (source x) b) ws
 
--- What one pointer adds to the count of a block.
-abbrev pub adds : ℕ → ℕ → ℕ
-adds b w = cond (eqb (destination w) b) 1 0
+-- ---- numbers beside the pointers of a list, place by place: 2026-05, "in a table beside it"
 
--- Document 01, "the number of pointers to that block".
-unfoldable pub pointersTo : ℕ → List ℕ → ℕ
-pointersTo b [] = 0
-pointersTo b (w ∷ ws) = adds b w + pointersTo b ws
+-- The number beside a pointer, 0 where the pointer is not there.
+unfoldable pub beside : ℕ → List ℕ → List ℕ → ℕ
+beside w [] ns = 0
+beside w (x ∷ xs) [] = 0
+beside w (x ∷ xs) (n ∷ ns) = cond (eqb x w) n (beside w xs ns)
 
--- A pointer put into its place in an ascending list.
+-- The numbers beside the pointers that pass a test, added up.
+unfoldable pub total : (ℕ → Bool) → List ℕ → List ℕ → ℕ
+total test [] ns = 0
+total test (x ∷ xs) [] = 0
+total test (x ∷ xs) (n ∷ ns) = cond (test x) n 0 + total test xs ns
+
+-- 2026-05, "the sum of multiplicities", of the pointers to a block.
+abbrev pub pointersTo : ℕ → List ℕ → List ℕ → ℕ
+pointersTo b ws ns = total (λ w. eqb (destination w) b) ws ns
+
+-- Another number beside a pointer that is there.
+unfoldable pub setBeside : ℕ → ℕ → List ℕ → List ℕ → List ℕ
+setBeside w m [] ns = []
+setBeside w m (x ∷ xs) [] = []
+setBeside w m (x ∷ xs) (n ∷ ns) = cond (eqb x w) (m ∷ ns) (n ∷ setBeside w m xs ns)
+
+-- ---- insertion and removal: the pointers and the numbers beside them move together
+
+-- A number put in where w has its place among ascending pointers.
+unfoldable pub insertBeside : ℕ → ℕ → List ℕ → List ℕ → List ℕ
+insertBeside w m [] ns = m ∷ []
+insertBeside w m (x ∷ xs) [] = m ∷ []
+insertBeside w m (x ∷ xs) (n ∷ ns) = cond (ltb w x) (m ∷ (n ∷ ns)) (n ∷ insertBeside w m xs ns)
+
+-- The number where w stands goes, if w is there.
+unfoldable pub removeBeside : ℕ → List ℕ → List ℕ → List ℕ
+removeBeside w [] ns = []
+removeBeside w (x ∷ xs) [] = []
+removeBeside w (x ∷ xs) (n ∷ ns) = cond (eqb x w) ns (n ∷ removeBeside w xs ns)
+
+-- The same of the pointers themselves: w is put into its place, and goes from it.
 unfoldable pub insert : ℕ → List ℕ → List ℕ
-insert w [] = w ∷ []
-insert w (x ∷ xs) = cond (ltb w x) (w ∷ (x ∷ xs)) (x ∷ insert w xs)
+insert w ws = insertBeside w w ws ws
 
 unfoldable pub remove : ℕ → List ℕ → List ℕ
-remove w [] = []
-remove w (x ∷ xs) = cond (eqb x w) xs (x ∷ remove w xs)
+remove w ws = removeBeside w ws ws

@@ -1,16 +1,17 @@
 -- Laws of sorted lists of pointers.
 use Prim.Native.Nat.{ℕ, suc, _+_, _-_, _≤_, _<_}
-use mathlib.Core.Path.{_≡_, refl, sym, ap, subst}
+use mathlib.Core.Path.{_≡_, refl, ap, subst}
 use mathlib.Core.Logic.{_⊎_, inl, inr, ⊎-elim}
 use mathlib.Core.Bool.{Bool, true, false, _||_, not, cond}
 use mathlib.Core.List.{List, [], _∷_}
 use native.Mathlib.Omega.{arith}
 use lib.Dec.{eqb, ltb}
 use lib.ListN.{length}
-use borrow.Author.Tests.{lt-ltb, eq-eqb, ltb-true, ltb-false, eqb-true, eqb-false}
+use borrow.Author.Tests.{lt-ltb, ne-eqb, ltb-true, ltb-false, eqb-true, eqb-false}
 use Rattle.card.specs.Lists.{all, any}
-use Rattle.card.specs.ListsLaws.{and-left, and-right, and-true, or-left, or-right, or-false-left, or-false-right, or-cases, all-cons, all-head, all-tail, absurd-test}
-use Rattle.card.specs.Pointers.{pointer, source, destination, ascending, contains, pointsFrom, adds, pointersTo, insert, remove}
+use Rattle.card.specs.ListsLaws.{and-left, and-right, and-true, or-left, or-right, or-false, or-false-left, or-false-right, or-cases, all-cons, all-head, all-tail, absurd-test}
+use Rattle.card.specs.Pointers.{pointer, source, destination, ascending, contains, pointsFrom, beside, total, insertBeside, removeBeside, insert, remove}
+use Rattle.card.specs.BesideLaws.{in-step-self, insertBeside-length, all-insertBeside, removeBeside-length, all-removeBeside}
 
 -- ---- the ends of a pointer
 
@@ -39,35 +40,15 @@ contains-all p w (x ∷ xs) e h =
 
 pub insert-length : (w : ℕ) (ws : List ℕ) → length (insert w ws) ≡ suc (length ws)
 unfolding insert
-insert-length w [] = refl
-insert-length w (x ∷ xs) = go (ltb w x) (insert-length w xs)
-  where
-    go : (t : Bool) → length (insert w xs) ≡ suc (length xs) → length (cond t (w ∷ (x ∷ xs)) (x ∷ insert w xs)) ≡ suc (suc (length xs))
-    go true e = refl
-    go false e = ap suc e
-
-pub pointersTo-insert : (b w : ℕ) (ws : List ℕ) → pointersTo b (insert w ws) ≡ adds b w + pointersTo b ws
-unfolding insert pointersTo
-pointersTo-insert b w [] = refl
-pointersTo-insert b w (x ∷ xs) = go (ltb w x) (pointersTo-insert b w xs)
-  where
-    go : (t : Bool) → pointersTo b (insert w xs) ≡ adds b w + pointersTo b xs
-        → pointersTo b (cond t (w ∷ (x ∷ xs)) (x ∷ insert w xs)) ≡ adds b w + (adds b x + pointersTo b xs)
-    go true e = refl
-    go false e = omega arith
+insert-length w ws = insertBeside-length w w (in-step-self ws)
 
 pub all-insert : (p : ℕ → Bool) (w : ℕ) (ws : List ℕ) → p w ≡ true → all p ws ≡ true → all p (insert w ws) ≡ true
 unfolding insert
-all-insert p w [] h e = all-cons p w [] h e
-all-insert p w (x ∷ xs) h e = go (ltb w x) (all-insert p w xs h (all-tail p x xs e))
-  where
-    go : (t : Bool) → all p (insert w xs) ≡ true → all p (cond t (w ∷ (x ∷ xs)) (x ∷ insert w xs)) ≡ true
-    go true i = all-cons p w (x ∷ xs) h e
-    go false i = all-cons p x (insert w xs) (all-head p x xs e) i
+all-insert p w ws h e = all-insertBeside p w w (in-step-self ws) h e
 
 -- What an inserted list contains was there, or is the pointer inserted.
 pub contains-insert : (v w : ℕ) (ws : List ℕ) → contains v (insert w ws) ≡ true → (w ≡ v) ⊎ (contains v ws ≡ true)
-unfolding insert contains any
+unfolding insert insertBeside contains any
 contains-insert v w [] e = ⊎-elim (λ q. inl (eqb-true w v q)) (λ q. inr q) (or-cases (eqb w v) false e)
 contains-insert v w (x ∷ xs) e = go (ltb w x) (contains-insert v w xs) e
   where
@@ -95,7 +76,7 @@ ascending-tail x (y ∷ ys) e = and-right (ltb x y) _ e
 
 -- In an ascending list that goes on from x, a number above x that is not there is inserted behind x.
 insert-above : (x w : ℕ) (ws : List ℕ) → x < w → ascending (x ∷ ws) ≡ true → contains w ws ≡ false → ascending (x ∷ insert w ws) ≡ true
-unfolding insert contains any ascending
+unfolding insert insertBeside contains any ascending
 insert-above x w [] h e n = ascending-cons x w [] h refl
 insert-above x w (y ∷ ys) h e n = go (ltb w y) refl (insert-above y w ys)
   where
@@ -113,7 +94,7 @@ insert-above x w (y ∷ ys) h e n = go (ltb w y) refl (insert-above y w ys)
         (f (omega arith) (ascending-tail x (y ∷ ys) e) (or-false-right (eqb y w) _ apart))
 
 pub insert-ascending : (w : ℕ) (ws : List ℕ) → ascending ws ≡ true → contains w ws ≡ false → ascending (insert w ws) ≡ true
-unfolding insert ascending contains any
+unfolding insert insertBeside ascending contains any
 insert-ascending w [] e n = refl
 insert-ascending w (x ∷ xs) e n = go (ltb w x) refl
   where
@@ -130,36 +111,15 @@ insert-ascending w (x ∷ xs) e n = go (ltb w x) refl
 -- ---- remove
 
 pub remove-length : (w : ℕ) (ws : List ℕ) → contains w ws ≡ true → suc (length (remove w ws)) ≡ length ws
-unfolding remove contains any
-remove-length w [] e = absurd-test {t = false} e refl
-remove-length w (x ∷ xs) e = go (eqb x w) refl (remove-length w xs) e
-  where
-    go : (t : Bool) → eqb x w ≡ t → (contains w xs ≡ true → suc (length (remove w xs)) ≡ length xs) → t || contains w xs ≡ true
-        → suc (length (cond t xs (x ∷ remove w xs))) ≡ suc (length xs)
-    go true q f h = refl
-    go false q f h = ap suc (f h)
-
-pub pointersTo-remove : (b w : ℕ) (ws : List ℕ) → contains w ws ≡ true → adds b w + pointersTo b (remove w ws) ≡ pointersTo b ws
-unfolding remove contains any pointersTo
-pointersTo-remove b w [] e = absurd-test {t = false} e refl
-pointersTo-remove b w (x ∷ xs) e = go (eqb x w) refl (pointersTo-remove b w xs) e
-  where
-    go : (t : Bool) → eqb x w ≡ t → (contains w xs ≡ true → adds b w + pointersTo b (remove w xs) ≡ pointersTo b xs) → t || contains w xs ≡ true
-        → adds b w + pointersTo b (cond t xs (x ∷ remove w xs)) ≡ adds b x + pointersTo b xs
-    go true q f h = ap (λ (k : ℕ). adds b k + pointersTo b xs) (sym (eqb-true x w q))
-    go false q f h = let i : adds b w + pointersTo b (remove w xs) ≡ pointersTo b xs = f h in omega arith
+unfolding remove
+remove-length w ws e = removeBeside-length w (in-step-self ws) e
 
 pub all-remove : (p : ℕ → Bool) (w : ℕ) (ws : List ℕ) → all p ws ≡ true → all p (remove w ws) ≡ true
 unfolding remove
-all-remove p w [] e = e
-all-remove p w (x ∷ xs) e = go (eqb x w) (all-remove p w xs (all-tail p x xs e))
-  where
-    go : (t : Bool) → all p (remove w xs) ≡ true → all p (cond t xs (x ∷ remove w xs)) ≡ true
-    go true i = all-tail p x xs e
-    go false i = all-cons p x (remove w xs) (all-head p x xs e) i
+all-remove p w ws e = all-removeBeside p w (in-step-self ws) e
 
 pub contains-remove : (v w : ℕ) (ws : List ℕ) → contains v (remove w ws) ≡ true → contains v ws ≡ true
-unfolding remove contains any
+unfolding remove removeBeside contains any
 contains-remove v w [] e = e
 contains-remove v w (x ∷ xs) e = go (eqb x w) (contains-remove v w xs) e
   where
@@ -176,7 +136,7 @@ ascending-lower x y (z ∷ zs) h e =
     ascending-cons x z zs (omega arith) (ascending-tail y (z ∷ zs) e)
 
 remove-above : (x w : ℕ) (ws : List ℕ) → ascending (x ∷ ws) ≡ true → ascending (x ∷ remove w ws) ≡ true
-unfolding remove
+unfolding remove removeBeside
 remove-above x w [] e = e
 remove-above x w (y ∷ ys) e = go (eqb y w) (remove-above y w ys (ascending-tail x (y ∷ ys) e))
   where
@@ -185,7 +145,7 @@ remove-above x w (y ∷ ys) e = go (eqb y w) (remove-above y w ys (ascending-tai
     go false i = ascending-cons x y (remove w ys) (ascending-below x y ys e) i
 
 pub remove-ascending : (w : ℕ) (ws : List ℕ) → ascending ws ≡ true → ascending (remove w ws) ≡ true
-unfolding remove
+unfolding remove removeBeside
 remove-ascending w [] e = e
 remove-ascending w (x ∷ xs) e = go (eqb x w)
   where
@@ -193,24 +153,39 @@ remove-ascending w (x ∷ xs) e = go (eqb x w)
     go true = ascending-tail x xs e
     go false = remove-above x w xs e
 
--- ---- counts
+-- ---- the number beside one pointer
 
--- A list that contains a pointer to the block counts it.
-pub contains-counted : (b w : ℕ) (ws : List ℕ) → contains w ws ≡ true → destination w ≡ b → 1 ≤ pointersTo b ws
-contains-counted b w ws e q =
-    let one : adds b w ≡ 1 = rw (eq-eqb (destination w) b q) in
-    omega (arith, pointersTo-remove b w ws e)
+-- A number is not behind a higher or equal one in an ascending list.
+ascending-absent : (v x : ℕ) (xs : List ℕ) → v ≤ x → ascending (x ∷ xs) ≡ true → contains v xs ≡ false
+unfolding contains any
+ascending-absent v x [] l e = refl
+ascending-absent v x (y ∷ ys) l e =
+    let below : x < y = ascending-below x y ys e in
+    or-false (eqb y v) _ (ne-eqb y v (λ (q : y ≡ v). omega arith)) (ascending-absent v y ys (omega arith) (ascending-tail x (y ∷ ys) e))
 
--- Where no pointer goes to the block, each pointer goes elsewhere.
-pub uncounted : (b : ℕ) (ws : List ℕ) → pointersTo b ws ≡ 0 → all (λ w. not (eqb (destination w) b)) ws ≡ true
-unfolding pointersTo all
-uncounted b [] e = refl
-uncounted b (w ∷ ws) e = go (eqb (destination w) b) refl (uncounted b ws)
+total-absent : (v : ℕ) (ws ns : List ℕ) → contains v ws ≡ false → total (λ x. eqb x v) ws ns ≡ 0
+unfolding total contains any
+total-absent v [] ns e = refl
+total-absent v (x ∷ xs) [] e = refl
+total-absent v (x ∷ xs) (n ∷ ns) e =
+    let other : cond (eqb x v) n 0 ≡ 0 = rw (or-false-left (eqb x v) _ e) in
+    omega (arith, total-absent v xs ns (or-false-right (eqb x v) _ e))
+
+-- In an ascending list a pointer stands once at most: the numbers beside it, added up, are the one beside it.
+pub total-beside : (v : ℕ) (ws ns : List ℕ) → ascending ws ≡ true → total (λ x. eqb x v) ws ns ≡ beside v ws ns
+unfolding total beside
+total-beside v [] ns e = refl
+total-beside v (x ∷ xs) [] e = refl
+total-beside v (x ∷ xs) (n ∷ ns) e = go (eqb x v) refl (total-beside v xs ns (ascending-tail x xs e))
   where
-    go : (t : Bool) → eqb (destination w) b ≡ t → (pointersTo b ws ≡ 0 → all (λ w. not (eqb (destination w) b)) ws ≡ true)
-        → all (λ w. not (eqb (destination w) b)) (w ∷ ws) ≡ true
-    go true q f = let z : adds b w ≡ 1 = rw q in absurd (omega arith)
-    go false q f = all-cons (λ w. not (eqb (destination w) b)) w ws (ap not q) (f (omega arith))
+    go : (t : Bool) → eqb x v ≡ t → total (λ x. eqb x v) xs ns ≡ beside v xs ns → cond t n 0 + total (λ x. eqb x v) xs ns ≡ cond t n (beside v xs ns)
+    go true q f =
+        let same : x ≡ v = eqb-true x v q in
+        let rest : total (λ x. eqb x v) xs ns ≡ 0 = total-absent v xs ns (ascending-absent v x xs (omega arith) e) in
+        omega arith
+    go false q f = omega arith
+
+-- ---- sources
 
 -- A block of which no pointer starts: each pointer starts elsewhere.
 pub unpointing : (b : ℕ) (ws : List ℕ) → pointsFrom b ws ≡ false → all (λ w. not (eqb (source w) b)) ws ≡ true

@@ -1,5 +1,5 @@
 -- Laws of a call performed, by what the audit finds, and of a list of calls.
-use Prim.Native.Nat.{ℕ, suc}
+use Prim.Native.Nat.{ℕ, suc, _+_, _-_}
 use mathlib.Core.Path.{_≡_, refl, ap, _∙_}
 use mathlib.Core.List.{List, [], _∷_, _++_}
 use mathlib.Core.Option.{Option, none, some}
@@ -7,11 +7,12 @@ use lib.ListN.{length, drop}
 use lib.Seq.{drop-at}
 use Rattle.card.specs.Card.{Public, Card}
 use Rattle.card.specs.Soundness.{verdict}
-use Rattle.card.specs.Plan.{first, audited, Change, setWindow, setBlock, setKey, takeBlock, freeBlock, addPointer, dropPointer, setTime, changePublic, change, changes, Plan, Buffers, settle, judge}
+use Rattle.card.specs.Plan.{first, audited, Change, setWindow, setBlock, setKey, takeBlock, freeBlock, addPointer, raisePointer, lowerPointer, dropPointer, setTime, withUsed, withTime, changePublic, change, changes, Plan, Buffers, settle, judge}
 use Rattle.card.specs.Promises.{Is, judged-misshapen, judged-unsound, judged-sound}
 use Rattle.card.specs.Access.{admits}
 use Rattle.card.specs.Calls.{keyPlan}
 use Rattle.card.specs.Session.{keyCall, Request, Sent, Reply, plan, portOf, EitherPort, free, tick, audit, perform, performSound, reply, performed, replies, afterAll}
+use Rattle.card.specs.declared.Info.{Info}
 use Rattle.card.specs.declared.Port.{Port}
 use Rattle.card.specs.declared.Mode.{Mode}
 use Rattle.card.specs.declared.Mode.the-variants.{Reading, Writing}
@@ -96,36 +97,56 @@ pub drop-replies : (c : Card) (xs ys : List Sent) → drop (length xs) (replies 
 drop-replies c xs ys =
     ap (drop (length xs)) (replies-append c xs ys) ∙ drop-at (replies c xs) (replies (afterAll c xs) ys) (length xs) (length-replies c xs)
 
--- ---- no call changes the number of bytes in a block, on any card, sound or not
+-- ---- the numbers of the record that no call changes, on any card, sound or not
 
-changePublic-bytes : (step : Change) (p : Public) → changePublic step p .info .bytes ≡ p .info .bytes
-unfolding changePublic
-changePublic-bytes (setWindow mode b end) p = refl
-changePublic-bytes (setBlock b ys) p = refl
-changePublic-bytes (setKey mode b key) p = refl
-changePublic-bytes (takeBlock b) p = refl
-changePublic-bytes (freeBlock b) p = refl
-changePublic-bytes (addPointer a b) p = refl
-changePublic-bytes (dropPointer a b) p = refl
-changePublic-bytes (setTime time) p = refl
+-- A number of the record that neither M nor T is.
+record Fixed (size : Info → ℕ) : Type 0 where
+  used : (info : Info) (n : ℕ) → size (withUsed info n) ≡ size info
+  time : (info : Info) (n : ℕ) → size (withTime info n) ≡ size info
 
-changes-bytes : (c : Card) (steps : List Change) → changes c steps .public .info .bytes ≡ c .public .info .bytes
-unfolding changes change
-changes-bytes c [] = refl
-changes-bytes c (step ∷ steps) = changes-bytes (change c step) steps ∙ changePublic-bytes step (c .public)
+module _ {size : Info → ℕ} (fixed : Fixed size) where
+  changePublic-size : (step : Change) (p : Public) → size (changePublic step p .info) ≡ size (p .info)
+  unfolding changePublic
+  changePublic-size (setWindow mode b end) p = refl
+  changePublic-size (setBlock b ys) p = refl
+  changePublic-size (setKey mode b key) p = refl
+  changePublic-size (takeBlock b) p = refl
+  changePublic-size (freeBlock b) p = refl
+  changePublic-size (addPointer a b) p = fixed .used (p .info) (p .info .used + 1)
+  changePublic-size (raisePointer a b) p = refl
+  changePublic-size (lowerPointer a b) p = refl
+  changePublic-size (dropPointer a b) p = fixed .used (p .info) (p .info .used - 1)
+  changePublic-size (setTime time) p = fixed .time (p .info) time
 
-settle-bytes : (c : Card) (lent : Buffers) (p : Plan) (o : Option Refusal) → settle c lent p o .after .public .info .bytes ≡ c .public .info .bytes
-unfolding settle
-settle-bytes c lent p none = changes-bytes c (p .steps)
-settle-bytes c lent p (some r) = refl
+  changes-size : (c : Card) (steps : List Change) → size (changes c steps .public .info) ≡ size (c .public .info)
+  unfolding changes change
+  changes-size c [] = refl
+  changes-size c (step ∷ steps) = changes-size (change c step) steps ∙ changePublic-size step (c .public)
+
+  settle-size : (c : Card) (lent : Buffers) (p : Plan) (o : Option Refusal) → size (settle c lent p o .after .public .info) ≡ size (c .public .info)
+  unfolding settle
+  settle-size c lent p none = changes-size c (p .steps)
+  settle-size c lent p (some r) = refl
+
+  perform-size : (port : Port) (c : Card) (q : Request) → size (perform port c q .after .public .info) ≡ size (c .public .info)
+  unfolding perform judge
+  perform-size port c q =
+      let p = plan port c (q .call) (q .lent) in
+      settle-size c (q .lent) p (first (audited c (p .checks)))
+
+  afterAll-size : (c : Card) (xs : List Sent) → size (afterAll c xs .public .info) ≡ size (c .public .info)
+  unfolding afterAll
+  afterAll-size c [] = refl
+  afterAll-size c (x ∷ xs) = afterAll-size (performed c x .after) xs ∙ perform-size (x .port) c (x .request)
+
+fixed-bytes : Fixed (λ (i : Info). i .bytes)
+fixed-bytes = record { used = λ i n. refl; time = λ i n. refl }
 
 pub perform-bytes : (port : Port) (c : Card) (q : Request) → perform port c q .after .public .info .bytes ≡ c .public .info .bytes
-unfolding perform judge
-perform-bytes port c q =
-    let p = plan port c (q .call) (q .lent) in
-    settle-bytes c (q .lent) p (first (audited c (p .checks)))
+perform-bytes = perform-size fixed-bytes
 
 pub afterAll-bytes : (c : Card) (xs : List Sent) → afterAll c xs .public .info .bytes ≡ c .public .info .bytes
-unfolding afterAll
-afterAll-bytes c [] = refl
-afterAll-bytes c (x ∷ xs) = afterAll-bytes (performed c x .after) xs ∙ perform-bytes (x .port) c (x .request)
+afterAll-bytes = afterAll-size fixed-bytes
+
+pub afterAll-blocks : (c : Card) (xs : List Sent) → afterAll c xs .public .info .blocks ≡ c .public .info .blocks
+afterAll-blocks = afterAll-size (record { used = λ i n. refl; time = λ i n. refl })

@@ -7,8 +7,8 @@ use lib.Dec.{eqb}
 use lib.ListN.{length, drop}
 use Rattle.card.specs.Lists.{all}
 use Rattle.card.specs.Pointers.{ascending, source, destination, pointersTo}
-use Rattle.card.specs.Card.{Public, Card, flag, allocatedFlag, keyFlag, allocated, windowEnd, longestInterval, count, inUse, keyHigh, keyLow}
-use Rattle.card.specs.Soundness.{timeLimit, pointerRight}
+use Rattle.card.specs.Card.{Public, Card, flag, allocatedFlag, keyFlag, allocated, windowEnd, longestInterval, count, inUse, timesInUse, keyHigh, keyLow}
+use Rattle.card.specs.Soundness.{timeLimit, pointerRight, multiplicityRight}
 use Rattle.card.specs.declared.Mode.{Mode}
 
 -- ---- shape
@@ -28,6 +28,7 @@ pub record HasLengths (blocks bytes : ℕ) (c : Card) : Type 0 where
   pub counts : length (c .public .counts) ≡ blocks
   pub placesLow : 1 ≤ length (c .public .pointers)
   pub placesHigh : length (c .public .pointers) ≤ 16384
+  pub multiplicities : length (c .public .multiplicities) ≡ length (c .public .pointers)
   pub windows : length (c .public .windows) ≡ 2 * blocks
   pub contents : length (c .contents) ≡ blocks * bytes
 
@@ -66,8 +67,10 @@ pub record Consistent (c : Card) : Type 0 where
   pub absentKey : (mode : Mode) (b : ℕ) → b < c .public .info .blocks → keyFlag mode (flag (c .public) b) ≡ false → KeyZero c mode b
   pub ascends : ascending (inUse (c .public)) ≡ true
   pub restZero : all (λ w. eqb w 0) (drop (c .public .info .used) (c .public .pointers)) ≡ true
+  pub timesRight : all (λ n. multiplicityRight n) (timesInUse (c .public)) ≡ true
+  pub restTimesZero : all (λ n. eqb n 0) (drop (c .public .info .used) (c .public .multiplicities)) ≡ true
   pub pointersRight : all (λ w. pointerRight (c .public) w) (inUse (c .public)) ≡ true
-  pub counts : (b : ℕ) → b < c .public .info .blocks → count (c .public) b ≡ pointersTo b (inUse (c .public))
+  pub counts : (b : ℕ) → b < c .public .info .blocks → count (c .public) b ≡ pointersTo b (inUse (c .public)) (timesInUse (c .public))
   pub pointed : (b : ℕ) → b < c .public .info .blocks → c .public .info .roots ≤ b → allocatedFlag (flag (c .public) b) ≡ true → 1 ≤ count (c .public) b
   pub windowsLow : (mode : Mode) (b : ℕ) → b < c .public .info .blocks → windowEnd (c .public) mode b ≤ c .public .info .time + longestInterval
 

@@ -6,7 +6,7 @@ use lib.Dec.{eqb, ltb, leb}
 use lib.ListN.{length, drop}
 use Rattle.card.specs.Lists.{every, all, allBelow}
 use Rattle.card.specs.Pointers.{ascending, source, destination, pointersTo}
-use Rattle.card.specs.Card.{Public, Card, flag, allocatedFlag, keyFlag, allocated, isRoot, windowEnd, longestInterval, count, inUse, keyHigh, keyLow}
+use Rattle.card.specs.Card.{Public, Card, flag, allocatedFlag, keyFlag, allocated, isRoot, windowEnd, longestInterval, count, inUse, timesInUse, highestMultiplicity, keyHigh, keyLow}
 use Rattle.card.specs.declared.Mode.{Mode}
 use Rattle.card.specs.declared.Mode.the-variants.{Reading, Writing}
 use Rattle.card.specs.declared.Verdict.{Verdict}
@@ -41,6 +41,7 @@ lengthClauses blocks bytes c =
     ∷ eqb (length (c .public .counts)) blocks
     ∷ leb 1 (length (c .public .pointers))
     ∷ leb (length (c .public .pointers)) 16384
+    ∷ eqb (length (c .public .multiplicities)) (length (c .public .pointers))
     ∷ eqb (length (c .public .windows)) (2 * blocks)
     ∷ eqb (length (c .contents)) (blocks * bytes)
     ∷ []
@@ -93,9 +94,9 @@ module _ (c : Card) (b : ℕ) where
   unfoldable pub absentKeyZero : Mode → Bool
   absentKeyZero mode = keyFlag mode (flag (c .public) b) || keyZero mode
 
-  -- "each count the number of pointers to that block"
+  -- Request 2026-05, "Counts .. equal the sum of multiplicities" of the pointers to that block.
   unfoldable pub countRight : Bool
-  countRight = eqb (count (c .public) b) (pointersTo b (inUse (c .public)))
+  countRight = eqb (count (c .public) b) (pointersTo b (inUse (c .public)) (timesInUse (c .public)))
 
   -- "at least 1 for an allocated non-root"
   unfoldable pub pointedTo : Bool
@@ -117,6 +118,10 @@ pointerRight p w =
     ∷ not (eqb (source w) (destination w))
     ∷ [])
 
+-- Request 2026-05, "a multiplicity from 1 to 65,535"
+unfoldable pub multiplicityRight : ℕ → Bool
+multiplicityRight n = leb 1 n && leb n highestMultiplicity
+
 -- ---- soundness, of the card
 
 abbrev pub soundClauses : Card → List Bool
@@ -129,6 +134,8 @@ soundClauses c =
     ∷ allBelow (λ b. absentKeyZero c b Writing) blocks
     ∷ ascending (inUse (c .public))
     ∷ all (λ w. eqb w 0) (drop (c .public .info .used) (c .public .pointers))
+    ∷ all (λ n. multiplicityRight n) (timesInUse (c .public))
+    ∷ all (λ n. eqb n 0) (drop (c .public .info .used) (c .public .multiplicities))
     ∷ all (λ w. pointerRight (c .public) w) (inUse (c .public))
     ∷ allBelow (λ b. countRight c b) blocks
     ∷ allBelow (λ b. pointedTo c b) blocks

@@ -1,17 +1,15 @@
 -- The two ways between the tests of shape and soundness and the statements of SoundCard.
-use Prim.Native.Nat.{ℕ, _+_, _*_, _%_, _≤_, _<_}
+use Prim.Native.Nat.{ℕ, _≤_, _<_}
 use mathlib.Core.Path.{_≡_, refl, ap}
 use mathlib.Core.Bool.{Bool, true, false, _||_, not, cond}
 use mathlib.Core.List.{[], _∷_}
 use native.Mathlib.Omega.{arith}
-use lib.Dec.{eqb, ltb}
-use lib.ListN.{length, drop}
+use lib.Dec.{eqb, ltb, leb}
 use borrow.Author.Tests.{lt-ltb, le-ltb, le-leb, eq-eqb, ne-eqb, ltb-true, ltb-false, leb-true, eqb-true, eqb-false, not-true, not-false}
-use Rattle.card.specs.Lists.{all}
 use Rattle.card.specs.ListsLaws.{and-left, and-right, and-true, or-else, or-false, or-false-left, or-false-right, every-true, true-every, allBelow-true, true-allBelow}
-use Rattle.card.specs.Pointers.{ascending, source, destination, pointersTo}
-use Rattle.card.specs.Card.{Public, Card, flag, allocatedFlag, keyFlag, allocated, isRoot, windowEnd, longestInterval, count, inUse, keyHigh, keyLow}
-use Rattle.card.specs.Soundness.{timeLimit, rangeClauses, ranges, lengthClauses, lengths, shapeClauses, shape, soundClauses, flagsBelow8, rootAllocated, keyZero, unallocatedEmpty, absentKeyZero, countRight, pointedTo, windowInTime, pointerRight, sound, verdict}
+use Rattle.card.specs.Pointers.{source, destination}
+use Rattle.card.specs.Card.{Public, Card, flag, allocatedFlag, keyFlag, allocated, isRoot, windowEnd, count, highestMultiplicity, keyHigh}
+use Rattle.card.specs.Soundness.{rangeClauses, ranges, lengthClauses, lengths, shapeClauses, shape, soundClauses, flagsBelow8, rootAllocated, keyZero, unallocatedEmpty, absentKeyZero, countRight, pointedTo, windowInTime, pointerRight, multiplicityRight, sound, verdict}
 use Rattle.card.specs.SoundCard.{InRanges, HasLengths, Shaped, KeyZero, Empty, RightPointer, Consistent, SoundCard}
 use Rattle.card.specs.declared.Mode.{Mode}
 use Rattle.card.specs.declared.Mode.the-variants.{Reading, Writing}
@@ -75,8 +73,9 @@ lengths-true blocks bytes c e =
       counts = eqb-true _ _ (h .1 .1 .0);
       placesLow = leb-true _ _ (h .1 .1 .1 .0);
       placesHigh = leb-true _ _ (h .1 .1 .1 .1 .0);
-      windows = eqb-true _ _ (h .1 .1 .1 .1 .1 .0);
-      contents = eqb-true _ _ (h .1 .1 .1 .1 .1 .1 .0);
+      multiplicities = eqb-true _ _ (h .1 .1 .1 .1 .1 .0);
+      windows = eqb-true _ _ (h .1 .1 .1 .1 .1 .1 .0);
+      contents = eqb-true _ _ (h .1 .1 .1 .1 .1 .1 .1 .0);
     }
 
 pub true-lengths : {blocks bytes : ℕ} {c : Card} → HasLengths blocks bytes c → lengths blocks bytes c ≡ true
@@ -93,10 +92,13 @@ true-lengths h =
             (
               le-leb _ _ (h .placesHigh),
               (
-                eq-eqb _ _ (h .windows),
+                eq-eqb _ _ (h .multiplicities),
                 (
-                  eq-eqb _ _ (h .contents),
-                  tt,
+                  eq-eqb _ _ (h .windows),
+                  (
+                    eq-eqb _ _ (h .contents),
+                    tt,
+                  ),
                 ),
               ),
             ),
@@ -255,12 +257,14 @@ sound-true c e =
       ];
       ascends = h .1 .1 .1 .1 .1 .0;
       restZero = h .1 .1 .1 .1 .1 .1 .0;
-      pointersRight = h .1 .1 .1 .1 .1 .1 .1 .0;
-      counts = λ b l. eqb-true _ _ (allBelow-true (λ b. countRight c b) blocks (h .1 .1 .1 .1 .1 .1 .1 .1 .0) b l);
-      pointed = λ b l. pointedTo-true c b (allBelow-true (λ b. pointedTo c b) blocks (h .1 .1 .1 .1 .1 .1 .1 .1 .1 .0) b l);
+      timesRight = h .1 .1 .1 .1 .1 .1 .1 .0;
+      restTimesZero = h .1 .1 .1 .1 .1 .1 .1 .1 .0;
+      pointersRight = h .1 .1 .1 .1 .1 .1 .1 .1 .1 .0;
+      counts = λ b l. eqb-true _ _ (allBelow-true (λ b. countRight c b) blocks (h .1 .1 .1 .1 .1 .1 .1 .1 .1 .1 .0) b l);
+      pointed = λ b l. pointedTo-true c b (allBelow-true (λ b. pointedTo c b) blocks (h .1 .1 .1 .1 .1 .1 .1 .1 .1 .1 .1 .0) b l);
       windowsLow = elim [
-        | Reading ↦ λ b l. leb-true _ _ (allBelow-true (λ b. windowInTime c b Reading) blocks (h .1 .1 .1 .1 .1 .1 .1 .1 .1 .1 .0) b l)
-        | Writing ↦ λ b l. leb-true _ _ (allBelow-true (λ b. windowInTime c b Writing) blocks (h .1 .1 .1 .1 .1 .1 .1 .1 .1 .1 .1 .0) b l)
+        | Reading ↦ λ b l. leb-true _ _ (allBelow-true (λ b. windowInTime c b Reading) blocks (h .1 .1 .1 .1 .1 .1 .1 .1 .1 .1 .1 .1 .0) b l)
+        | Writing ↦ λ b l. leb-true _ _ (allBelow-true (λ b. windowInTime c b Writing) blocks (h .1 .1 .1 .1 .1 .1 .1 .1 .1 .1 .1 .1 .1 .0) b l)
       ];
     }
 
@@ -283,16 +287,22 @@ true-sound {c} h =
                 (
                   h .restZero,
                   (
-                    h .pointersRight,
+                    h .timesRight,
                     (
-                      true-allBelow _ blocks (λ b l. eq-eqb _ _ (h .counts b l)),
+                      h .restTimesZero,
                       (
-                        true-allBelow _ blocks (λ b l. true-pointedTo c b (h .pointed b l)),
+                        h .pointersRight,
                         (
-                          true-allBelow _ blocks (λ b l. le-leb _ _ (h .windowsLow Reading b l)),
+                          true-allBelow _ blocks (λ b l. eq-eqb _ _ (h .counts b l)),
                           (
-                            true-allBelow _ blocks (λ b l. le-leb _ _ (h .windowsLow Writing b l)),
-                            tt,
+                            true-allBelow _ blocks (λ b l. true-pointedTo c b (h .pointed b l)),
+                            (
+                              true-allBelow _ blocks (λ b l. le-leb _ _ (h .windowsLow Reading b l)),
+                              (
+                                true-allBelow _ blocks (λ b l. le-leb _ _ (h .windowsLow Writing b l)),
+                                tt,
+                              ),
+                            ),
                           ),
                         ),
                       ),
@@ -305,6 +315,19 @@ true-sound {c} h =
         ),
       ),
     )
+
+-- A right multiplicity is from 1 to 65,535.
+pub multiplicityRight-low : (n : ℕ) → multiplicityRight n ≡ true → 1 ≤ n
+unfolding multiplicityRight
+multiplicityRight-low n e = leb-true _ _ (and-left _ _ e)
+
+pub multiplicityRight-high : (n : ℕ) → multiplicityRight n ≡ true → n ≤ highestMultiplicity
+unfolding multiplicityRight
+multiplicityRight-high n e = leb-true _ _ (and-right (leb 1 n) _ e)
+
+pub true-multiplicityRight : (n : ℕ) → 1 ≤ n → n ≤ highestMultiplicity → multiplicityRight n ≡ true
+unfolding multiplicityRight
+true-multiplicityRight n low high = and-true _ _ (le-leb _ _ low) (le-leb _ _ high)
 
 -- ---- what soundness gives
 

@@ -1,16 +1,16 @@
 -- Document 01, "Marked trials" T1 to T12, its example of ten records as calls, and its mistakes to exclude, each in a row of its own or one of these:
 -- rows of one table, shown of the rules by one proof that is computed. Behind them rows of the requests.
-use Prim.Native.Nat.{ℕ, zero}
+use Prim.Native.Nat.{ℕ}
 use mathlib.Core.Path.{_≡_, refl}
-use mathlib.Core.List.{List, [], _∷_, map}
+use mathlib.Core.List.{List, [], _∷_, _++_, map}
 use lib.ListN.{replicate}
 use Rattle.card.specs.Lists.{every, all, any, allBelow, numbersBelow, numbersFrom}
-use Rattle.card.specs.Pointers.{ascending, contains, pointsFrom, pointersTo, insert, remove}
+use Rattle.card.specs.Pointers.{ascending, contains, pointsFrom, insert, remove, beside, total, insertBeside, removeBeside, setBeside}
 use Rattle.card.specs.Contents.{overwrite, part, fill, zeros}
-use Rattle.card.specs.Card.{Card, card, allocated, hasKey, freeBlocks, windowOpen, pointsTo, hasPointers}
-use Rattle.card.specs.Soundness.{ranges, lengths, shape, flagsBelow8, rootAllocated, keyZero, unallocatedEmpty, absentKeyZero, countRight, pointedTo, windowInTime, pointerRight, sound}
+use Rattle.card.specs.Card.{Card, card, allocated, hasKey, freeBlocks, windowOpen, multiplicity, pointsTo, hasPointers}
+use Rattle.card.specs.Soundness.{ranges, lengths, shape, flagsBelow8, rootAllocated, keyZero, unallocatedEmpty, absentKeyZero, countRight, pointedTo, windowInTime, pointerRight, multiplicityRight, sound}
 use Rattle.card.specs.Access.{keyIs, keyOpens, opensKeyed, opensRoot, opensPointed, opens, admits}
-use Rattle.card.specs.Plan.{first, audited, changePublic, changeKeys, changeContents, change, changes, outAfter, placesAfter, settle, judge, Buffers}
+use Rattle.card.specs.Plan.{first, audited, changePublic, changeKeys, changeContents, change, changes, outAfter, placesAfter, settle, judge, withUsed, Buffers}
 use Rattle.card.specs.Calls.{rootAtHost, windowAfter, opensWindow, freshInfo, formatResult, format, readPlan, writePlan, wanted, nearest, picks, takeAll, allocPlan, isRun, runStarts, nearestRun, allocContigPlan, createPlan, deletePlan, keyPlan, modeOf, renewPlan, forcePlan, freePlan, tickPlan, auditPlan}
 use Rattle.card.specs.Session.{keyCall, Sent, plan, perform, reported, reports, traits}
 use Rattle.card.specs.declared.Port.{Port}
@@ -26,14 +26,14 @@ use Rattle.card.specs.declared.Call.the-variants.{Read, Write, Alloc, Al
 
 -- To compute by the rules, a proof unfolds this one name.
 unfoldable pub rules : Unit {0}
-unfolding every all any allBelow numbersBelow numbersFrom ascending contains pointsFrom pointersTo insert remove overwrite part fill allocated hasKey freeBlocks windowOpen pointsTo hasPointers ranges lengths shape flagsBelow8 rootAllocated keyZero unallocatedEmpty absentKeyZero countRight pointedTo windowInTime pointerRight sound keyIs keyOpens opensKeyed opensRoot opensPointed opens admits first audited changePublic changeKeys changeContents change changes outAfter placesAfter settle judge rootAtHost windowAfter opensWindow formatResult format readPlan writePlan wanted nearest picks takeAll allocPlan isRun runStarts nearestRun allocContigPlan createPlan deletePlan keyPlan modeOf renewPlan forcePlan freePlan tickPlan auditPlan plan perform reported reports traits
+unfolding every all any allBelow numbersBelow numbersFrom ascending contains pointsFrom insert remove beside total insertBeside removeBeside setBeside overwrite part fill allocated hasKey freeBlocks windowOpen multiplicity pointsTo hasPointers ranges lengths shape flagsBelow8 rootAllocated keyZero unallocatedEmpty absentKeyZero countRight pointedTo windowInTime pointerRight multiplicityRight sound keyIs keyOpens opensKeyed opensRoot opensPointed opens admits first audited changePublic changeKeys changeContents change changes outAfter placesAfter settle judge rootAtHost windowAfter opensWindow formatResult format readPlan writePlan wanted nearest picks takeAll allocPlan isRun runStarts nearestRun allocContigPlan createPlan deletePlan keyPlan modeOf renewPlan forcePlan freePlan tickPlan auditPlan plan perform reported reports traits
 rules = tt
 
 -- ---- the player's card
 
 -- Tables of the player's lengths, N 16, R 1, B 512 and P 32, before FORMAT. The contents are 8,192 zero bytes.
 abbrev pub blankCard : Card
-blankCard = card (freshInfo 16 1 512) (zeros 16) (zeros 64) (zeros 16) (zeros 32) (zeros 32) (zeros 8192)
+blankCard = card (freshInfo 16 1 512) (zeros 16) (zeros 64) (zeros 16) (zeros 32) (zeros 32) (zeros 32) (zeros 8192)
 
 -- Document 01, "fresh player card".
 unfoldable pub playerCard : Card
@@ -224,6 +224,37 @@ trialTable =
     ∷ read Host 1 (Reference 0) 0
     ∷ []
     yields (0 ∷ 1 ∷ []) ∷ (0 ∷ zeros8) ∷ (0 ∷ zeros8) ∷ (0 ∷ 9 ∷ []) ∷ (0 ∷ zeros8) ∷ (0 ∷ 10 ∷ []) ∷ (5 ∷ []) ∷ [])
+    -- request 2026-05: a pointer made twice is taken away twice, and 9 is judged on the sum
+    ∷ (alloc Service 0 65535 1
+    ∷ alloc Service 1 65535 1
+    ∷ create Service 0 Nothing 1 Nothing
+    ∷ delete Service 0 1
+    ∷ delete Service 0 1
+    ∷ delete Service 1 2
+    ∷ delete Service 0 1
+    ∷ delete Service 0 1
+    ∷ free
+    ∷ []
+    yields (0 ∷ 1 ∷ []) ∷ (0 ∷ 2 ∷ []) ∷ (0 ∷ []) ∷ (0 ∷ 0 ∷ []) ∷ (9 ∷ []) ∷ (0 ∷ 1 ∷ []) ∷ (0 ∷ 1 ∷ []) ∷ (3 ∷ []) ∷ (0 ∷ 15 ∷ []) ∷ [])
+    -- a block is freed with its last pointer, whichever block it comes from
+    ∷ (alloc Service 0 65535 2
+    ∷ create Service 2 Nothing 1 Nothing
+    ∷ delete Service 0 1
+    ∷ delete Service 2 1
+    ∷ []
+    yields (0 ∷ 1 ∷ 2 ∷ []) ∷ (0 ∷ []) ∷ (0 ∷ 0 ∷ []) ∷ (0 ∷ 1 ∷ []) ∷ [])
+    -- in a full table CREATE is done on a pointer that is there, and refused 11 for a new one
+    ∷ (alloc Service 0 65535 15
+    ∷ (map (λ b. create Service 1 Nothing b Nothing) (2 ∷ 3 ∷ 4 ∷ 5 ∷ 6 ∷ 7 ∷ 8 ∷ 9 ∷ 10 ∷ 11 ∷ 12 ∷ 13 ∷ 14 ∷ 15 ∷ [])
+    ++ (create Service 2 Nothing 3 Nothing
+    ∷ create Service 2 Nothing 4 Nothing
+    ∷ create Service 2 Nothing 5 Nothing
+    ∷ create Service 2 Nothing 6 Nothing
+    ∷ create Service 2 Nothing 5 Nothing
+    ∷ create Service 1 Nothing 15 Nothing
+    ∷ []))
+    yields (0 ∷ 1 ∷ 2 ∷ 3 ∷ 4 ∷ 5 ∷ 6 ∷ 7 ∷ 8 ∷ 9 ∷ 10 ∷ 11 ∷ 12 ∷ 13 ∷ 14 ∷ 15 ∷ [])
+    ∷ (replicate 17 (0 ∷ []) ++ ((11 ∷ []) ∷ (0 ∷ []) ∷ (0 ∷ []) ∷ [])))
     ∷ []
 
 -- What the rules report of a row's calls.
@@ -234,3 +265,25 @@ trialReports t = reports playerCard (t .calls)
 pub trials : map trialReports trialTable ≡ map (λ t. t .expected) trialTable
 unfolding rules playerCard trialTable trialReports
 trials = refl
+
+-- The player's card with one pointer, from 0 to 1, made so often.
+abbrev pub madeOften : ℕ → Card
+madeOften times =
+    card (withUsed (freshInfo 16 1 512) 1)
+    (1 ∷ 1 ∷ zeros 14)
+    (zeros 64)
+    (0 ∷ times ∷ zeros 14)
+    (1 ∷ zeros 31)
+    (times ∷ zeros 31)
+    (zeros 32)
+    (zeros 8192)
+
+-- A pointer of multiplicity 65,534 is made once more, one of 65,535 is not: 7. One of 0 is unsound: 2.
+pub highest-multiplicity : reports (madeOften 65534) (create Service 0 Nothing 1 Nothing ∷ create Service 0 Nothing 1 Nothing ∷ delete Service 0 1 ∷ delete Service 0 1 ∷ [])
+    ≡ (0 ∷ []) ∷ (7 ∷ []) ∷ (0 ∷ 0 ∷ []) ∷ (0 ∷ 0 ∷ []) ∷ []
+unfolding rules
+highest-multiplicity = refl
+
+pub lowest-multiplicity : reports (madeOften 0) (free ∷ []) ≡ (2 ∷ []) ∷ []
+unfolding rules
+lowest-multiplicity = refl

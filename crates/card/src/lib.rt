@@ -14,6 +14,9 @@ pub const TIME_LIMIT: u64 = 1099511627776;
 // The longest interval, in seconds.
 pub const LONGEST_INTERVAL: u32 = 86400;
 
+// 2026-05: the highest multiplicity of a pointer.
+pub const HIGHEST_MULTIPLICITY: u16 = 65535;
+
 // The hint of an ALLOC or ALLOC_CONTIG without one, and the most blocks that one of them takes.
 pub const NO_HINT: u16 = 65535;
 
@@ -137,7 +140,7 @@ pub enum Refusal {
     BadOperand,
     NotOpened,
     IsRoot,
-    PointerExists,
+    CannotPoint,
     NoPointer,
     HasPointers,
     TooFewBlocks,

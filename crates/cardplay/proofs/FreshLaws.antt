@@ -10,7 +10,7 @@ use Rattle.card.specs.declared.Answer.the-variants.{Done}
 
 -- The same tables with another record.
 abbrev withInfo : Info → Card → Card
-withInfo info c = card info (c .public .flags) (c .keys) (c .public .counts) (c .public .pointers) (c .public .windows) (c .contents)
+withInfo info c = card info (c .public .flags) (c .keys) (c .public .counts) (c .public .pointers) (c .public .multiplicities) (c .public .windows) (c .contents)
 
 pub blank-formatted : (info : Info) → format 16 1 512 (withInfo info blankCard) ≡ record { answer = Done; after = playerCard; out = []; places = [] }
 unfolding rules playerCard

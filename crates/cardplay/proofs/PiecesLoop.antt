@@ -20,14 +20,14 @@ use Rattle.cardplay.proofs.PiecesLaws.{pieces-read, pieces-played}
 use Rattle.cardplay.proofs.PlayLonger.{PlaysNothing, play-halted}
 
 -- The loop's invariant: tables and buffers keep their lengths, and the play has come so far.
-pub record PiecesLoop (c₀ : Card) (flags₀ keys₀ counts₀ pointers₀ windows₀ contents₀ flags keys counts pointers windows contents buffer output : List ℕ)
+pub record PiecesLoop (c₀ : Card) (flags₀ keys₀ counts₀ pointers₀ multiplicities₀ windows₀ contents₀ flags keys counts pointers multiplicities windows contents buffer output : List ℕ)
     (stop : Stop) (info : Info) (records filled : ℕ) (wrote on : Bool) : Type 0 where
-  pub tables : SameTables flags₀ keys₀ counts₀ pointers₀ windows₀ contents₀ flags keys counts pointers windows contents
+  pub tables : SameTables flags₀ keys₀ counts₀ pointers₀ multiplicities₀ windows₀ contents₀ flags keys counts pointers multiplicities windows contents
   pub sizeBuffer : length buffer ≡ 65536
   pub sizeOutput : length output ≡ 65536
   pub within : filled ≤ length buffer
-  pub pieces : Pieces c₀ records (card info flags keys counts pointers windows contents) (take filled buffer)
-  pub halts : on ≡ false → wrote ≡ true → PlaysNothing stop records (card info flags keys counts pointers windows contents) (take filled buffer)
+  pub pieces : Pieces c₀ records (card info flags keys counts pointers multiplicities windows contents) (take filled buffer)
+  pub halts : on ≡ false → wrote ≡ true → PlaysNothing stop records (card info flags keys counts pointers multiplicities windows contents) (take filled buffer)
 
 -- ---- one piece more
 

@@ -32,6 +32,6 @@ pub record PlayedInPieces (c₀ : Card) (stop : Stop) (records : ℕ) (after : C
   pub whole : on ≡ false → wrote ≡ true → PlayedWhole c₀ stop records after
 
 -- All pieces of some input are played from this card on, on lent tables.
-abbrev pub PlaysInPieces : Card → Lent → Lent → Lent → Lent → Lent → Lent → Progress → Type 0
-PlaysInPieces c₀ flags keys counts pointers windows contents r =
-    PlayedInPieces c₀ (r .stop) (r .records) (atExit (r .info) flags keys counts pointers windows contents) (r .wrote) (r .on)
+abbrev pub PlaysInPieces : Card → Lent → Lent → Lent → Lent → Lent → Lent → Lent → Progress → Type 0
+PlaysInPieces c₀ flags keys counts pointers multiplicities windows contents r =
+    PlayedInPieces c₀ (r .stop) (r .records) (atExit (r .info) flags keys counts pointers multiplicities windows contents) (r .wrote) (r .on)

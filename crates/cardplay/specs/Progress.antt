@@ -62,28 +62,28 @@ pub record ProgressIs (want : Play) (stop : Stop) (records : ℕ) (after : Card)
 -- ---- on lent tables
 
 -- The play of a buffer's filled part, where so many records were played before.
-abbrev pub playFilled : ℕ → Info → Lent → Lent → Lent → Lent → Lent → Lent → Lent → ℕ → Lent → Play
-playFilled records info flags keys counts pointers windows contents buffer filled output =
-    play records (atEntry info flags keys counts pointers windows contents) (take filled (now (buffer .entry))) (length (now (output .entry)))
+abbrev pub playFilled : ℕ → Info → Lent → Lent → Lent → Lent → Lent → Lent → Lent → Lent → ℕ → Lent → Play
+playFilled records info flags keys counts pointers multiplicities windows contents buffer filled output =
+    play records (atEntry info flags keys counts pointers multiplicities windows contents) (take filled (now (buffer .entry))) (length (now (output .entry)))
 
-abbrev pub PlaysPiece : ℕ → Info → Lent → Lent → Lent → Lent → Lent → Lent → Lent → ℕ → Lent → Piece → Type 0
-PlaysPiece records info flags keys counts pointers windows contents buffer filled output r =
-    PieceIs (playFilled records info flags keys counts pointers windows contents buffer filled output)
+abbrev pub PlaysPiece : ℕ → Info → Lent → Lent → Lent → Lent → Lent → Lent → Lent → Lent → ℕ → Lent → Piece → Type 0
+PlaysPiece records info flags keys counts pointers multiplicities windows contents buffer filled output r =
+    PieceIs (playFilled records info flags keys counts pointers multiplicities windows contents buffer filled output)
     (r .stop)
     (r .records)
-    (atExit (r .info) flags keys counts pointers windows contents)
+    (atExit (r .info) flags keys counts pointers multiplicities windows contents)
     (now (buffer .exit))
     (r .filled)
     (now (output .entry))
     (now (output .exit))
     (r .written)
 
-abbrev pub Progresses : ℕ → Info → Lent → Lent → Lent → Lent → Lent → Lent → Lent → ℕ → Lent → Progress → Type 0
-Progresses records info flags keys counts pointers windows contents buffer filled output r =
-    ProgressIs (playFilled records info flags keys counts pointers windows contents buffer filled output)
+abbrev pub Progresses : ℕ → Info → Lent → Lent → Lent → Lent → Lent → Lent → Lent → Lent → ℕ → Lent → Progress → Type 0
+Progresses records info flags keys counts pointers multiplicities windows contents buffer filled output r =
+    ProgressIs (playFilled records info flags keys counts pointers multiplicities windows contents buffer filled output)
     (r .stop)
     (r .records)
-    (atExit (r .info) flags keys counts pointers windows contents)
+    (atExit (r .info) flags keys counts pointers multiplicities windows contents)
     (now (buffer .exit))
     (r .filled)
     (now (output .entry))

@@ -56,8 +56,9 @@ fn play_some(
     info: Info,
     flags: &mut [u8],
     keys: &mut [u64],
-    counts: &mut [u16],
+    counts: &mut [u32],
     pointers: &mut [u32],
+    multiplicities: &mut [u16],
     windows: &mut [u64],
     contents: &mut [u8],
     records: u64,
@@ -66,7 +67,7 @@ fn play_some(
     output: &mut [u8],
 ) -> Piece
     requires { ⌜ records < 9223372036854775808 ⌝ ∗ ⌜ filled ≤ length (now buffer) ⌝ }
-    ensures { λ r. ⌜ PlaysPiece records info flags keys counts pointers windows contents buffer filled output r ⌝ }
+    ensures { λ r. ⌜ PlaysPiece records info flags keys counts pointers multiplicities windows contents buffer filled output r ⌝ }
 {
     let part = player::play(
         info,
@@ -74,6 +75,7 @@ fn play_some(
         keys,
         counts,
         pointers,
+        multiplicities,
         windows,
         contents,
         records,
@@ -143,8 +145,9 @@ fn play_on(
     info: Info,
     flags: &mut [u8],
     keys: &mut [u64],
-    counts: &mut [u16],
+    counts: &mut [u32],
     pointers: &mut [u32],
+    multiplicities: &mut [u16],
     windows: &mut [u64],
     contents: &mut [u8],
     records: u64,
@@ -153,7 +156,7 @@ fn play_on(
     output: &mut [u8],
 ) -> Progress
     requires { ⌜ records < 9223372036854775808 ⌝ ∗ ⌜ filled ≤ length (now buffer) ⌝ ∗ ⌜ recordRoom ≤ length (now buffer) ⌝ }
-    ensures { λ r. ⌜ Progresses records info flags keys counts pointers windows contents buffer filled output r ⌝ }
+    ensures { λ r. ⌜ Progresses records info flags keys counts pointers multiplicities windows contents buffer filled output r ⌝ }
 {
     let played = play_some(
         info,
@@ -161,6 +164,7 @@ fn play_on(
         keys,
         counts,
         pointers,
+        multiplicities,
         windows,
         contents,
         records,
@@ -191,12 +195,13 @@ fn play_all(
     info: Info,
     flags: &mut [u8],
     keys: &mut [u64],
-    counts: &mut [u16],
+    counts: &mut [u32],
     pointers: &mut [u32],
+    multiplicities: &mut [u16],
     windows: &mut [u64],
     contents: &mut [u8],
 ) -> Progress
-    ensures { λ r. ⌜ PlaysInPieces (atEntry info flags keys counts pointers windows contents) flags keys counts pointers windows contents r ⌝ }
+    ensures { λ r. ⌜ PlaysInPieces (atEntry info flags keys counts pointers multiplicities windows contents) flags keys counts pointers multiplicities windows contents r ⌝ }
 {
     let mut buffer = [0u8; 65536];
     let mut output = [0u8; 65536];
@@ -217,6 +222,7 @@ fn play_all(
             keys,
             counts,
             pointers,
+            multiplicities,
             windows,
             contents,
             progress.records,
@@ -234,13 +240,14 @@ fn play_all(
 fn play_fresh(
     flags: &mut [u8],
     keys: &mut [u64],
-    counts: &mut [u16],
+    counts: &mut [u32],
     pointers: &mut [u32],
+    multiplicities: &mut [u16],
     windows: &mut [u64],
     contents: &mut [u8],
 ) -> Progress
-    requires { ⌜ lent (freshInfo 16 1 512) flags keys counts pointers windows contents ≡ blankCard ⌝ }
-    ensures { λ r. ⌜ PlaysInPieces playerCard flags keys counts pointers windows contents r ⌝ }
+    requires { ⌜ lent (freshInfo 16 1 512) flags keys counts pointers multiplicities windows contents ≡ blankCard ⌝ }
+    ensures { λ r. ⌜ PlaysInPieces playerCard flags keys counts pointers multiplicities windows contents r ⌝ }
 {
     let formatted = format::format(
         tables::fresh(0, 0, 0),
@@ -251,11 +258,21 @@ fn play_fresh(
         keys,
         counts,
         pointers,
+        multiplicities,
         windows,
         contents,
     );
     let fresh = formatted.info;
-    play_all(fresh, flags, keys, counts, pointers, windows, contents)
+    play_all(
+        fresh,
+        flags,
+        keys,
+        counts,
+        pointers,
+        multiplicities,
+        windows,
+        contents,
+    )
 }
 
 // The number of the last line.
@@ -292,8 +309,9 @@ fn write_end(end: Progress) {
 fn main() {
     let mut flags = [0u8; 16];
     let mut keys = [0u64; 64];
-    let mut counts = [0u16; 16];
+    let mut counts = [0u32; 16];
     let mut pointers = [0u32; 32];
+    let mut multiplicities = [0u16; 32];
     let mut windows = [0u64; 32];
     let mut contents = [0u8; 8192];
     let end = play_fresh(
@@ -301,6 +319,7 @@ fn main() {
         &mut keys,
         &mut counts,
         &mut pointers,
+        &mut multiplicities,
         &mut windows,
         &mut contents,
     );

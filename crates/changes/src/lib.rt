@@ -4,49 +4,62 @@ ghost use mathlib.Core.Path.{_≡_};
 ghost use Prim.Native.Nat.{_+_, _*_, _≤_, _<_};
 ghost use lib.ListN.{length, getD};
 ghost use Rattle.card.specs.Pointers.{pointer};
-ghost use Rattle.card.specs.Plan.{addPointer, dropPointer, clearKeys};
-ghost use Rattle.tables.specs.InUse.{Addable, Removable};
-ghost use Rattle.changes.specs.OnTables.{ChangesPointers, FreesBlock};
+ghost use Rattle.card.specs.Plan.{clearKeys};
+ghost use Rattle.changes.specs.OnTables.{CanMakePointer, CanTakePointer, madeBy, takenBy, ChangesPointers, FreesBlock};
 
-// A pointer more, and its destination counted once more, whatever the other tables hold.
-pub fn add_pointer(
+// A pointer once more, and its destination counted once more, whatever the other tables hold: one that is there is raised and moves nothing,
+// another takes a place.
+pub fn make_pointer(
     info: Info,
-    counts: &mut [u16],
+    counts: &mut [u32],
     pointers: &mut [u32],
+    multiplicities: &mut [u16],
     source: u16,
     destination: u16,
 ) -> Info
-    requires { ⌜ Addable (now pointers) (info .used) (pointer source destination) ⌝ }
+    requires { ⌜ CanMakePointer (now pointers) (now multiplicities) (info .used) (pointer source destination) ⌝ }
     requires { ⌜ destination < length (now counts) ⌝ }
-    requires { ⌜ getD (now counts) destination 0 < 65535 ⌝ }
-    ensures { λ r. ⌜ ChangesPointers (addPointer source destination) info counts pointers r ⌝ }
+    requires { ⌜ getD (now counts) destination 0 < 4294967295 ⌝ }
+    ensures { λ r. ⌜ ChangesPointers (madeBy (now (pointers .entry)) (info .used) source destination) info counts pointers multiplicities r ⌝ }
 {
-    let at = destination as usize;
+    let used = info.used;
+    let to = destination as usize;
     let pointer = (source as u32) * 65536 + (destination as u32);
-    tables::insert(pointers, info.used, pointer);
-    counts[at] = counts[at] + 1;
-    tables::with_used(info, info.used + 1)
+    let at = tables::place(pointers, used, pointer);
+    counts[to] = counts[to] + 1;
+    if tables::stands(pointers, used, at, pointer) {
+        multiplicities[at] = multiplicities[at] + 1;
+        return info;
+    }
+    tables::put(pointers, multiplicities, used, at, pointer);
+    tables::with_used(info, used + 1)
 }
 
-// A pointer less, and its destination counted once less, whatever the other tables hold.
-pub fn drop_pointer(
+// A pointer once less, and its destination counted once less, whatever the other tables hold: the last of several goes from its place.
+pub fn take_pointer(
     info: Info,
-    counts: &mut [u16],
+    counts: &mut [u32],
     pointers: &mut [u32],
+    multiplicities: &mut [u16],
     source: u16,
     destination: u16,
 ) -> Info
-    requires { ⌜ Removable (now pointers) (info .used) (pointer source destination) ⌝ }
+    requires { ⌜ CanTakePointer (now pointers) (now multiplicities) (info .used) (pointer source destination) ⌝ }
     requires { ⌜ destination < length (now counts) ⌝ }
     requires { ⌜ 1 ≤ getD (now counts) destination 0 ⌝ }
-    requires { ⌜ 1 ≤ info .used ⌝ }
-    ensures { λ r. ⌜ ChangesPointers (dropPointer source destination) info counts pointers r ⌝ }
+    ensures { λ r. ⌜ ChangesPointers (takenBy (now (pointers .entry)) (now (multiplicities .entry)) (info .used) source destination) info counts pointers multiplicities r ⌝ }
 {
-    let at = destination as usize;
+    let used = info.used;
+    let to = destination as usize;
     let pointer = (source as u32) * 65536 + (destination as u32);
-    tables::remove(pointers, info.used, pointer);
-    counts[at] = counts[at] - 1;
-    tables::with_used(info, info.used - 1)
+    let at = tables::place(pointers, used, pointer);
+    counts[to] = counts[to] - 1;
+    if multiplicities[at] != 1 {
+        multiplicities[at] = multiplicities[at] - 1;
+        return info;
+    }
+    tables::take_away(pointers, multiplicities, used, at);
+    tables::with_used(info, used - 1)
 }
 
 // The four words of a block's keys become 0.

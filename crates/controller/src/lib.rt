@@ -8,7 +8,6 @@ use card::Refusal;
 use card::Verdict;
 ghost use mathlib.Core.Path.{_≡_};
 ghost use Rattle.card.specs.Lent.{Performs, lent};
-ghost use Rattle.card.specs.Card.{card};
 ghost use Rattle.card.specs.Soundness.{verdict};
 ghost use Rattle.card.specs.Session.{request, perform};
 
@@ -18,8 +17,9 @@ pub fn perform_judged(
     info: Info,
     flags: &mut [u8],
     keys: &mut [u64],
-    counts: &mut [u16],
+    counts: &mut [u32],
     pointers: &mut [u32],
+    multiplicities: &mut [u16],
     windows: &mut [u64],
     contents: &mut [u8],
     port: Port,
@@ -28,8 +28,8 @@ pub fn perform_judged(
     out: &mut [u8],
     places: &mut [u16],
 ) -> Outcome
-    requires { ⌜ found ≡ verdict (lent info flags keys counts pointers windows contents) ⌝ }
-    ensures { λ r. ⌜ Performs (λ c. perform port c (request call (now (input .entry)) (now (out .entry)) (now (places .entry)))) info flags keys counts pointers windows contents r (now (out .exit)) (now (places .exit)) ⌝ }
+    requires { ⌜ found ≡ verdict (lent info flags keys counts pointers multiplicities windows contents) ⌝ }
+    ensures { λ r. ⌜ Performs (λ c. perform port c (request call (now (input .entry)) (now (out .entry)) (now (places .entry)))) info flags keys counts pointers multiplicities windows contents r (now (out .exit)) (now (places .exit)) ⌝ }
 {
     match found {
         Verdict::Misshapen => Outcome {
@@ -46,6 +46,7 @@ pub fn perform_judged(
             keys,
             counts,
             pointers,
+            multiplicities,
             windows,
             contents,
             port,
@@ -62,8 +63,9 @@ pub fn perform(
     info: Info,
     flags: &mut [u8],
     keys: &mut [u64],
-    counts: &mut [u16],
+    counts: &mut [u32],
     pointers: &mut [u32],
+    multiplicities: &mut [u16],
     windows: &mut [u64],
     contents: &mut [u8],
     port: Port,
@@ -72,9 +74,18 @@ pub fn perform(
     out: &mut [u8],
     places: &mut [u16],
 ) -> Outcome
-    ensures { λ r. ⌜ Performs (λ c. perform port c (request call (now (input .entry)) (now (out .entry)) (now (places .entry)))) info flags keys counts pointers windows contents r (now (out .exit)) (now (places .exit)) ⌝ }
+    ensures { λ r. ⌜ Performs (λ c. perform port c (request call (now (input .entry)) (now (out .entry)) (now (places .entry)))) info flags keys counts pointers multiplicities windows contents r (now (out .exit)) (now (places .exit)) ⌝ }
 {
-    let found = audit::audit(info, flags, keys, counts, pointers, windows, contents);
+    let found = audit::audit(
+        info,
+        flags,
+        keys,
+        counts,
+        pointers,
+        multiplicities,
+        windows,
+        contents,
+    );
     perform_judged(
         found,
         info,
@@ -82,6 +93,7 @@ pub fn perform(
         keys,
         counts,
         pointers,
+        multiplicities,
         windows,
         contents,
         port,

@@ -13,8 +13,9 @@ pub fn perform_sound(
     info: Info,
     flags: &mut [u8],
     keys: &mut [u64],
-    counts: &mut [u16],
+    counts: &mut [u32],
     pointers: &mut [u32],
+    multiplicities: &mut [u16],
     windows: &mut [u64],
     contents: &mut [u8],
     port: Port,
@@ -23,8 +24,8 @@ pub fn perform_sound(
     out: &mut [u8],
     places: &mut [u16],
 ) -> Outcome
-    requires { ⌜ SoundCard (lent info flags keys counts pointers windows contents) ⌝ }
-    ensures { λ r. ⌜ Performs (λ c. performSound port c (request call (now (input .entry)) (now (out .entry)) (now (places .entry)))) info flags keys counts pointers windows contents r (now (out .exit)) (now (places .exit)) ⌝ }
+    requires { ⌜ SoundCard (lent info flags keys counts pointers multiplicities windows contents) ⌝ }
+    ensures { λ r. ⌜ Performs (λ c. performSound port c (request call (now (input .entry)) (now (out .entry)) (now (places .entry)))) info flags keys counts pointers multiplicities windows contents r (now (out .exit)) (now (places .exit)) ⌝ }
 {
     match call {
         Call::Read(o) => transfer::read_sound(
@@ -33,6 +34,7 @@ pub fn perform_sound(
             keys,
             counts,
             pointers,
+            multiplicities,
             windows,
             contents,
             port,
@@ -45,6 +47,7 @@ pub fn perform_sound(
             keys,
             counts,
             pointers,
+            multiplicities,
             windows,
             contents,
             port,
@@ -57,6 +60,7 @@ pub fn perform_sound(
             keys,
             counts,
             pointers,
+            multiplicities,
             windows,
             contents,
             port,
@@ -69,6 +73,7 @@ pub fn perform_sound(
             keys,
             counts,
             pointers,
+            multiplicities,
             windows,
             contents,
             port,
@@ -81,6 +86,7 @@ pub fn perform_sound(
             keys,
             counts,
             pointers,
+            multiplicities,
             windows,
             contents,
             port,
@@ -92,6 +98,7 @@ pub fn perform_sound(
             keys,
             counts,
             pointers,
+            multiplicities,
             windows,
             contents,
             port,
@@ -103,6 +110,7 @@ pub fn perform_sound(
             keys,
             counts,
             pointers,
+            multiplicities,
             windows,
             contents,
             port,
@@ -115,6 +123,7 @@ pub fn perform_sound(
             keys,
             counts,
             pointers,
+            multiplicities,
             windows,
             contents,
             port,
@@ -122,18 +131,48 @@ pub fn perform_sound(
             o,
         ),
         Call::Renew(o) => {
-            keys::renew_sound(info, flags, keys, counts, pointers, windows, contents, o)
+            keys::renew_sound(
+                info,
+                flags,
+                keys,
+                counts,
+                pointers,
+                multiplicities,
+                windows,
+                contents,
+                o,
+            )
         }
         Call::Force(o) => {
-            keys::force_sound(info, flags, keys, counts, pointers, windows, contents, o)
+            keys::force_sound(
+                info,
+                flags,
+                keys,
+                counts,
+                pointers,
+                multiplicities,
+                windows,
+                contents,
+                o,
+            )
         }
-        Call::Free => status::free_sound(info, flags, keys, counts, pointers, windows, contents),
+        Call::Free => status::free_sound(
+            info,
+            flags,
+            keys,
+            counts,
+            pointers,
+            multiplicities,
+            windows,
+            contents,
+        ),
         Call::Tick(o) => status::tick_sound(
             info,
             flags,
             keys,
             counts,
             pointers,
+            multiplicities,
             windows,
             contents,
             o,

@@ -102,22 +102,23 @@ module _ (c : Card) (blocks roots bytes : ℕ) {info : Info} {t : Bool} (made : 
       (record { answers = refl; leaves = refl; fillsOut = refl; fillsPlaces = refl }))
 
   pub format-done : t ≡ true → {r : Outcome} → r ≡ outcome Done info
-      → {flags keys counts pointers windows contents : List ℕ}
+      → {flags keys counts pointers multiplicities windows contents : List ℕ}
       → flags ≡ replicate roots 1 ++ zeros (length (c .public .flags) - roots)
       → keys ≡ zeros (length (c .keys))
       → counts ≡ zeros (length (c .public .counts))
       → pointers ≡ zeros (length (c .public .pointers))
+      → multiplicities ≡ zeros (length (c .public .multiplicities))
       → windows ≡ zeros (length (c .public .windows))
       → contents ≡ overwrite (c .contents) 0 (zeros (roots * bytes))
-      → Is (format blocks roots bytes c) (r .answer) (card (r .info) flags keys counts pointers windows contents) [] []
+      → Is (format blocks roots bytes c) (r .answer) (card (r .info) flags keys counts pointers multiplicities windows contents) [] []
   unfolding format formatResult
-  format-done e a f k n p w o =
+  format-done e a f k n p m w o =
       let s = told-shaped (withInfo c info) made told e in
       is-same (ap (λ (u : Bool). formatResult u blocks roots bytes c) (test-is ∙ e))
       (record {
         answers = rw a;
         leaves =
-            rw (a, made, f, k, n, p, w, o, s .hasLengths .flags, s .hasLengths .keys, s .hasLengths .counts, s .hasLengths .windows);
+            rw (a, made, f, k, n, p, m, w, o, s .hasLengths .flags, s .hasLengths .keys, s .hasLengths .counts, s .hasLengths .windows);
         fillsOut = refl;
         fillsPlaces = refl;
       })

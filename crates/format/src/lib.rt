@@ -7,7 +7,6 @@ ghost use mathlib.Core.List.{[], _++_};
 ghost use Prim.Native.Nat.{_-_, _≤_};
 ghost use lib.ListN.{length, replicate};
 ghost use Rattle.card.specs.Lent.{Performs};
-ghost use Rattle.card.specs.Card.{card};
 ghost use Rattle.card.specs.Contents.{zeros};
 ghost use Rattle.card.specs.Calls.{format};
 
@@ -21,7 +20,7 @@ fn clear_words(to: &mut [u64])
     }
 }
 
-fn clear_counts(to: &mut [u16])
+fn clear_multiplicities(to: &mut [u16])
     ensures { λ _. ⌜ now (to .exit) ≡ zeros (length (now (to .entry))) ⌝ }
 {
     let mut at = 0;
@@ -31,7 +30,8 @@ fn clear_counts(to: &mut [u16])
     }
 }
 
-fn clear_places(to: &mut [u32])
+// Counts and pointers.
+fn clear_numbers(to: &mut [u32])
     ensures { λ _. ⌜ now (to .exit) ≡ zeros (length (now (to .entry))) ⌝ }
 {
     let mut at = 0;
@@ -68,19 +68,30 @@ pub fn format(
     bytes: usize,
     flags: &mut [u8],
     keys: &mut [u64],
-    counts: &mut [u16],
+    counts: &mut [u32],
     pointers: &mut [u32],
+    multiplicities: &mut [u16],
     windows: &mut [u64],
     contents: &mut [u8],
 ) -> Outcome
-    ensures { λ r. ⌜ Performs (format blocks roots bytes) info flags keys counts pointers windows contents r [] [] ⌝ }
+    ensures { λ r. ⌜ Performs (format blocks roots bytes) info flags keys counts pointers multiplicities windows contents r [] [] ⌝ }
 {
     let fresh = tables::fresh(blocks, roots, bytes);
-    if shape::shaped(fresh, flags, keys, counts, pointers, windows, contents) {
+    if shape::shaped(
+        fresh,
+        flags,
+        keys,
+        counts,
+        pointers,
+        multiplicities,
+        windows,
+        contents,
+    ) {
         mark_roots(flags, roots);
         clear_words(keys);
-        clear_counts(counts);
-        clear_places(pointers);
+        clear_numbers(counts);
+        clear_numbers(pointers);
+        clear_multiplicities(multiplicities);
         clear_words(windows);
         let size = roots * bytes;
         tables::clear(&mut contents[..size]);

@@ -4,13 +4,14 @@ use mathlib.Core.Path.{_≡_, refl}
 use mathlib.Core.List.{List}
 use lib.ListN.{length}
 
-pub record SameTables (flags₀ keys₀ counts₀ pointers₀ windows₀ contents₀ flags keys counts pointers windows contents : List ℕ) : Type 0 where
+pub record SameTables (flags₀ keys₀ counts₀ pointers₀ multiplicities₀ windows₀ contents₀ flags keys counts pointers multiplicities windows contents : List ℕ) : Type 0 where
   pub sameFlags : length flags ≡ length flags₀
   pub sameKeys : length keys ≡ length keys₀
   pub sameCounts : length counts ≡ length counts₀
   pub samePointers : length pointers ≡ length pointers₀
+  pub sameMultiplicities : length multiplicities ≡ length multiplicities₀
   pub sameWindows : length windows ≡ length windows₀
   pub sameContents : length contents ≡ length contents₀
 
-pub same-tables : (flags keys counts pointers windows contents : List ℕ) → SameTables flags keys counts pointers windows contents flags keys counts pointers windows contents
-same-tables flags keys counts pointers windows contents = record { sameFlags = refl; sameKeys = refl; sameCounts = refl; samePointers = refl; sameWindows = refl; sameContents = refl }
+pub same-tables : (flags keys counts pointers multiplicities windows contents : List ℕ) → SameTables flags keys counts pointers multiplicities windows contents flags keys counts pointers multiplicities windows contents
+same-tables flags keys counts pointers multiplicities windows contents = record { sameFlags = refl; sameKeys = refl; sameCounts = refl; samePointers = refl; sameMultiplicities = refl; sameWindows = refl; sameContents = refl }

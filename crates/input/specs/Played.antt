@@ -56,24 +56,24 @@ pub record PlayedIs (want : Play) (stop : Stop) (records : ℕ) (after : Card) (
 -- ---- on lent tables
 
 -- A call does what the rule makes of the card at its entry, and writes the bytes of its reply at a place.
-abbrev pub Writes : (Card → Result) → (Reply → List ℕ) → ℕ → Info → Lent → Lent → Lent → Lent → Lent → Lent → Lent → ℕ → Wrote → Type 0
-Writes rule bytes room info flags keys counts pointers windows contents to at r =
-    WroteIs (rule (atEntry info flags keys counts pointers windows contents) .after)
-    (bytes (reply (rule (atEntry info flags keys counts pointers windows contents))))
+abbrev pub Writes : (Card → Result) → (Reply → List ℕ) → ℕ → Info → Lent → Lent → Lent → Lent → Lent → Lent → Lent → Lent → ℕ → Wrote → Type 0
+Writes rule bytes room info flags keys counts pointers multiplicities windows contents to at r =
+    WroteIs (rule (atEntry info flags keys counts pointers multiplicities windows contents) .after)
+    (bytes (reply (rule (atEntry info flags keys counts pointers multiplicities windows contents))))
     room
-    (atExit (r .info) flags keys counts pointers windows contents)
+    (atExit (r .info) flags keys counts pointers multiplicities windows contents)
     (now (to .entry))
     at
     (now (to .exit))
     (r .at)
 
 -- A turn from a place of the input does what the rule makes of the card at its entry.
-abbrev pub Turns : (Card → List ℕ → Turn) → ℕ → Info → Lent → Lent → Lent → Lent → Lent → Lent → Lent → ℕ → Lent → ℕ → Turned → Type 0
-Turns rule room info flags keys counts pointers windows contents input from to at r =
-    TurnIs (rule (atEntry info flags keys counts pointers windows contents) (drop from (now (input .entry))))
+abbrev pub Turns : (Card → List ℕ → Turn) → ℕ → Info → Lent → Lent → Lent → Lent → Lent → Lent → Lent → Lent → ℕ → Lent → ℕ → Turned → Type 0
+Turns rule room info flags keys counts pointers multiplicities windows contents input from to at r =
+    TurnIs (rule (atEntry info flags keys counts pointers multiplicities windows contents) (drop from (now (input .entry))))
     room
     (r .stop)
-    (atExit (r .info) flags keys counts pointers windows contents)
+    (atExit (r .info) flags keys counts pointers multiplicities windows contents)
     (now (input .entry))
     (r .from)
     (now (to .entry))
@@ -82,12 +82,12 @@ Turns rule room info flags keys counts pointers windows contents input from to a
     (r .at)
 
 -- A play of the input does what the rule makes of the card at its entry, with as much room as there is output.
-abbrev pub Plays : (Card → List ℕ → ℕ → Play) → Info → Lent → Lent → Lent → Lent → Lent → Lent → Lent → Lent → Part → Type 0
-Plays rule info flags keys counts pointers windows contents input output r =
-    PlayedIs (rule (atEntry info flags keys counts pointers windows contents) (now (input .entry)) (length (now (output .entry))))
+abbrev pub Plays : (Card → List ℕ → ℕ → Play) → Info → Lent → Lent → Lent → Lent → Lent → Lent → Lent → Lent → Lent → Part → Type 0
+Plays rule info flags keys counts pointers multiplicities windows contents input output r =
+    PlayedIs (rule (atEntry info flags keys counts pointers multiplicities windows contents) (now (input .entry)) (length (now (output .entry))))
     (r .stop)
     (r .records)
-    (atExit (r .info) flags keys counts pointers windows contents)
+    (atExit (r .info) flags keys counts pointers multiplicities windows contents)
     (now (input .entry))
     (r .read)
     (now (output .entry))

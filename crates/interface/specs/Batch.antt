@@ -50,10 +50,10 @@ unfoldable pub BatchIs : Wire → BatchState → List ℕ → ℕ → BatchState
 BatchIs Nowhere before input number after = (number ≡ 13) × (after ≡ before)
 BatchIs (At wire) before input number after = ServedIfFive wire before input number after
 
-abbrev pub batchState : List ℕ → List ℕ → List ℕ → List ℕ → List ℕ → List ℕ → List ℕ → List ℕ → ℕ → ℕ → ℕ → BatchState
-batchState info flags keys counts pointers windows contents answers records read written = record {
+abbrev pub batchState : List ℕ → List ℕ → List ℕ → List ℕ → List ℕ → List ℕ → List ℕ → List ℕ → List ℕ → ℕ → ℕ → ℕ → BatchState
+batchState info flags keys counts pointers multiplicities windows contents answers records read written = record {
   info = info;
-  card = card (recordOf info) flags keys counts pointers windows contents;
+  card = card (recordOf info) flags keys counts pointers multiplicities windows contents;
   answers = answers;
   records = records;
   read = read;
@@ -61,13 +61,13 @@ batchState info flags keys counts pointers windows contents answers records read
 }
 
 -- What the function returns and leaves is the batch of the input on what it was lent.
-abbrev pub ServesBatch : ℕ → Lent → Lent → Lent → Lent → Lent → Lent → Lent → Lent → Lent → LentNumber → LentNumber → LentNumber → ℕ → Type 0
-ServesBatch port info flags keys counts pointers windows contents input answers records read written r =
+abbrev pub ServesBatch : ℕ → Lent → Lent → Lent → Lent → Lent → Lent → Lent → Lent → Lent → Lent → LentNumber → LentNumber → LentNumber → ℕ → Type 0
+ServesBatch port info flags keys counts pointers multiplicities windows contents input answers records read written r =
     BatchIs (wireOf port)
-    (batchState (now (info .entry)) (now (flags .entry)) (now (keys .entry)) (now (counts .entry)) (now (pointers .entry)) (now (windows .entry)) (now (contents .entry)) (now (answers .entry)) (now (records .entry)) (now (read .entry)) (now (written .entry)))
+    (batchState (now (info .entry)) (now (flags .entry)) (now (keys .entry)) (now (counts .entry)) (now (pointers .entry)) (now (multiplicities .entry)) (now (windows .entry)) (now (contents .entry)) (now (answers .entry)) (now (records .entry)) (now (read .entry)) (now (written .entry)))
     (now (input .entry))
     r
-    (batchState (now (info .exit)) (now (flags .exit)) (now (keys .exit)) (now (counts .exit)) (now (pointers .exit)) (now (windows .exit)) (now (contents .exit)) (now (answers .exit)) (now (records .exit)) (now (read .exit)) (now (written .exit)))
+    (batchState (now (info .exit)) (now (flags .exit)) (now (keys .exit)) (now (counts .exit)) (now (pointers .exit)) (now (multiplicities .exit)) (now (windows .exit)) (now (contents .exit)) (now (answers .exit)) (now (records .exit)) (now (read .exit)) (now (written .exit)))
 
 -- ---- what the function found
 
@@ -81,14 +81,14 @@ pub batch-refused : (port : ℕ) (before : BatchState) (input : List ℕ) {w : W
 unfolding BatchIs
 batch-refused port before input e a n = rw (← e, a) (record { refuses = λ h. (refl, refl); serves = λ f. absurd (n f) })
 
-pub batch-served : (port : ℕ) (info flags keys counts pointers windows contents answers : List ℕ) (records read written : ℕ) (input : List ℕ)
-    {loaded : Info} (after : Info) (flags' keys' counts' pointers' windows' contents' : List ℕ) {info' answers' : List ℕ} {stop : Stop} {number records' read' written' : ℕ} {w : Wire} {wire : Port}
+pub batch-served : (port : ℕ) (info flags keys counts pointers multiplicities windows contents answers : List ℕ) (records read written : ℕ) (input : List ℕ)
+    {loaded : Info} (after : Info) (flags' keys' counts' pointers' multiplicities' windows' contents' : List ℕ) {info' answers' : List ℕ} {stop : Stop} {number records' read' written' : ℕ} {w : Wire} {wire : Port}
     → w ≡ wireOf port → w ≡ At wire → length info ≡ recordLength → loaded ≡ recordOf info
-    → PlayedIs (serve wire (card loaded flags keys counts pointers windows contents) input (length answers)) stop records' (card after flags' keys' counts' pointers' windows' contents') input read' answers answers' written'
+    → PlayedIs (serve wire (card loaded flags keys counts pointers multiplicities windows contents) input (length answers)) stop records' (card after flags' keys' counts' pointers' multiplicities' windows' contents') input read' answers answers' written'
     → info' ≡ numbersOf after → number ≡ stopNumber stop
-    → BatchIs (wireOf port) (batchState info flags keys counts pointers windows contents answers records read written) input number (batchState info' flags' keys' counts' pointers' windows' contents' answers' records' read' written')
+    → BatchIs (wireOf port) (batchState info flags keys counts pointers multiplicities windows contents answers records read written) input number (batchState info' flags' keys' counts' pointers' multiplicities' windows' contents' answers' records' read' written')
 unfolding BatchIs
-batch-served port info flags keys counts pointers windows contents answers records read written input after flags' keys' counts' pointers' windows' contents' {info'} {answers'} {stop} {number} {records'} {read'} {written'} {wire = wire} e at n l p s a =
+batch-served port info flags keys counts pointers multiplicities windows contents answers records read written input after flags' keys' counts' pointers' multiplicities' windows' contents' {info'} {answers'} {stop} {number} {records'} {read'} {written'} {wire = wire} e at n l p s a =
     rw (← e, at)
     (record {
       refuses = λ h. absurd (h n);
@@ -98,6 +98,6 @@ batch-served port info flags keys counts pointers windows contents answers recor
         stores = rw s;
         plays =
             rw s
-            (subst (λ (i : Info). PlayedIs (serve wire (card i flags keys counts pointers windows contents) input (length answers)) stop records' (card after flags' keys' counts' pointers' windows' contents') input read' answers answers' written') l p);
+            (subst (λ (i : Info). PlayedIs (serve wire (card i flags keys counts pointers multiplicities windows contents) input (length answers)) stop records' (card after flags' keys' counts' pointers' multiplicities' windows' contents') input read' answers answers' written') l p);
       };
     })

@@ -23,8 +23,9 @@ pub extern "C" fn negvask_read(
     info: &mut [u64],
     flags: &mut [u8],
     keys: &mut [u64],
-    counts: &mut [u16],
+    counts: &mut [u32],
     pointers: &mut [u32],
+    multiplicities: &mut [u16],
     windows: &mut [u64],
     contents: &mut [u8],
     port: u8,
@@ -33,7 +34,7 @@ pub extern "C" fn negvask_read(
     interval: u32,
     out: &mut [u8],
 ) -> u32
-    ensures { λ r. ⌜ Effects (effectBy (read port block (now (credential .entry)) interval (now (out .entry)))) info flags keys counts pointers windows contents r (now (out .exit)) [] ⌝ }
+    ensures { λ r. ⌜ Effects (effectBy (read port block (now (credential .entry)) interval (now (out .entry)))) info flags keys counts pointers multiplicities windows contents r (now (out .exit)) [] ⌝ }
 {
     let parsed = parameters::credential_of(credential);
     let made = records::read_with(Port::Host, block, parsed, interval);
@@ -45,6 +46,7 @@ pub extern "C" fn negvask_read(
         keys,
         counts,
         pointers,
+        multiplicities,
         windows,
         contents,
         decoding,
@@ -61,8 +63,9 @@ pub extern "C" fn negvask_write(
     info: &mut [u64],
     flags: &mut [u8],
     keys: &mut [u64],
-    counts: &mut [u16],
+    counts: &mut [u32],
     pointers: &mut [u32],
+    multiplicities: &mut [u16],
     windows: &mut [u64],
     contents: &mut [u8],
     port: u8,
@@ -71,7 +74,7 @@ pub extern "C" fn negvask_write(
     interval: u32,
     bytes: &[u8],
 ) -> u32
-    ensures { λ r. ⌜ Effects (effectBy (write port block (now (credential .entry)) interval (now (bytes .entry)))) info flags keys counts pointers windows contents r [] [] ⌝ }
+    ensures { λ r. ⌜ Effects (effectBy (write port block (now (credential .entry)) interval (now (bytes .entry)))) info flags keys counts pointers multiplicities windows contents r [] [] ⌝ }
 {
     let parsed = parameters::credential_of(credential);
     let made = records::write_with(Port::Host, block, parsed, interval);
@@ -83,6 +86,7 @@ pub extern "C" fn negvask_write(
         keys,
         counts,
         pointers,
+        multiplicities,
         windows,
         contents,
         decoding,
@@ -97,8 +101,9 @@ pub extern "C" fn negvask_alloc(
     info: &mut [u64],
     flags: &mut [u8],
     keys: &mut [u64],
-    counts: &mut [u16],
+    counts: &mut [u32],
     pointers: &mut [u32],
+    multiplicities: &mut [u16],
     windows: &mut [u64],
     contents: &mut [u8],
     port: u8,
@@ -108,7 +113,7 @@ pub extern "C" fn negvask_alloc(
     count: u8,
     places: &mut [u16],
 ) -> u32
-    ensures { λ r. ⌜ Effects (effectBy (alloc port block (now (credential .entry)) hint count (now (places .entry)))) info flags keys counts pointers windows contents r [] (now (places .exit)) ⌝ }
+    ensures { λ r. ⌜ Effects (effectBy (alloc port block (now (credential .entry)) hint count (now (places .entry)))) info flags keys counts pointers multiplicities windows contents r [] (now (places .exit)) ⌝ }
 {
     let parsed = parameters::credential_of(credential);
     let made = records::alloc_with(Port::Host, block, parsed, hint, count);
@@ -120,6 +125,7 @@ pub extern "C" fn negvask_alloc(
         keys,
         counts,
         pointers,
+        multiplicities,
         windows,
         contents,
         decoding,
@@ -136,8 +142,9 @@ pub extern "C" fn negvask_alloc_contig(
     info: &mut [u64],
     flags: &mut [u8],
     keys: &mut [u64],
-    counts: &mut [u16],
+    counts: &mut [u32],
     pointers: &mut [u32],
+    multiplicities: &mut [u16],
     windows: &mut [u64],
     contents: &mut [u8],
     port: u8,
@@ -147,7 +154,7 @@ pub extern "C" fn negvask_alloc_contig(
     count: u8,
     places: &mut [u16],
 ) -> u32
-    ensures { λ r. ⌜ Effects (effectBy (allocContig port block (now (credential .entry)) hint count (now (places .entry)))) info flags keys counts pointers windows contents r [] (now (places .exit)) ⌝ }
+    ensures { λ r. ⌜ Effects (effectBy (allocContig port block (now (credential .entry)) hint count (now (places .entry)))) info flags keys counts pointers multiplicities windows contents r [] (now (places .exit)) ⌝ }
 {
     let parsed = parameters::credential_of(credential);
     let made = records::alloc_contig_with(Port::Host, block, parsed, hint, count);
@@ -159,6 +166,7 @@ pub extern "C" fn negvask_alloc_contig(
         keys,
         counts,
         pointers,
+        multiplicities,
         windows,
         contents,
         decoding,
@@ -175,8 +183,9 @@ pub extern "C" fn negvask_create(
     info: &mut [u64],
     flags: &mut [u8],
     keys: &mut [u64],
-    counts: &mut [u16],
+    counts: &mut [u32],
     pointers: &mut [u32],
+    multiplicities: &mut [u16],
     windows: &mut [u64],
     contents: &mut [u8],
     port: u8,
@@ -185,7 +194,7 @@ pub extern "C" fn negvask_create(
     destination: u16,
     second: &[u8],
 ) -> u32
-    ensures { λ r. ⌜ Effects (effectBy (create port source (now (credential .entry)) destination (now (second .entry)))) info flags keys counts pointers windows contents r [] [] ⌝ }
+    ensures { λ r. ⌜ Effects (effectBy (create port source (now (credential .entry)) destination (now (second .entry)))) info flags keys counts pointers multiplicities windows contents r [] [] ⌝ }
 {
     let first = parameters::credential_of(credential);
     let other = parameters::credential_of(second);
@@ -198,6 +207,7 @@ pub extern "C" fn negvask_create(
         keys,
         counts,
         pointers,
+        multiplicities,
         windows,
         contents,
         decoding,
@@ -212,8 +222,9 @@ pub extern "C" fn negvask_delete(
     info: &mut [u64],
     flags: &mut [u8],
     keys: &mut [u64],
-    counts: &mut [u16],
+    counts: &mut [u32],
     pointers: &mut [u32],
+    multiplicities: &mut [u16],
     windows: &mut [u64],
     contents: &mut [u8],
     port: u8,
@@ -222,7 +233,7 @@ pub extern "C" fn negvask_delete(
     destination: u16,
     value: &mut u64,
 ) -> u32
-    ensures { λ r. ⌜ EffectsGiving (λ v. effectBy (delete port source (now (credential .entry)) destination v)) info flags keys counts pointers windows contents value r ⌝ }
+    ensures { λ r. ⌜ EffectsGiving (λ v. effectBy (delete port source (now (credential .entry)) destination v)) info flags keys counts pointers multiplicities windows contents value r ⌝ }
 {
     let parsed = parameters::credential_of(credential);
     let made = records::delete_with(Port::Host, source, parsed, destination);
@@ -233,6 +244,7 @@ pub extern "C" fn negvask_delete(
         keys,
         counts,
         pointers,
+        multiplicities,
         windows,
         contents,
         decoding,
@@ -257,8 +269,9 @@ pub extern "C" fn negvask_key_read(
     info: &mut [u64],
     flags: &mut [u8],
     keys: &mut [u64],
-    counts: &mut [u16],
+    counts: &mut [u32],
     pointers: &mut [u32],
+    multiplicities: &mut [u16],
     windows: &mut [u64],
     contents: &mut [u8],
     port: u8,
@@ -266,7 +279,7 @@ pub extern "C" fn negvask_key_read(
     credential: &[u8],
     key: &[u8],
 ) -> u32
-    ensures { λ r. ⌜ Effects (effectBy (keyRead port block (now (credential .entry)) (now (key .entry)))) info flags keys counts pointers windows contents r [] [] ⌝ }
+    ensures { λ r. ⌜ Effects (effectBy (keyRead port block (now (credential .entry)) (now (key .entry)))) info flags keys counts pointers multiplicities windows contents r [] [] ⌝ }
 {
     let decoding = key_call_at(Mode::Reading, port, block, credential, key);
     let mut value = 0;
@@ -276,6 +289,7 @@ pub extern "C" fn negvask_key_read(
         keys,
         counts,
         pointers,
+        multiplicities,
         windows,
         contents,
         decoding,
@@ -290,8 +304,9 @@ pub extern "C" fn negvask_key_write(
     info: &mut [u64],
     flags: &mut [u8],
     keys: &mut [u64],
-    counts: &mut [u16],
+    counts: &mut [u32],
     pointers: &mut [u32],
+    multiplicities: &mut [u16],
     windows: &mut [u64],
     contents: &mut [u8],
     port: u8,
@@ -299,7 +314,7 @@ pub extern "C" fn negvask_key_write(
     credential: &[u8],
     key: &[u8],
 ) -> u32
-    ensures { λ r. ⌜ Effects (effectBy (keyWrite port block (now (credential .entry)) (now (key .entry)))) info flags keys counts pointers windows contents r [] [] ⌝ }
+    ensures { λ r. ⌜ Effects (effectBy (keyWrite port block (now (credential .entry)) (now (key .entry)))) info flags keys counts pointers multiplicities windows contents r [] [] ⌝ }
 {
     let decoding = key_call_at(Mode::Writing, port, block, credential, key);
     let mut value = 0;
@@ -309,6 +324,7 @@ pub extern "C" fn negvask_key_write(
         keys,
         counts,
         pointers,
+        multiplicities,
         windows,
         contents,
         decoding,
@@ -323,8 +339,9 @@ pub extern "C" fn negvask_renew(
     info: &mut [u64],
     flags: &mut [u8],
     keys: &mut [u64],
-    counts: &mut [u16],
+    counts: &mut [u32],
     pointers: &mut [u32],
+    multiplicities: &mut [u16],
     windows: &mut [u64],
     contents: &mut [u8],
     mode: u8,
@@ -332,7 +349,7 @@ pub extern "C" fn negvask_renew(
     key: &[u8],
     interval: u32,
 ) -> u32
-    ensures { λ r. ⌜ Effects (effectBy (renew mode block (now (key .entry)) interval)) info flags keys counts pointers windows contents r [] [] ⌝ }
+    ensures { λ r. ⌜ Effects (effectBy (renew mode block (now (key .entry)) interval)) info flags keys counts pointers multiplicities windows contents r [] [] ⌝ }
 {
     let parsed = parameters::credential_of(key);
     let decoding = records::renew_with(Port::Host, mode, block, parsed, interval);
@@ -343,6 +360,7 @@ pub extern "C" fn negvask_renew(
         keys,
         counts,
         pointers,
+        multiplicities,
         windows,
         contents,
         decoding,
@@ -357,13 +375,14 @@ pub extern "C" fn negvask_force(
     info: &mut [u64],
     flags: &mut [u8],
     keys: &mut [u64],
-    counts: &mut [u16],
+    counts: &mut [u32],
     pointers: &mut [u32],
+    multiplicities: &mut [u16],
     windows: &mut [u64],
     contents: &mut [u8],
     block: u16,
 ) -> u32
-    ensures { λ r. ⌜ Effects (effectBy (force block)) info flags keys counts pointers windows contents r [] [] ⌝ }
+    ensures { λ r. ⌜ Effects (effectBy (force block)) info flags keys counts pointers multiplicities windows contents r [] [] ⌝ }
 {
     let decoding = Decoding::Decoded(Port::Host, Call::Force(ForceOperands { block }));
     let mut value = 0;
@@ -373,6 +392,7 @@ pub extern "C" fn negvask_force(
         keys,
         counts,
         pointers,
+        multiplicities,
         windows,
         contents,
         decoding,
@@ -387,14 +407,15 @@ pub extern "C" fn negvask_tick(
     info: &mut [u64],
     flags: &mut [u8],
     keys: &mut [u64],
-    counts: &mut [u16],
+    counts: &mut [u32],
     pointers: &mut [u32],
+    multiplicities: &mut [u16],
     windows: &mut [u64],
     contents: &mut [u8],
     seconds: u64,
     value: &mut u64,
 ) -> u32
-    ensures { λ r. ⌜ EffectsGiving (λ v. effectBy (tick seconds v)) info flags keys counts pointers windows contents value r ⌝ }
+    ensures { λ r. ⌜ EffectsGiving (λ v. effectBy (tick seconds v)) info flags keys counts pointers multiplicities windows contents value r ⌝ }
 {
     let decoding = Decoding::Decoded(Port::Host, Call::Tick(TickOperands { seconds }));
     adapter::perform_without_buffers(
@@ -403,6 +424,7 @@ pub extern "C" fn negvask_tick(
         keys,
         counts,
         pointers,
+        multiplicities,
         windows,
         contents,
         decoding,
@@ -417,13 +439,14 @@ pub extern "C" fn negvask_count_free(
     info: &mut [u64],
     flags: &mut [u8],
     keys: &mut [u64],
-    counts: &mut [u16],
+    counts: &mut [u32],
     pointers: &mut [u32],
+    multiplicities: &mut [u16],
     windows: &mut [u64],
     contents: &mut [u8],
     value: &mut u64,
 ) -> u32
-    ensures { λ r. ⌜ EffectsGiving (λ v. effectBy (free v)) info flags keys counts pointers windows contents value r ⌝ }
+    ensures { λ r. ⌜ EffectsGiving (λ v. effectBy (free v)) info flags keys counts pointers multiplicities windows contents value r ⌝ }
 {
     let decoding = Decoding::Decoded(Port::Host, Call::Free);
     adapter::perform_without_buffers(
@@ -432,6 +455,7 @@ pub extern "C" fn negvask_count_free(
         keys,
         counts,
         pointers,
+        multiplicities,
         windows,
         contents,
         decoding,
@@ -446,12 +470,13 @@ pub extern "C" fn negvask_audit(
     info: &mut [u64],
     flags: &mut [u8],
     keys: &mut [u64],
-    counts: &mut [u16],
+    counts: &mut [u32],
     pointers: &mut [u32],
+    multiplicities: &mut [u16],
     windows: &mut [u64],
     contents: &mut [u8],
 ) -> u32
-    ensures { λ r. ⌜ Effects (effectBy audit) info flags keys counts pointers windows contents r [] [] ⌝ }
+    ensures { λ r. ⌜ Effects (effectBy audit) info flags keys counts pointers multiplicities windows contents r [] [] ⌝ }
 {
     let decoding = Decoding::Decoded(Port::Host, Call::Audit);
     let mut value = 0;
@@ -461,6 +486,7 @@ pub extern "C" fn negvask_audit(
         keys,
         counts,
         pointers,
+        multiplicities,
         windows,
         contents,
         decoding,
@@ -477,15 +503,16 @@ pub extern "C" fn negvask_format(
     info: &mut [u64],
     flags: &mut [u8],
     keys: &mut [u64],
-    counts: &mut [u16],
+    counts: &mut [u32],
     pointers: &mut [u32],
+    multiplicities: &mut [u16],
     windows: &mut [u64],
     contents: &mut [u8],
     blocks: u64,
     roots: u64,
     bytes: u64,
 ) -> u32
-    ensures { λ r. ⌜ Effects (formatEffect blocks roots bytes) info flags keys counts pointers windows contents r [] [] ⌝ }
+    ensures { λ r. ⌜ Effects (formatEffect blocks roots bytes) info flags keys counts pointers multiplicities windows contents r [] [] ⌝ }
 {
     if info.len() != parameters::RECORD_LENGTH {
         return 1;
@@ -499,6 +526,7 @@ pub extern "C" fn negvask_format(
         keys,
         counts,
         pointers,
+        multiplicities,
         windows,
         contents,
     );
@@ -514,15 +542,16 @@ pub extern "C" fn negvask_reach(
     info: &[u64],
     flags: &[u8],
     keys: &[u64],
-    counts: &[u16],
+    counts: &[u32],
     pointers: &[u32],
+    multiplicities: &[u16],
     windows: &[u64],
     contents: &[u8],
     given: &[u64],
     places: &mut [u16],
     value: &mut u64,
 ) -> u32
-    ensures { λ r. ⌜ EffectsListing (reachEffect (now (given .entry))) info flags keys counts pointers windows contents places value r ⌝ }
+    ensures { λ r. ⌜ EffectsListing (reachEffect (now (given .entry))) info flags keys counts pointers multiplicities windows contents places value r ⌝ }
 {
     if info.len() != parameters::RECORD_LENGTH {
         return 1;
@@ -533,6 +562,7 @@ pub extern "C" fn negvask_reach(
         keys,
         counts,
         pointers,
+        multiplicities,
         windows,
         contents,
         given,
@@ -547,8 +577,9 @@ pub extern "C" fn negvask_unlocking(
     info: &[u64],
     flags: &[u8],
     keys: &[u64],
-    counts: &[u16],
+    counts: &[u32],
     pointers: &[u32],
+    multiplicities: &[u16],
     windows: &[u64],
     contents: &[u8],
     block: u16,
@@ -556,7 +587,7 @@ pub extern "C" fn negvask_unlocking(
     places: &mut [u16],
     value: &mut u64,
 ) -> u32
-    ensures { λ r. ⌜ EffectsListing (unlockingEffect (now (given .entry)) block) info flags keys counts pointers windows contents places value r ⌝ }
+    ensures { λ r. ⌜ EffectsListing (unlockingEffect (now (given .entry)) block) info flags keys counts pointers multiplicities windows contents places value r ⌝ }
 {
     if info.len() != parameters::RECORD_LENGTH {
         return 1;
@@ -567,6 +598,7 @@ pub extern "C" fn negvask_unlocking(
         keys,
         counts,
         pointers,
+        multiplicities,
         windows,
         contents,
         given,
@@ -584,8 +616,9 @@ pub extern "C" fn negvask_serve(
     info: &mut [u64],
     flags: &mut [u8],
     keys: &mut [u64],
-    counts: &mut [u16],
+    counts: &mut [u32],
     pointers: &mut [u32],
+    multiplicities: &mut [u16],
     windows: &mut [u64],
     contents: &mut [u8],
     port: u8,
@@ -595,7 +628,7 @@ pub extern "C" fn negvask_serve(
     places: &mut [u16],
     value: &mut u64,
 ) -> u32
-    ensures { λ r. ⌜ EffectsLent (λ o p v. effectBy (serve port kind (now (body .entry)) o p v)) info flags keys counts pointers windows contents out places value r ⌝ }
+    ensures { λ r. ⌜ EffectsLent (λ o p v. effectBy (serve port kind (now (body .entry)) o p v)) info flags keys counts pointers multiplicities windows contents out places value r ⌝ }
 {
     let parsed = parameters::decode_at(port, kind, body);
     let decoding = parsed.decoding;
@@ -607,6 +640,7 @@ pub extern "C" fn negvask_serve(
         keys,
         counts,
         pointers,
+        multiplicities,
         windows,
         contents,
         decoding,
@@ -638,8 +672,9 @@ pub extern "C" fn negvask_batch(
     info: &mut [u64],
     flags: &mut [u8],
     keys: &mut [u64],
-    counts: &mut [u16],
+    counts: &mut [u32],
     pointers: &mut [u32],
+    multiplicities: &mut [u16],
     windows: &mut [u64],
     contents: &mut [u8],
     port: u8,
@@ -649,7 +684,7 @@ pub extern "C" fn negvask_batch(
     read: &mut u64,
     written: &mut u64,
 ) -> u32
-    ensures { λ r. ⌜ ServesBatch port info flags keys counts pointers windows contents input answers records read written r ⌝ }
+    ensures { λ r. ⌜ ServesBatch port info flags keys counts pointers multiplicities windows contents input answers records read written r ⌝ }
 {
     let Wire::At(wire) = parameters::wire_of(port) else {
         return 13;
@@ -664,6 +699,7 @@ pub extern "C" fn negvask_batch(
         keys,
         counts,
         pointers,
+        multiplicities,
         windows,
         contents,
         input,

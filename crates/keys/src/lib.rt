@@ -110,16 +110,17 @@ pub fn key_sound(
     info: Info,
     flags: &mut [u8],
     keys: &mut [u64],
-    counts: &[u16],
+    counts: &[u32],
     pointers: &[u32],
+    multiplicities: &[u16],
     windows: &mut [u64],
     contents: &[u8],
     port: Port,
     mode: Mode,
     o: KeyOperands,
 ) -> Outcome
-    requires { ⌜ SoundCard (lent info flags keys counts pointers windows contents) ⌝ }
-    ensures { λ r. ⌜ Performs (λ c. performSound port c (request (keyCall mode o) [] [] [])) info flags keys counts pointers windows contents r [] [] ⌝ }
+    requires { ⌜ SoundCard (lent info flags keys counts pointers multiplicities windows contents) ⌝ }
+    ensures { λ r. ⌜ Performs (λ c. performSound port c (request (keyCall mode o) [] [] [])) info flags keys counts pointers multiplicities windows contents r [] [] ⌝ }
 {
     let block = o.block as usize;
     if access::missing(info, flags, block) {
@@ -166,14 +167,15 @@ pub fn renew_sound(
     info: Info,
     flags: &[u8],
     keys: &[u64],
-    counts: &[u16],
+    counts: &[u32],
     pointers: &[u32],
+    multiplicities: &[u16],
     windows: &mut [u64],
     contents: &[u8],
     o: RenewOperands,
 ) -> Outcome
-    requires { ⌜ SoundCard (lent info flags keys counts pointers windows contents) ⌝ }
-    ensures { λ r. ⌜ ((port : Port) → Performs (λ c. performSound port c (request (Call.Renew o) [] [] [])) info flags keys counts pointers windows contents r [] []) ⌝ }
+    requires { ⌜ SoundCard (lent info flags keys counts pointers multiplicities windows contents) ⌝ }
+    ensures { λ r. ⌜ ((port : Port) → Performs (λ c. performSound port c (request (Call.Renew o) [] [] [])) info flags keys counts pointers multiplicities windows contents r [] []) ⌝ }
 {
     let block = o.block as usize;
     let bad = (1 < o.mode) | (o.interval == 0) | (LONGEST_INTERVAL < o.interval);
@@ -208,14 +210,15 @@ pub fn force_sound(
     info: Info,
     flags: &[u8],
     keys: &[u64],
-    counts: &[u16],
+    counts: &[u32],
     pointers: &[u32],
+    multiplicities: &[u16],
     windows: &mut [u64],
     contents: &[u8],
     o: ForceOperands,
 ) -> Outcome
-    requires { ⌜ SoundCard (lent info flags keys counts pointers windows contents) ⌝ }
-    ensures { λ r. ⌜ ((port : Port) → Performs (λ c. performSound port c (request (Call.Force o) [] [] [])) info flags keys counts pointers windows contents r [] []) ⌝ }
+    requires { ⌜ SoundCard (lent info flags keys counts pointers multiplicities windows contents) ⌝ }
+    ensures { λ r. ⌜ ((port : Port) → Performs (λ c. performSound port c (request (Call.Force o) [] [] [])) info flags keys counts pointers multiplicities windows contents r [] []) ⌝ }
 {
     let block = o.block as usize;
     if access::missing(info, flags, block) {

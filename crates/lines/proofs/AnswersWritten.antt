@@ -7,7 +7,7 @@ use lib.ListN.{length, length-append, length-take}
 use Rattle.card.specs.Calls.{refusalNumber}
 use Rattle.card.specs.Session.{Reply, reported}
 use Rattle.card.specs.declared.Refusal.{Refusal}
-use Rattle.card.specs.declared.Refusal.the-variants.{Misshapen, Unsound, NotAllocated, BadOperand, NotOpened, IsRoot, PointerExists, NoPointer, HasPointers, TooFewBlocks, TooFewPlaces, TimeEnds, BadRecord, NoRun}
+use Rattle.card.specs.declared.Refusal.the-variants.{Misshapen, Unsound, NotAllocated, BadOperand, NotOpened, IsRoot, CannotPoint, NoPointer, HasPointers, TooFewBlocks, TooFewPlaces, TimeEnds, BadRecord, NoRun}
 use Rattle.card.specs.declared.Answer.{Answer}
 use Rattle.card.specs.declared.Answer.the-variants.{Refused, Done, Value}
 use Rattle.card.specs.declared.Call.{Call}
@@ -59,7 +59,7 @@ reported-refused call NotAllocated out places = refl
 reported-refused call BadOperand out places = refl
 reported-refused call NotOpened out places = refl
 reported-refused call IsRoot out places = refl
-reported-refused call PointerExists out places = refl
+reported-refused call CannotPoint out places = refl
 reported-refused call NoPointer out places = refl
 reported-refused call HasPointers out places = refl
 reported-refused call TooFewBlocks out places = refl

@@ -109,7 +109,7 @@ pub fn refusal_number(r: Refusal) -> u64
         Refusal::BadOperand => 4,
         Refusal::NotOpened => 5,
         Refusal::IsRoot => 6,
-        Refusal::PointerExists => 7,
+        Refusal::CannotPoint => 7,
         Refusal::NoPointer => 8,
         Refusal::HasPointers => 9,
         Refusal::TooFewBlocks => 10,

@@ -1,19 +1,19 @@
 -- What CREATE answers at each way out, over plain values.
 use Prim.Native.Nat.{ℕ, _<_}
-use mathlib.Core.Path.{_≡_, refl}
-use mathlib.Core.Bool.{Bool, true, false, not, _||_}
+use mathlib.Core.Path.{_≡_, refl, ap, _∙_, subst}
+use mathlib.Core.Bool.{Bool, true, false, not, _&&_, _||_}
 use mathlib.Core.List.{List, []}
 use native.Mathlib.Omega.{arith}
 use lib.Dec.{eqb}
 use lib.ListN.{length, getD}
-use borrow.Author.Tests.{eq-eqb, ne-eqb, eqb-false, not-false}
+use borrow.Author.Tests.{eqb-false, not-false}
 use Rattle.card.specs.ListsLaws.{or-false-right}
 use Rattle.card.specs.Pointers.{pointer}
-use Rattle.card.specs.Card.{Card, card, isRoot}
+use Rattle.card.specs.Card.{Card, card, isRoot, multiplicity, highestMultiplicity, pointsTo}
 use Rattle.card.specs.SoundCard.{SoundCard}
 use Rattle.card.specs.SoundnessLaws.{allocated-below}
 use Rattle.card.specs.Access.{admits}
-use Rattle.card.specs.Plan.{here, later, addPointer, change, changes, outAfter, placesAfter}
+use Rattle.card.specs.Plan.{here, later, change, changes, outAfter, placesAfter}
 use Rattle.card.specs.Calls.{missing, rootAtHost, createPlan}
 use Rattle.card.specs.Promises.{Is}
 use Rattle.card.specs.Session.{Request, request, plan, performSound}
@@ -23,16 +23,27 @@ use Rattle.card.specs.declared.Port.{Port}
 use Rattle.card.specs.declared.Mode.the-variants.{Writing}
 use Rattle.card.specs.declared.Call.the-variants.{Create}
 use Rattle.card.specs.declared.CreateOperands.{CreateOperands}
-use Rattle.card.specs.declared.Refusal.the-variants.{NotAllocated, IsRoot, NotOpened, PointerExists, TooFewPlaces}
+use Rattle.card.specs.declared.Refusal.the-variants.{NotAllocated, IsRoot, NotOpened, CannotPoint, TooFewPlaces}
 use Rattle.card.specs.declared.Answer.the-variants.{Done}
-use Rattle.tables.specs.InUse.{Addable}
-use Rattle.tables.specs.InUseLaws.{sound-addable, count-low}
+use Rattle.tables.specs.InUseLaws.{sound-sorted, sound-paired, count-low}
+use Rattle.card.proofs.Guarantees.PointerSteps.{times-high}
+use Rattle.changes.specs.OnTables.{CanMakePointer, madeBy}
 use Rattle.outcomes.specs.Outcomes.{outcome}
 use Rattle.outcomes.proofs.Returned.{finishes}
 use Rattle.checks.specs.CheckedLaws.{Refuses, Passes}
 use Rattle.access.specs.Accessible.{bare}
 use Rattle.access.proofs.Blocks.{flagged, missing-told, root-told, closed-told}
-use Rattle.linking.proofs.Points.{PointsTo, points-whole, told-or}
+use Rattle.linking.proofs.Points.{Times, times-whole, points-whole, told-or, not-not}
+
+-- No condition holds but maybe the last, and the pointer's multiplicity is this.
+pub record SixPassed (port : Port) (c : Card) (o : CreateOperands) (times : ℕ) : Type 0 where
+  pub sourceThere : missing (c .public) (o .source) ≡ false
+  pub destinationThere : missing (c .public) (o .destination) ≡ false
+  pub noRoot : isRoot (c .public) (o .destination) || rootAtHost port (c .public) (o .source) ≡ false
+  pub sourceOpened : not (admits port c Writing (o .source) (o .credential)) ≡ false
+  pub destinationOpened : not (admits port c Writing (o .destination) (o .second)) ≡ false
+  pub canPoint : eqb (o .source) (o .destination) || eqb (multiplicity (c .public) (o .source) (o .destination)) highestMultiplicity ≡ false
+  pub counted : Times c times (o .source) (o .destination)
 
 module _ (port : Port) (c : Card) (o : CreateOperands) where
   abbrev createRequest : Request
@@ -48,7 +59,7 @@ module _ (port : Port) (c : Card) (o : CreateOperands) where
       unfolding plan createPlan
       create-destination-missing h = later (missing-told (c .public) _ e1 h1) (here (missing-told (c .public) _ e2 h))
 
-      module _ (h2 : t2 ≡ false) {t3 : Bool} (e3 : t3 ≡ rootAtHost port (card (c .public .info) [] [] [] [] [] [] .public) (o .source)) where
+      module _ (h2 : t2 ≡ false) {t3 : Bool} (e3 : t3 ≡ rootAtHost port (card (c .public .info) [] [] [] [] [] [] [] .public) (o .source)) where
         pub root-end : isRoot (c .public) (o .destination) || t3 ≡ true → Refuses port c createRequest IsRoot
         unfolding plan createPlan
         root-end h =
@@ -72,68 +83,77 @@ module _ (port : Port) (c : Card) (o : CreateOperands) where
                 (later (closed-told port c Writing _ _ e4 h4)
                 (here (closed-told port c Writing _ _ e5 h)))))
 
-            module _ (h5 : not t5 ≡ false) {t6 : Bool} (e6 : PointsTo c t6 (o .source) (o .destination)) where
-              pub pointer-there : eqb (o .source) (o .destination) || t6 ≡ true → Refuses port c createRequest PointerExists
+            module _ (h5 : not t5 ≡ false) {times : ℕ} (e6 : Times c times (o .source) (o .destination)) where
+              highest : eqb (multiplicity (c .public) (o .source) (o .destination)) highestMultiplicity ≡ eqb times highestMultiplicity
+              highest = ap (λ (n : ℕ). eqb n highestMultiplicity) (times-whole c (o .source) (o .destination) e6)
+
+              pub cannot-point : eqb (o .source) (o .destination) || eqb times highestMultiplicity ≡ true → Refuses port c createRequest CannotPoint
               unfolding plan createPlan
-              pointer-there h =
+              cannot-point h =
                   later (missing-told (c .public) _ e1 h1) (later (missing-told (c .public) _ e2 h2)
                   (later (told-or (isRoot (c .public) (o .destination)) (root-told port (c .public) _ e3 refl) h3)
                   (later (closed-told port c Writing _ _ e4 h4)
                   (later (closed-told port c Writing _ _ e5 h5)
-                  (here (told-or (eqb (o .source) (o .destination)) (points-whole c _ _ e6) h))))))
+                  (here (told-or (eqb (o .source) (o .destination)) highest h))))))
 
-              module _ (h6 : eqb (o .source) (o .destination) || t6 ≡ false) where
-                pub no-place : c .public .info .used ≡ length (c .public .pointers) → Refuses port c createRequest TooFewPlaces
-                unfolding plan createPlan
-                no-place h =
-                    later (missing-told (c .public) _ e1 h1) (later (missing-told (c .public) _ e2 h2)
-                    (later (told-or (isRoot (c .public) (o .destination)) (root-told port (c .public) _ e3 refl) h3)
-                    (later (closed-told port c Writing _ _ e4 h4)
-                    (later (closed-told port c Writing _ _ e5 h5)
-                    (later (told-or (eqb (o .source) (o .destination)) (points-whole c _ _ e6) h6)
-                    (here (eq-eqb _ _ h)))))))
+              pub six-passed : eqb (o .source) (o .destination) || eqb times highestMultiplicity ≡ false → SixPassed port c o times
+              six-passed h = record {
+                sourceThere = missing-told (c .public) _ e1 h1;
+                destinationThere = missing-told (c .public) _ e2 h2;
+                noRoot = told-or (isRoot (c .public) (o .destination)) (root-told port (c .public) _ e3 refl) h3;
+                sourceOpened = closed-told port c Writing _ _ e4 h4;
+                destinationOpened = closed-told port c Writing _ _ e5 h5;
+                canPoint = told-or (eqb (o .source) (o .destination)) highest h;
+                counted = e6;
+              }
 
-                pub create-passes : (c .public .info .used ≡ length (c .public .pointers) → ⊥) → Passes port c createRequest
-                unfolding plan createPlan
-                create-passes h = (
-                  missing-told (c .public) _ e1 h1,
-                  (
-                    missing-told (c .public) _ e2 h2,
-                    (
-                      told-or (isRoot (c .public) (o .destination)) (root-told port (c .public) _ e3 refl) h3,
-                      (
-                        closed-told port c Writing _ _ e4 h4,
-                        (
-                          closed-told port c Writing _ _ e5 h5,
-                          (
-                            told-or (eqb (o .source) (o .destination)) (points-whole c _ _ e6) h6,
-                            (ne-eqb _ _ h, tt),
-                          ),
-                        ),
-                      ),
-                    ),
-                  ),
-                )
+  -- The last check, on a sound card: the pointer is new where its multiplicity is 0.
+  module _ {times : ℕ} (six : SixPassed port c o times) (s : SoundCard c) where
+    new-and-full : not (pointsTo (c .public) (o .source) (o .destination)) && eqb (c .public .info .used) (length (c .public .pointers))
+        ≡ eqb times 0 && eqb (c .public .info .used) (length (c .public .pointers))
+    new-and-full =
+        ap (λ (t : Bool). t && eqb (c .public .info .used) (length (c .public .pointers)))
+        (ap not (points-whole c (o .source) (o .destination) (six .counted) s) ∙ not-not (eqb times 0))
 
-  -- What adding the pointer asks.
-  pub create-addable : SoundCard c → Passes port c createRequest
-      → Addable (c .public .pointers) (c .public .info .used) (pointer (o .source) (o .destination))
-      × ((o .destination < length (c .public .counts)) × (getD (c .public .counts) (o .destination) 0 < 65535))
-  unfolding plan createPlan
-  create-addable s h =
+    pub no-place : eqb times 0 && eqb (c .public .info .used) (length (c .public .pointers)) ≡ true → Refuses port c createRequest TooFewPlaces
+    unfolding plan createPlan
+    no-place h =
+        later (six .sourceThere) (later (six .destinationThere) (later (six .noRoot)
+        (later (six .sourceOpened) (later (six .destinationOpened) (later (six .canPoint)
+        (here (new-and-full ∙ h)))))))
+
+    pub create-passes : eqb times 0 && eqb (c .public .info .used) (length (c .public .pointers)) ≡ false → Passes port c createRequest
+    unfolding plan createPlan
+    create-passes h =
+        (six .sourceThere, (six .destinationThere, (six .noRoot, (six .sourceOpened, (six .destinationOpened, (six .canPoint, (new-and-full ∙ h, tt)))))))
+
+  -- What making the pointer asks.
+  pub create-makeable : SoundCard c → Passes port c createRequest
+      → CanMakePointer (c .public .pointers) (c .public .multiplicities) (c .public .info .used) (pointer (o .source) (o .destination))
+      × ((o .destination < length (c .public .counts)) × (getD (c .public .counts) (o .destination) 0 < 4294967295))
+  unfolding plan createPlan pointsTo multiplicity
+  create-makeable s h =
       let below : o .destination < c .public .info .blocks = allocated-below (c .public) (o .destination) (not-false _ (h .1 .0)) in
-      let room : c .public .info .used < length (c .public .pointers) =
-      let other : (c .public .info .used ≡ length (c .public .pointers) → ⊥) = eqb-false _ _ (h .1 .1 .1 .1 .1 .1 .0) in
-      omega (arith, s .shaped .usedHigh) in (
-        sound-addable s (o .source) (o .destination) room (or-false-right (eqb (o .source) (o .destination)) _ (h .1 .1 .1 .1 .1 .0)),
+      let other : (multiplicity (c .public) (o .source) (o .destination) ≡ highestMultiplicity → ⊥) =
+      eqb-false _ _ (or-false-right (eqb (o .source) (o .destination)) _ (h .1 .1 .1 .1 .1 .0)) in (
+        record {
+          sorted = sound-sorted s;
+          paired = sound-paired s;
+          low = omega (arith, times-high (o .source) (o .destination) s);
+          room = λ (absent : pointsTo (c .public) (o .source) (o .destination) ≡ false).
+              let full : (c .public .info .used ≡ length (c .public .pointers) → ⊥) =
+              eqb-false _ _ (subst (λ (t : Bool). not t && eqb (c .public .info .used) (length (c .public .pointers)) ≡ false) absent (h .1 .1 .1 .1 .1 .1 .0)) in
+              omega (arith, s .shaped .usedHigh);
+        },
         (
           omega (arith, s .shaped .hasLengths .counts),
           omega (arith, count-low s (o .destination) below, s .shaped .usedHigh, s .shaped .hasLengths .placesHigh),
         ),
       )
 
-  pub create-done : {r : Outcome} {info : Info} {counts pointers : List ℕ} → Passes port c createRequest → r ≡ outcome Done info
-      → card info (c .public .flags) (c .keys) counts pointers (c .public .windows) (c .contents) ≡ change c (addPointer (o .source) (o .destination))
-      → Is (performSound port c createRequest) (r .answer) (card (r .info) (c .public .flags) (c .keys) counts pointers (c .public .windows) (c .contents)) [] []
-  unfolding performSound plan createPlan changes outAfter placesAfter
+  pub create-done : {r : Outcome} {info : Info} {counts pointers multiplicities : List ℕ} → Passes port c createRequest → r ≡ outcome Done info
+      → card info (c .public .flags) (c .keys) counts pointers multiplicities (c .public .windows) (c .contents)
+      ≡ change c (madeBy (c .public .pointers) (c .public .info .used) (o .source) (o .destination))
+      → Is (performSound port c createRequest) (r .answer) (card (r .info) (c .public .flags) (c .keys) counts pointers multiplicities (c .public .windows) (c .contents)) [] []
+  unfolding performSound plan createPlan changes outAfter placesAfter pointsTo
   create-done h e f = finishes c (createRequest .lent) (plan port c (createRequest .call) (createRequest .lent)) e h f refl refl

@@ -6,16 +6,14 @@ use mathlib.Core.List.{[], _∷_}
 use native.Mathlib.Omega.{arith}
 use lib.Dec.{eqb}
 use lib.ListN.{length, getD}
-use lib.Seq.{length-take-le}
 use borrow.Author.Tests.{eq-eqb, ne-eqb, not-false}
 use Rattle.card.specs.ListsLaws.{and-true, and-false-left, and-false-right}
 use Rattle.card.specs.Pointers.{pointer, pointsFrom}
-use Rattle.card.specs.PointersLaws.{contains-counted, destination-pointer, remove-length}
-use Rattle.card.specs.Card.{Card, card, inUse, pointsTo, hasPointers}
+use Rattle.card.specs.Card.{Card, card, allocated, inUse, multiplicity, pointsTo, hasPointers}
 use Rattle.card.specs.SoundCard.{SoundCard}
-use Rattle.card.specs.SoundnessLaws.{allocated-below}
+use Rattle.card.specs.SoundnessLaws.{allocated-below, multiplicityRight-low}
 use Rattle.card.specs.Access.{admits}
-use Rattle.card.specs.Plan.{here, later, dropPointer, freeBlock, change, changes, outAfter, placesAfter}
+use Rattle.card.specs.Plan.{here, later, Change, freeBlock, change, changes, outAfter, placesAfter}
 use Rattle.card.specs.Calls.{missing, rootAtHost, deletePlan}
 use Rattle.card.specs.Promises.{Is, is-done}
 use Rattle.card.specs.Session.{Request, request, plan, performSound}
@@ -25,13 +23,13 @@ use Rattle.card.specs.declared.Call.the-variants.{Delete}
 use Rattle.card.specs.declared.DeleteOperands.{DeleteOperands}
 use Rattle.card.specs.declared.Refusal.the-variants.{NotAllocated, IsRoot, NotOpened, NoPointer, HasPointers}
 use Rattle.card.specs.declared.Answer.the-variants.{Value}
-use Rattle.card.proofs.Guarantees.PointerSteps.{block-narrow}
-use Rattle.tables.specs.InUse.{Removable}
-use Rattle.tables.specs.InUseLaws.{sound-removable}
+use Rattle.card.proofs.Guarantees.PointerSteps.{times-right, times-counted}
+use Rattle.tables.specs.InUseLaws.{sound-sorted, sound-paired}
+use Rattle.changes.specs.OnTables.{CanTakePointer, takenBy}
 use Rattle.checks.specs.CheckedLaws.{Refuses, Passes}
 use Rattle.access.specs.Accessible.{bare}
 use Rattle.access.proofs.Blocks.{flagged, missing-told, root-told, closed-told}
-use Rattle.linking.proofs.Points.{PointsTo, points-whole, told-not}
+use Rattle.linking.proofs.Points.{Times, points-whole, not-not}
 
 module _ (port : Port) (c : Card) (o : DeleteOperands) where
   abbrev deleteRequest : Request
@@ -51,7 +49,7 @@ module _ (port : Port) (c : Card) (o : DeleteOperands) where
       unfolding plan deletePlan
       delete-destination-missing h = later (missing-told (c .public) _ e1 h1) (here (missing-told (c .public) _ e2 h))
 
-      module _ (h2 : t2 ≡ false) {t3 : Bool} (e3 : t3 ≡ rootAtHost port (card (c .public .info) [] [] [] [] [] [] .public) (o .source)) where
+      module _ (h2 : t2 ≡ false) {t3 : Bool} (e3 : t3 ≡ rootAtHost port (card (c .public .info) [] [] [] [] [] [] [] .public) (o .source)) where
         pub root-source : t3 ≡ true → Refuses port c deleteRequest IsRoot
         unfolding plan deletePlan
         root-source h = later (missing-told (c .public) _ e1 h1) (later (missing-told (c .public) _ e2 h2) (here (root-told port (c .public) _ e3 h)))
@@ -64,16 +62,19 @@ module _ (port : Port) (c : Card) (o : DeleteOperands) where
               (later (root-told port (c .public) _ e3 h3)
               (here (closed-told port c Writing _ _ e4 h))))
 
-          module _ (h4 : not t4 ≡ false) {t5 : Bool} (e5 : PointsTo c t5 (o .source) (o .destination)) where
-            pub delete-no-pointer : not t5 ≡ true → Refuses port c deleteRequest NoPointer
+          module _ (h4 : not t4 ≡ false) {times : ℕ} (e5 : Times c times (o .source) (o .destination)) (s : SoundCard c) where
+            absent-told : not (pointsTo (c .public) (o .source) (o .destination)) ≡ eqb times 0
+            absent-told = ap not (points-whole c (o .source) (o .destination) e5 s) ∙ not-not (eqb times 0)
+
+            pub delete-no-pointer : times ≡ 0 → Refuses port c deleteRequest NoPointer
             unfolding plan deletePlan
             delete-no-pointer h =
                 later (missing-told (c .public) _ e1 h1) (later (missing-told (c .public) _ e2 h2)
                 (later (root-told port (c .public) _ e3 h3)
                 (later (closed-told port c Writing _ _ e4 h4)
-                (here (told-not (points-whole c _ _ e5) h)))))
+                (here (absent-told ∙ eq-eqb _ _ h)))))
 
-            module _ (h5 : not t5 ≡ false) where
+            module _ (h5 : times ≡ 0 → ⊥) where
               -- The block has another pointer to it, so its own do not matter.
               pub passes-more : (counted ≡ 1 → ⊥) → Passes port c deleteRequest
               unfolding plan deletePlan
@@ -86,7 +87,7 @@ module _ (port : Port) (c : Card) (o : DeleteOperands) where
                     (
                       closed-told port c Writing _ _ e4 h4,
                       (
-                        told-not (points-whole c _ _ e5) h5,
+                        absent-told ∙ ne-eqb _ _ h5,
                         (and-false-left _ _ (ne-eqb _ _ h), tt),
                       ),
                     ),
@@ -101,7 +102,7 @@ module _ (port : Port) (c : Card) (o : DeleteOperands) where
                     later (missing-told (c .public) _ e1 h1) (later (missing-told (c .public) _ e2 h2)
                     (later (root-told port (c .public) _ e3 h3)
                     (later (closed-told port c Writing _ _ e4 h4)
-                    (later (told-not (points-whole c _ _ e5) h5)
+                    (later (absent-told ∙ ne-eqb _ _ h5)
                     (here (and-true (eqb counted 1) _ (eq-eqb _ _ last) (sym e6 ∙ h)))))))
 
                 pub passes-last : t6 ≡ false → Passes port c deleteRequest
@@ -115,7 +116,7 @@ module _ (port : Port) (c : Card) (o : DeleteOperands) where
                       (
                         closed-told port c Writing _ _ e4 h4,
                         (
-                          told-not (points-whole c _ _ e5) h5,
+                          absent-told ∙ ne-eqb _ _ h5,
                           (and-false-right (eqb counted 1) _ (sym e6 ∙ h), tt),
                         ),
                       ),
@@ -124,30 +125,27 @@ module _ (port : Port) (c : Card) (o : DeleteOperands) where
                 )
 
   module _ (s : SoundCard c) (h : Passes port c deleteRequest) where
-    below : o .destination < c .public .info .blocks
+    held : allocated (c .public) (o .destination) ≡ true
     unfolding plan deletePlan
-    below = allocated-below (c .public) (o .destination) (not-false _ (h .1 .0))
+    held = not-false _ (h .1 .0)
+
+    below : o .destination < c .public .info .blocks
+    below = allocated-below (c .public) (o .destination) held
 
     there : pointsTo (c .public) (o .source) (o .destination) ≡ true
     unfolding plan deletePlan
     there = not-false _ (h .1 .1 .1 .1 .0)
 
-    -- What dropping the pointer asks.
-    pub droppable : Removable (c .public .pointers) (c .public .info .used) (pointer (o .source) (o .destination))
-        × ((o .destination < length (c .public .counts)) × ((1 ≤ counted) × (1 ≤ c .public .info .used)))
-    unfolding pointsTo
-    droppable =
-        let w : ℕ = pointer (o .source) (o .destination) in
-        let some : 1 ≤ counted =
-        subst (λ (n : ℕ). 1 ≤ n) (sym (s .isSound .counts (o .destination) below))
-        (contains-counted (o .destination) w (inUse (c .public)) there (destination-pointer (o .source) (o .destination) (block-narrow s below))) in (
-          sound-removable s (o .source) (o .destination) there,
+    -- What taking the pointer away asks.
+    pub delete-takeable : CanTakePointer (c .public .pointers) (c .public .multiplicities) (c .public .info .used) (pointer (o .source) (o .destination))
+        × ((o .destination < length (c .public .counts)) × (1 ≤ counted))
+    unfolding pointsTo multiplicity
+    delete-takeable =
+        let least : 1 ≤ multiplicity (c .public) (o .source) (o .destination) = multiplicityRight-low _ (times-right (o .source) (o .destination) s there) in (
+          record { sorted = sound-sorted s; paired = sound-paired s; present = there; least = least },
           (
             omega (arith, below, s .shaped .hasLengths .counts),
-            (
-              some,
-              omega (arith, remove-length w (inUse (c .public)) there, length-take-le (c .public .info .used) (c .public .pointers) (s .shaped .usedHigh)),
-            ),
+            omega (arith, times-counted (o .source) (o .destination) s held there),
           ),
         )
 
@@ -162,24 +160,28 @@ module _ (port : Port) (c : Card) (o : DeleteOperands) where
       ),
     )
 
+  -- What DELETE does to the pointer.
+  abbrev taking : Change
+  taking = takenBy (c .public .pointers) (c .public .multiplicities) (c .public .info .used) (o .source) (o .destination)
+
   deleted : {after : Card} (t : Bool) → eqb counted 1 ≡ t → Passes port c deleteRequest
-      → after ≡ changes (change c (dropPointer (o .source) (o .destination))) (cond t (freeBlock (o .destination) ∷ []) [])
+      → after ≡ changes (change c taking) (cond t (freeBlock (o .destination) ∷ []) [])
       → Is (performSound port c deleteRequest) (Value (cond t 1 0)) after [] []
-  unfolding performSound plan deletePlan changes outAfter placesAfter
+  unfolding performSound plan deletePlan changes outAfter placesAfter multiplicity
   deleted {after} t q h =
       subst
       (λ (t : Bool).
-      after ≡ changes (change c (dropPointer (o .source) (o .destination))) (cond t (freeBlock (o .destination) ∷ []) [])
+      after ≡ changes (change c taking) (cond t (freeBlock (o .destination) ∷ []) [])
       → Is (performSound port c deleteRequest) (Value (cond t 1 0)) after [] [])
       q
       (λ e. is-done c (deleteRequest .lent) (plan port c (deleteRequest .call) (deleteRequest .lent)) h e refl refl)
 
-  pub deleted-more : {after : Card} → Passes port c deleteRequest → eqb counted 1 ≡ false → after ≡ change c (dropPointer (o .source) (o .destination)) → Is (performSound port c deleteRequest) (Value 0) after [] []
+  pub deleted-more : {after : Card} → Passes port c deleteRequest → eqb counted 1 ≡ false → after ≡ change c taking → Is (performSound port c deleteRequest) (Value 0) after [] []
   unfolding changes
   deleted-more h more e = deleted false more h e
 
-  -- The block is freed on the card that the dropped pointer leaves.
-  pub deleted-last : {between after : Card} → Passes port c deleteRequest → eqb counted 1 ≡ true → between ≡ change c (dropPointer (o .source) (o .destination))
+  -- The block is freed on the card that the pointer taken away leaves.
+  pub deleted-last : {between after : Card} → Passes port c deleteRequest → eqb counted 1 ≡ true → between ≡ change c taking
       → after ≡ change between (freeBlock (o .destination)) → Is (performSound port c deleteRequest) (Value 1) after [] []
   unfolding changes
   deleted-last h last e f = deleted true last h (f ∙ ap (λ (d : Card). change d (freeBlock (o .destination))) e)

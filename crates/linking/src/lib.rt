@@ -2,6 +2,7 @@
 use card::Answer;
 use card::CreateOperands;
 use card::DeleteOperands;
+use card::HIGHEST_MULTIPLICITY;
 use card::Info;
 use card::Mode;
 use card::Outcome;
@@ -11,20 +12,27 @@ use checks::Checked;
 ghost use mathlib.Core.Path.{_≡_};
 ghost use mathlib.Core.List.{[]};
 ghost use Rattle.card.specs.Lent.{Performs, lent, atEntry};
-ghost use Rattle.card.specs.Card.{card, pointsTo};
+ghost use Rattle.card.specs.Card.{card, multiplicity};
 ghost use Rattle.card.specs.SoundCard.{SoundCard};
 ghost use Rattle.card.specs.Session.{request, performSound};
 ghost use Rattle.card.specs.declared.Call.the-variants.{Create, Delete};
 ghost use Rattle.checks.specs.Checked.{checked};
-ghost use Rattle.tables.specs.InUse.{Sorted};
+ghost use Rattle.tables.specs.InUse.{Sorted, Paired};
 
-// The source points to the destination.
-fn points_to(info: Info, pointers: &[u32], source: u16, destination: u16) -> bool
+// How often the source points to the destination.
+fn multiplicity(
+    info: Info,
+    pointers: &[u32],
+    multiplicities: &[u16],
+    source: u16,
+    destination: u16,
+) -> u16
     requires { ⌜ Sorted (now pointers) (info .used) ⌝ }
-    ensures { λ r. ⌜ r ≡ pointsTo (card info [] [] [] (now (pointers .entry)) [] [] .public) source destination ⌝ }
+    requires { ⌜ Paired (now pointers) (now multiplicities) ⌝ }
+    ensures { λ r. ⌜ r ≡ multiplicity (card info [] [] [] (now (pointers .entry)) (now (multiplicities .entry)) [] [] .public) source destination ⌝ }
 {
     let pointer = (source as u32) * 65536 + (destination as u32);
-    tables::holds(pointers, info.used, pointer)
+    tables::times(pointers, multiplicities, info.used, pointer)
 }
 
 // ---- CREATE
@@ -34,15 +42,16 @@ fn create_check(
     info: Info,
     flags: &[u8],
     keys: &[u64],
-    counts: &[u16],
+    counts: &[u32],
     pointers: &[u32],
+    multiplicities: &[u16],
     windows: &[u64],
     contents: &[u8],
     port: Port,
     o: CreateOperands,
 ) -> Checked
-    requires { ⌜ SoundCard (lent info flags keys counts pointers windows contents) ⌝ }
-    ensures { λ r. ⌜ r ≡ checked port (atEntry info flags keys counts pointers windows contents) (request (Create o) [] [] []) ⌝ }
+    requires { ⌜ SoundCard (lent info flags keys counts pointers multiplicities windows contents) ⌝ }
+    ensures { λ r. ⌜ r ≡ checked port (atEntry info flags keys counts pointers multiplicities windows contents) (request (Create o) [] [] []) ⌝ }
 {
     let first = o.credential;
     let second = o.second;
@@ -85,10 +94,11 @@ fn create_check(
     ) {
         return Checked::Refused(Refusal::NotOpened);
     }
-    if (o.source == o.destination) | points_to(info, pointers, o.source, o.destination) {
-        return Checked::Refused(Refusal::PointerExists);
+    let times = multiplicity(info, pointers, multiplicities, o.source, o.destination);
+    if (o.source == o.destination) | (times == HIGHEST_MULTIPLICITY) {
+        return Checked::Refused(Refusal::CannotPoint);
     }
-    if info.used == pointers.len() {
+    if (times == 0) & (info.used == pointers.len()) {
         return Checked::Refused(Refusal::TooFewPlaces);
     }
     Checked::Passed
@@ -99,15 +109,16 @@ pub fn create_sound(
     info: Info,
     flags: &[u8],
     keys: &[u64],
-    counts: &mut [u16],
+    counts: &mut [u32],
     pointers: &mut [u32],
+    multiplicities: &mut [u16],
     windows: &[u64],
     contents: &[u8],
     port: Port,
     o: CreateOperands,
 ) -> Outcome
-    requires { ⌜ SoundCard (lent info flags keys counts pointers windows contents) ⌝ }
-    ensures { λ r. ⌜ Performs (λ c. performSound port c (request (Create o) [] [] [])) info flags keys counts pointers windows contents r [] [] ⌝ }
+    requires { ⌜ SoundCard (lent info flags keys counts pointers multiplicities windows contents) ⌝ }
+    ensures { λ r. ⌜ Performs (λ c. performSound port c (request (Create o) [] [] [])) info flags keys counts pointers multiplicities windows contents r [] [] ⌝ }
 {
     match create_check(
         info,
@@ -115,6 +126,7 @@ pub fn create_sound(
         keys,
         counts,
         pointers,
+        multiplicities,
         windows,
         contents,
         port,
@@ -122,7 +134,9 @@ pub fn create_sound(
     ) {
         Checked::Refused(why) => outcomes::refused(info, why),
         Checked::Passed => {
-            let left = changes::add_pointer(info, counts, pointers, o.source, o.destination);
+            let from = o.source;
+            let to = o.destination;
+            let left = changes::make_pointer(info, counts, pointers, multiplicities, from, to);
             outcomes::done(left)
         }
     }
@@ -135,15 +149,16 @@ fn delete_check(
     info: Info,
     flags: &[u8],
     keys: &[u64],
-    counts: &[u16],
+    counts: &[u32],
     pointers: &[u32],
+    multiplicities: &[u16],
     windows: &[u64],
     contents: &[u8],
     port: Port,
     o: DeleteOperands,
 ) -> Checked
-    requires { ⌜ SoundCard (lent info flags keys counts pointers windows contents) ⌝ }
-    ensures { λ r. ⌜ r ≡ checked port (atEntry info flags keys counts pointers windows contents) (request (Delete o) [] [] []) ⌝ }
+    requires { ⌜ SoundCard (lent info flags keys counts pointers multiplicities windows contents) ⌝ }
+    ensures { λ r. ⌜ r ≡ checked port (atEntry info flags keys counts pointers multiplicities windows contents) (request (Delete o) [] [] []) ⌝ }
 {
     let credential = o.credential;
     let from = o.source as usize;
@@ -170,7 +185,7 @@ fn delete_check(
     ) {
         return Checked::Refused(Refusal::NotOpened);
     }
-    if !points_to(info, pointers, o.source, o.destination) {
+    if multiplicity(info, pointers, multiplicities, o.source, o.destination) == 0 {
         return Checked::Refused(Refusal::NoPointer);
     }
     if counts[to] != 1 {
@@ -187,15 +202,16 @@ pub fn delete_sound(
     info: Info,
     flags: &mut [u8],
     keys: &mut [u64],
-    counts: &mut [u16],
+    counts: &mut [u32],
     pointers: &mut [u32],
+    multiplicities: &mut [u16],
     windows: &mut [u64],
     contents: &[u8],
     port: Port,
     o: DeleteOperands,
 ) -> Outcome
-    requires { ⌜ SoundCard (lent info flags keys counts pointers windows contents) ⌝ }
-    ensures { λ r. ⌜ Performs (λ c. performSound port c (request (Delete o) [] [] [])) info flags keys counts pointers windows contents r [] [] ⌝ }
+    requires { ⌜ SoundCard (lent info flags keys counts pointers multiplicities windows contents) ⌝ }
+    ensures { λ r. ⌜ Performs (λ c. performSound port c (request (Delete o) [] [] [])) info flags keys counts pointers multiplicities windows contents r [] [] ⌝ }
 {
     match delete_check(
         info,
@@ -203,6 +219,7 @@ pub fn delete_sound(
         keys,
         counts,
         pointers,
+        multiplicities,
         windows,
         contents,
         port,
@@ -211,7 +228,9 @@ pub fn delete_sound(
         Checked::Refused(why) => outcomes::refused(info, why),
         Checked::Passed => {
             let last = counts[o.destination as usize] == 1;
-            let left = changes::drop_pointer(info, counts, pointers, o.source, o.destination);
+            let from = o.source;
+            let to = o.destination;
+            let left = changes::take_pointer(info, counts, pointers, multiplicities, from, to);
             if last {
                 changes::free_block(flags, keys, windows, o.destination);
                 return Outcome {

@@ -123,8 +123,8 @@ module _ (records₀ : ℕ) (c₀ : Card) (xs out₀ : List ℕ) where
 -- ---- the loop's invariant
 
 -- The tables and the output keep their lengths, and the play has come so far.
-pub record PlayLoop (info₀ : Info) (flags₀ keys₀ counts₀ pointers₀ windows₀ contents₀ : List ℕ) (records₀ : ℕ) (input output₀ : List ℕ)
-    (info : Info) (flags keys counts pointers windows contents output : List ℕ) (count from at : ℕ) : Type 0 where
-  pub tables : SameTables flags₀ keys₀ counts₀ pointers₀ windows₀ contents₀ flags keys counts pointers windows contents
+pub record PlayLoop (info₀ : Info) (flags₀ keys₀ counts₀ pointers₀ multiplicities₀ windows₀ contents₀ : List ℕ) (records₀ : ℕ) (input output₀ : List ℕ)
+    (info : Info) (flags keys counts pointers multiplicities windows contents output : List ℕ) (count from at : ℕ) : Type 0 where
+  pub tables : SameTables flags₀ keys₀ counts₀ pointers₀ multiplicities₀ windows₀ contents₀ flags keys counts pointers multiplicities windows contents
   pub sameOutput : length output ≡ length output₀
-  pub playing : Playing records₀ (card info₀ flags₀ keys₀ counts₀ pointers₀ windows₀ contents₀) input output₀ count (card info flags keys counts pointers windows contents) from at output
+  pub playing : Playing records₀ (card info₀ flags₀ keys₀ counts₀ pointers₀ multiplicities₀ windows₀ contents₀) input output₀ count (card info flags keys counts pointers multiplicities windows contents) from at output

@@ -19,8 +19,9 @@ fn play_call(
     info: Info,
     flags: &mut [u8],
     keys: &mut [u64],
-    counts: &mut [u16],
+    counts: &mut [u32],
     pointers: &mut [u32],
+    multiplicities: &mut [u16],
     windows: &mut [u64],
     contents: &mut [u8],
     ordinal: u64,
@@ -32,7 +33,7 @@ fn play_call(
     at: usize,
 ) -> Wrote
     requires { ⌜ at + lineRoom ≤ length (now to) ⌝ }
-    ensures { λ r. ⌜ Writes (λ c. played port c call (now (payload .entry))) (line ordinal kind call) lineRoom info flags keys counts pointers windows contents to at r ⌝ }
+    ensures { λ r. ⌜ Writes (λ c. played port c call (now (payload .entry))) (line ordinal kind call) lineRoom info flags keys counts pointers multiplicities windows contents to at r ⌝ }
 {
     let mut out = [0u8; 512];
     let mut places = [0u16; MOST_BLOCKS as usize];
@@ -42,6 +43,7 @@ fn play_call(
         keys,
         counts,
         pointers,
+        multiplicities,
         windows,
         contents,
         port,
@@ -64,8 +66,9 @@ fn play_turn(
     info: Info,
     flags: &mut [u8],
     keys: &mut [u64],
-    counts: &mut [u16],
+    counts: &mut [u32],
     pointers: &mut [u32],
+    multiplicities: &mut [u16],
     windows: &mut [u64],
     contents: &mut [u8],
     ordinal: u64,
@@ -75,7 +78,7 @@ fn play_turn(
     at: usize,
 ) -> Turned
     requires { ⌜ from ≤ length (now input) ⌝ ∗ ⌜ at + lineRoom ≤ length (now to) ⌝ }
-    ensures { λ r. ⌜ Turns (turn ordinal) lineRoom info flags keys counts pointers windows contents input from to at r ⌝ }
+    ensures { λ r. ⌜ Turns (turn ordinal) lineRoom info flags keys counts pointers multiplicities windows contents input from to at r ⌝ }
 {
     let found = input::find(Port::Service, input, from);
     match found {
@@ -96,6 +99,7 @@ fn play_turn(
                 keys,
                 counts,
                 pointers,
+                multiplicities,
                 windows,
                 contents,
                 ordinal,
@@ -122,8 +126,9 @@ pub fn play(
     info: Info,
     flags: &mut [u8],
     keys: &mut [u64],
-    counts: &mut [u16],
+    counts: &mut [u32],
     pointers: &mut [u32],
+    multiplicities: &mut [u16],
     windows: &mut [u64],
     contents: &mut [u8],
     records: u64,
@@ -131,7 +136,7 @@ pub fn play(
     output: &mut [u8],
 ) -> Part
     requires { ⌜ records < 9223372036854775808 ⌝ }
-    ensures { λ r. ⌜ Plays (play records) info flags keys counts pointers windows contents input output r ⌝ }
+    ensures { λ r. ⌜ Plays (play records) info flags keys counts pointers multiplicities windows contents input output r ⌝ }
 {
     let mut left = info;
     let mut count = records;
@@ -153,6 +158,7 @@ pub fn play(
             keys,
             counts,
             pointers,
+            multiplicities,
             windows,
             contents,
             count + 1,

@@ -93,18 +93,18 @@ module _ (words keys : List ℕ) (flag b : ℕ) where
 -- What is computed of a block is what the rules say of it.
 pub looked-at : (words : List ℕ) (info : Info) (flags keys windows : List ℕ) (b : ℕ) → b < info .blocks
     → {read write hasRead hasWrite openRead openWrite held : Bool}
-    → read ≡ keyPresented (given words) (card info flags keys [] [] windows []) Reading b
-    → write ≡ keyPresented (given words) (card info flags keys [] [] windows []) Writing b
+    → read ≡ keyPresented (given words) (card info flags keys [] [] [] windows []) Reading b
+    → write ≡ keyPresented (given words) (card info flags keys [] [] [] windows []) Writing b
     → hasRead ≡ keyFlag Reading (getD flags b 0) → hasWrite ≡ keyFlag Writing (getD flags b 0)
-    → openRead ≡ windowOpen (card info [] [] [] [] windows [] .public) Reading b → openWrite ≡ windowOpen (card info [] [] [] [] windows [] .public) Writing b
+    → openRead ≡ windowOpen (card info [] [] [] [] [] windows [] .public) Reading b → openWrite ≡ windowOpen (card info [] [] [] [] [] windows [] .public) Writing b
     → held ≡ allocatedFlag (getD flags b 0)
-    → StandingOf words (card info flags keys [] [] windows []) b (record {
+    → StandingOf words (card info flags keys [] [] [] windows []) b (record {
       shut = boolByte ((hasRead && hasWrite) && (not read && not write));
       within = held && ((ltb b (info .roots) && not ((hasRead && hasWrite) && (not read && not write))) || ((read || write) || (openRead || openWrite)));
     })
 unfolding sealed hasKey withinByItself allocated rootUnsealed someKey someWindow windowOpen
 looked-at words info flags keys windows b l r w hr hw or' ow a = record {
-  isShut = rw (r, w, hr, hw) (byte (sealed (given words) (card info flags keys [] [] windows []) b));
+  isShut = rw (r, w, hr, hw) (byte (sealed (given words) (card info flags keys [] [] [] windows []) b));
   isWithin = rw (r, w, hr, hw, or', ow, a, lt-ltb b (info .blocks) l);
 }
   where

@@ -35,10 +35,10 @@ walking-start h = record {
 }
 
 -- What is said of a block by itself looks at no other tables.
-begun-card : (words : List ℕ) (info : Info) (flags keys counts pointers windows contents : List ℕ) (n : ℕ) {shut marks queue : List ℕ} {tail : ℕ}
-    → Begun words (card info flags keys [] [] windows []) n shut marks queue tail → Begun words (card info flags keys counts pointers windows contents) n shut marks queue tail
+begun-card : (words : List ℕ) (info : Info) (flags keys counts pointers multiplicities windows contents : List ℕ) (n : ℕ) {shut marks queue : List ℕ} {tail : ℕ}
+    → Begun words (card info flags keys [] [] [] windows []) n shut marks queue tail → Begun words (card info flags keys counts pointers multiplicities windows contents) n shut marks queue tail
 unfolding sealed keyPresented hasKey withinByItself rootUnsealed someKey someWindow allocated windowOpen
-begun-card words info flags keys counts pointers windows contents n h = record {
+begun-card words info flags keys counts pointers multiplicities windows contents n h = record {
   hasShut = h .hasShut;
   shutBelow = record { isShut = h .shutBelow .isShut; isOpen = h .shutBelow .isOpen };
   walking = h .walking;
@@ -77,8 +77,8 @@ module _ {words : List ℕ} {c : Card} (s : SoundCard c) {shut marks queue : Lis
         counted = w .walking .counted ∙ marked-below marks' (c .public .info .blocks) few (λ b e. below b (led-within (w .led b e))) ∙ ap length list;
       }
 
-pub walked-within : (words : List ℕ) (info : Info) (flags keys counts pointers windows contents : List ℕ) {shut marks marks' queue queue' : List ℕ} {tail count : ℕ}
-    → SoundCard (card info flags keys counts pointers windows contents) → Begun words (card info flags keys [] [] windows []) (info .blocks) shut marks queue tail
-    → Spread (Edge Along shut (inUse (card info flags keys counts pointers windows contents .public))) marks marks' queue' count
-    → Within words (card info flags keys counts pointers windows contents) shut marks' count
-walked-within words info flags keys counts pointers windows contents s h w = walked s (begun-card words info flags keys counts pointers windows contents (info .blocks) h) w
+pub walked-within : (words : List ℕ) (info : Info) (flags keys counts pointers multiplicities windows contents : List ℕ) {shut marks marks' queue queue' : List ℕ} {tail count : ℕ}
+    → SoundCard (card info flags keys counts pointers multiplicities windows contents) → Begun words (card info flags keys [] [] [] windows []) (info .blocks) shut marks queue tail
+    → Spread (Edge Along shut (inUse (card info flags keys counts pointers multiplicities windows contents .public))) marks marks' queue' count
+    → Within words (card info flags keys counts pointers multiplicities windows contents) shut marks' count
+walked-within words info flags keys counts pointers multiplicities windows contents s h w = walked s (begun-card words info flags keys counts pointers multiplicities windows contents (info .blocks) h) w

@@ -79,7 +79,7 @@ fn look_at(
 ) -> Standing
     requires { ⌜ Sized info (now flags) (now keys) (now windows) ⌝ }
     requires { ⌜ block < info .blocks ⌝ }
-    ensures { λ r. ⌜ StandingOf (now (words .entry)) (card info (now (flags .entry)) (now (keys .entry)) [] [] (now (windows .entry)) []) block r ⌝ }
+    ensures { λ r. ⌜ StandingOf (now (words .entry)) (card info (now (flags .entry)) (now (keys .entry)) [] [] [] (now (windows .entry)) []) block r ⌝ }
 {
     let flag = flags[block];
     let read = key_given(flag, keys, words, Mode::Reading, block);
@@ -108,7 +108,7 @@ fn begin(
 ) -> usize
     requires { ⌜ Sized info (now flags) (now keys) (now windows) ⌝ }
     requires { ⌜ Fresh (now shut) (now marks) (now queue) ⌝ }
-    ensures { λ r. ⌜ Begun (now (words .entry)) (card info (now (flags .entry)) (now (keys .entry)) [] [] (now (windows .entry)) []) (info .blocks) (now (shut .exit)) (now (marks .exit)) (now (queue .exit)) r ⌝ }
+    ensures { λ r. ⌜ Begun (now (words .entry)) (card info (now (flags .entry)) (now (keys .entry)) [] [] [] (now (windows .entry)) []) (info .blocks) (now (shut .exit)) (now (marks .exit)) (now (queue .exit)) r ⌝ }
 {
     let mut tail = 0;
     let mut block = 0;
@@ -130,8 +130,9 @@ pub fn mark_within(
     info: Info,
     flags: &[u8],
     keys: &[u64],
-    counts: &[u16],
+    counts: &[u32],
     pointers: &[u32],
+    multiplicities: &[u16],
     windows: &[u64],
     contents: &[u8],
     words: &[u64],
@@ -139,9 +140,9 @@ pub fn mark_within(
     marks: &mut [u8; 4096],
     queue: &mut [u16; 4096],
 ) -> usize
-    requires { ⌜ SoundCard (lent info flags keys counts pointers windows contents) ⌝ }
+    requires { ⌜ SoundCard (lent info flags keys counts pointers multiplicities windows contents) ⌝ }
     requires { ⌜ Fresh (now shut) (now marks) (now queue) ⌝ }
-    ensures { λ r. ⌜ Within (now (words .entry)) (atEntry info flags keys counts pointers windows contents) (now (shut .exit)) (now (marks .exit)) r ⌝ }
+    ensures { λ r. ⌜ Within (now (words .entry)) (atEntry info flags keys counts pointers multiplicities windows contents) (now (shut .exit)) (now (marks .exit)) r ⌝ }
 {
     let begun = begin(info, flags, keys, windows, words, shut, marks, queue);
     walks::walk(
@@ -179,15 +180,16 @@ fn reach_sound(
     info: Info,
     flags: &[u8],
     keys: &[u64],
-    counts: &[u16],
+    counts: &[u32],
     pointers: &[u32],
+    multiplicities: &[u16],
     windows: &[u64],
     contents: &[u8],
     words: &[u64],
     places: &mut [u16],
 ) -> Answer
-    requires { ⌜ SoundCard (lent info flags keys counts pointers windows contents) ⌝ }
-    ensures { λ r. ⌜ Reports (reachSound (now (words .entry))) info flags keys counts pointers windows contents places r ⌝ }
+    requires { ⌜ SoundCard (lent info flags keys counts pointers multiplicities windows contents) ⌝ }
+    ensures { λ r. ⌜ Reports (reachSound (now (words .entry))) info flags keys counts pointers multiplicities windows contents places r ⌝ }
 {
     if bad_keys(words) {
         return Answer::Refused(Refusal::BadOperand);
@@ -201,6 +203,7 @@ fn reach_sound(
         keys,
         counts,
         pointers,
+        multiplicities,
         windows,
         contents,
         words,
@@ -220,16 +223,26 @@ pub fn reach(
     info: Info,
     flags: &[u8],
     keys: &[u64],
-    counts: &[u16],
+    counts: &[u32],
     pointers: &[u32],
+    multiplicities: &[u16],
     windows: &[u64],
     contents: &[u8],
     words: &[u64],
     places: &mut [u16],
 ) -> Answer
-    ensures { λ r. ⌜ Reports (reachReport (now (words .entry))) info flags keys counts pointers windows contents places r ⌝ }
+    ensures { λ r. ⌜ Reports (reachReport (now (words .entry))) info flags keys counts pointers multiplicities windows contents places r ⌝ }
 {
-    match audit::audit(info, flags, keys, counts, pointers, windows, contents) {
+    match audit::audit(
+        info,
+        flags,
+        keys,
+        counts,
+        pointers,
+        multiplicities,
+        windows,
+        contents,
+    ) {
         Verdict::Misshapen => Answer::Refused(Refusal::Misshapen),
         Verdict::Unsound => Answer::Refused(Refusal::Unsound),
         Verdict::Sound => reach_sound(
@@ -238,6 +251,7 @@ pub fn reach(
             keys,
             counts,
             pointers,
+            multiplicities,
             windows,
             contents,
             words,

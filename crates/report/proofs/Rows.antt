@@ -23,9 +23,9 @@ tested = tt
 
 -- ---- cards, drawn by hand: no rule has made them
 
--- N 16, R 1 and P 32 at second 0. No list looks at contents, so there are none.
+-- N 16, R 1 and P 32 at second 0. No list looks at counts, multiplicities and contents.
 abbrev drawn : (used : ℕ) (flags keys pointers windows : List ℕ) → Card
-drawn used flags keys pointers windows = card (withUsed (freshInfo 16 1 512) used) flags keys (zeros 16) pointers windows []
+drawn used flags keys pointers windows = card (withUsed (freshInfo 16 1 512) used) flags keys (zeros 16) pointers (zeros 32) windows []
 
 -- A chain of pointers through all blocks, from each to the next.
 abbrev path : Card

@@ -19,10 +19,10 @@ abbrev pub unlockingSound : List ℕ → ℕ → List ℕ → Card → Result
 unlockingSound words chosen places c = judgeSound c (lentPlaces places) (unlockingPlan words chosen (length places) c)
 
 -- What a function answers, the card and the places at its exit are what the rule makes of the places and the card at its entry.
-abbrev pub Reports : (List ℕ → Card → Result) → Info → Lent → Lent → Lent → Lent → Lent → Lent → Lent → Answer → Type 0
-Reports rule info flags keys counts pointers windows contents places r =
-    Is (rule (now (places .entry)) (atEntry info flags keys counts pointers windows contents))
+abbrev pub Reports : (List ℕ → Card → Result) → Info → Lent → Lent → Lent → Lent → Lent → Lent → Lent → Lent → Answer → Type 0
+Reports rule info flags keys counts pointers multiplicities windows contents places r =
+    Is (rule (now (places .entry)) (atEntry info flags keys counts pointers multiplicities windows contents))
     r
-    (atExit info flags keys counts pointers windows contents)
+    (atExit info flags keys counts pointers multiplicities windows contents)
     []
     (now (places .exit))

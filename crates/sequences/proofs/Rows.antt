@@ -2,8 +2,8 @@
 -- the mistake turns it from true to false. That the functions return and leave what a row says is shown beside it.
 use Prim.Native.Nat.{ℕ}
 use mathlib.Core.Path.{_≡_, refl, ap}
-use mathlib.Core.Bool.{Bool, true, false, _&&_}
-use mathlib.Core.List.{List, [], _∷_, _++_}
+use mathlib.Core.Bool.{Bool, true, _&&_}
+use mathlib.Core.List.{List, [], _∷_}
 use native.Mathlib.Omega.{arith}
 use lib.Dec.{eqb}
 use lib.ListN.{replicate}
@@ -61,7 +61,7 @@ allAtHost-true [] h = tt
 allAtHost-true (s ∷ steps) h = (eqb-true _ _ (and-left _ _ h), allAtHost-true steps (and-right (eqb (portNumber s) 0) _ h))
 
 abbrev withBytes : Memory → List ℕ → Memory
-withBytes m contents = record { info = m .info; flags = m .flags; keys = m .keys; counts = m .counts; pointers = m .pointers; windows = m .windows; contents = contents }
+withBytes m contents = record { info = m .info; flags = m .flags; keys = m .keys; counts = m .counts; pointers = m .pointers; multiplicities = m .multiplicities; windows = m .windows; contents = contents }
 
 -- At the host port, on two memories that the keys of the sequence cannot tell apart, the same is returned.
 abbrev pub callsSecretTest : Memory → List ℕ → (ℕ → Bool) → List Step → List Returned → List Returned → Bool
@@ -92,6 +92,7 @@ memoryOf used time c = record {
   keys = c .keys;
   counts = c .public .counts;
   pointers = c .public .pointers;
+  multiplicities = c .public .multiplicities;
   windows = c .public .windows;
   contents = c .contents;
 }

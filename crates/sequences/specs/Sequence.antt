@@ -23,18 +23,19 @@ use Rattle.parameters.specs.declared.Wire.the-variants.{At, Nowhere}
 use Rattle.interface.specs.Functions.{Function, Lending, lendingOf, effectBy, functionPort}
 use Rattle.interface.specs.Batch.{stopNumber, BatchState, BatchIs, batchState}
 
--- What a caller lends to every function: the record and the six tables.
+-- What a caller lends to every function: the record and the seven tables.
 pub record Memory : Type 0 where
   pub info : List ℕ
   pub flags : List ℕ
   pub keys : List ℕ
   pub counts : List ℕ
   pub pointers : List ℕ
+  pub multiplicities : List ℕ
   pub windows : List ℕ
   pub contents : List ℕ
 
 abbrev pub cardOf : Memory → Card
-cardOf m = card (recordOf (m .info)) (m .flags) (m .keys) (m .counts) (m .pointers) (m .windows) (m .contents)
+cardOf m = card (recordOf (m .info)) (m .flags) (m .keys) (m .counts) (m .pointers) (m .multiplicities) (m .windows) (m .contents)
 
 -- A step of a caller: a function for one call, or a batch, with what its buffer and its three numbers hold.
 pub data Step : Type 0 where
@@ -49,7 +50,7 @@ pub data Returned : Type 0 where
 -- ---- what the functions promise, chained
 
 abbrev pub stateOf : Memory → List ℕ → ℕ → ℕ → ℕ → BatchState
-stateOf m answers records read written = batchState (m .info) (m .flags) (m .keys) (m .counts) (m .pointers) (m .windows) (m .contents) answers records read written
+stateOf m answers records read written = batchState (m .info) (m .flags) (m .keys) (m .counts) (m .pointers) (m .multiplicities) (m .windows) (m .contents) answers records read written
 
 -- Each step does what its contract says, on the memory that the one before left.
 pub data Called : Memory → List Step → List Returned → Memory → Type 0 where

@@ -33,6 +33,7 @@ pub in-lengths : (c : Card) → InRanges (c .public .info .blocks) (c .public .i
     && eqb (length (c .public .counts)) (c .public .info .blocks)
     && leb 1 (length (c .public .pointers))
     && leb (length (c .public .pointers)) 16384
+    && eqb (length (c .public .multiplicities)) (length (c .public .pointers))
     && eqb (length (c .public .windows)) (2 * c .public .info .blocks)
     && eqb (length (c .contents)) (c .public .info .blocks * c .public .info .bytes)
     && leb (c .public .info .used) (length (c .public .pointers))

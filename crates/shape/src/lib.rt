@@ -28,13 +28,14 @@ fn has_lengths(
     info: Info,
     flags: &[u8],
     keys: &[u64],
-    counts: &[u16],
+    counts: &[u32],
     pointers: &[u32],
+    multiplicities: &[u16],
     windows: &[u64],
     contents: &[u8],
 ) -> bool
     requires { ⌜ InRanges (info .blocks) (info .roots) (info .bytes) ⌝ }
-    ensures { λ r. ⌜ r ≡ shape (atEntry info flags keys counts pointers windows contents) ⌝ }
+    ensures { λ r. ⌜ r ≡ shape (atEntry info flags keys counts pointers multiplicities windows contents) ⌝ }
 {
     let blocks = info.blocks;
     let places = pointers.len();
@@ -44,6 +45,7 @@ fn has_lengths(
         & (counts.len() == blocks)
         & (1 <= places)
         & (places <= PLACE_LIMIT)
+        & (multiplicities.len() == places)
         & (windows.len() == 2 * blocks)
         & (contents.len() == blocks * info.bytes)
         & (info.used <= places)
@@ -54,15 +56,25 @@ pub fn shaped(
     info: Info,
     flags: &[u8],
     keys: &[u64],
-    counts: &[u16],
+    counts: &[u32],
     pointers: &[u32],
+    multiplicities: &[u16],
     windows: &[u64],
     contents: &[u8],
 ) -> bool
-    ensures { λ r. ⌜ r ≡ shape (atEntry info flags keys counts pointers windows contents) ⌝ }
+    ensures { λ r. ⌜ r ≡ shape (atEntry info flags keys counts pointers multiplicities windows contents) ⌝ }
 {
     if in_ranges(info.blocks, info.roots, info.bytes) {
-        has_lengths(info, flags, keys, counts, pointers, windows, contents)
+        has_lengths(
+            info,
+            flags,
+            keys,
+            counts,
+            pointers,
+            multiplicities,
+            windows,
+            contents,
+        )
     } else {
         false
     }

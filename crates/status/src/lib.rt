@@ -16,13 +16,14 @@ pub fn free_sound(
     info: Info,
     flags: &[u8],
     keys: &[u64],
-    counts: &[u16],
+    counts: &[u32],
     pointers: &[u32],
+    multiplicities: &[u16],
     windows: &[u64],
     contents: &[u8],
 ) -> Outcome
-    requires { ⌜ SoundCard (lent info flags keys counts pointers windows contents) ⌝ }
-    ensures { λ r. ⌜ ((port : Port) → Performs (λ c. performSound port c (request (Call.Free) [] [] [])) info flags keys counts pointers windows contents r [] []) ⌝ }
+    requires { ⌜ SoundCard (lent info flags keys counts pointers multiplicities windows contents) ⌝ }
+    ensures { λ r. ⌜ ((port : Port) → Performs (λ c. performSound port c (request (Call.Free) [] [] [])) info flags keys counts pointers multiplicities windows contents r [] []) ⌝ }
 {
     let free = tables::count_free(flags);
     Outcome {
@@ -35,14 +36,15 @@ pub fn tick_sound(
     info: Info,
     flags: &[u8],
     keys: &[u64],
-    counts: &[u16],
+    counts: &[u32],
     pointers: &[u32],
+    multiplicities: &[u16],
     windows: &[u64],
     contents: &[u8],
     o: TickOperands,
 ) -> Outcome
-    requires { ⌜ SoundCard (lent info flags keys counts pointers windows contents) ⌝ }
-    ensures { λ r. ⌜ ((port : Port) → Performs (λ c. performSound port c (request (Call.Tick o) [] [] [])) info flags keys counts pointers windows contents r [] []) ⌝ }
+    requires { ⌜ SoundCard (lent info flags keys counts pointers multiplicities windows contents) ⌝ }
+    ensures { λ r. ⌜ ((port : Port) → Performs (λ c. performSound port c (request (Call.Tick o) [] [] [])) info flags keys counts pointers multiplicities windows contents r [] []) ⌝ }
 {
     // Compared before it is added: the sum could wrap.
     if TIME_LIMIT - info.time <= o.seconds {

@@ -1,11 +1,11 @@
--- What a function on the pointers in use asks of the table, and what raising them gives.
+-- What a function on the pointers in use and the numbers beside them asks of the tables.
 use Prim.Native.Nat.{ℕ, _+_, _≤_, _<_}
 use mathlib.Core.Path.{_≡_}
-use mathlib.Core.Bool.{true, false}
-use mathlib.Core.List.{List, _++_}
-use lib.ListN.{length, take, drop}
+use mathlib.Core.Bool.{true, false, not}
+use mathlib.Core.List.{List}
+use lib.ListN.{length, take}
+use Rattle.card.specs.Lists.{all}
 use Rattle.card.specs.Pointers.{ascending, contains}
-use Rattle.tables.specs.Rank.{rank}
 
 -- The first places of the table are in use, and ascend.
 pub record Sorted (pointers : List ℕ) (used : ℕ) : Type 0 where
@@ -18,23 +18,23 @@ pub record Addable (pointers : List ℕ) (used w : ℕ) : Type 0 where
   pub room : used < length pointers
   pub absent : contains w (take used pointers) ≡ false
 
--- There is room for so many more, which ascend.
+-- There is room for so many more, which ascend, and none of which is in use.
 pub record Mergeable (pointers : List ℕ) (used : ℕ) (added : List ℕ) (count : ℕ) : Type 0 where
   pub sorted : Sorted pointers used
   pub addedSorted : Sorted added count
   pub room : used + count ≤ length pointers
+  pub absent : all (λ v. not (contains v (take used pointers))) (take count added) ≡ true
 
--- The pointer is in use.
-pub record Removable (pointers : List ℕ) (used w : ℕ) : Type 0 where
-  pub sorted : Sorted pointers used
-  pub present : contains w (take used pointers) ≡ true
+-- The place is among the first `used` or behind the last of them, and there is room for so many more.
+pub record Raisable (xs : List ℕ) (used by at : ℕ) : Type 0 where
+  pub place : at ≤ used
+  pub room : used + by ≤ length xs
 
--- There is room for so many more.
-pub record Raisable (pointers : List ℕ) (used by : ℕ) : Type 0 where
-  pub sorted : Sorted pointers used
-  pub room : used + by ≤ length pointers
+-- The place is among the first `used`.
+pub record Lowerable (xs : List ℕ) (used at : ℕ) : Type 0 where
+  pub place : at < used
+  pub within : used ≤ length xs
 
--- The pointers in use from the place of w on stand so many places higher, and the others where they were.
-pub record RaisedFrom (before : List ℕ) (used by w at : ℕ) (after : List ℕ) : Type 0 where
-  pub place : at ≡ rank w (take used before)
-  pub raised : after ≡ take (at + by) before ++ (drop at (take used before) ++ drop (used + by) before)
+-- A number stands beside each place.
+pub record Paired (pointers numbers : List ℕ) : Type 0 where
+  pub same : length numbers ≡ length pointers

@@ -1,7 +1,10 @@
+pub mod Places
 pub mod Rank
 pub mod RankLaws
+pub mod BesideRank
 pub mod InUse
 pub mod InUseLaws
+pub mod PlaceLaws
 pub mod Free
 pub mod FreeLaws
 pub mod Merge

@@ -1,118 +1,146 @@
--- Laws of several numbers put into an ascending list: the order of insertion, and the last of the result.
+-- Laws of several pointers put into an ascending list with a number beside each: the order of insertion, and the last of the result.
+-- What holds of any numbers beside the pointers holds of the pointers themselves.
 use Prim.Native.Nat.{ℕ, zero, suc, _+_, _≤_, _<_}
 use mathlib.Core.Path.{_≡_, refl, sym, ap, _∙_}
 use mathlib.Core.Logic.{_⊎_, ⊎-elim}
 use mathlib.Core.Bool.{Bool, true, false, _||_, cond}
-use mathlib.Core.List.{List, [], _∷_, _++_, append-nil}
+use mathlib.Core.List.{List, [], _∷_, _++_}
 use native.Mathlib.Nat.{le-of-suc-le-suc, not-suc-le-zero}
 use native.Mathlib.Omega.{arith}
 use lib.Dec.{eqb, ltb}
 use lib.ListN.{length, take, getD}
-use lib.Seq.{append-snoc}
 use borrow.Author.Tests.{lt-ltb, le-ltb, ltb-true}
 use Rattle.card.specs.Lists.{all, any}
-use Rattle.card.specs.ListsLaws.{or-left, or-right, or-cases, all-head, all-tail, all-cons, all-map, absurd-test, below-or-not}
-use Rattle.card.specs.Pointers.{ascending, contains, insert}
+use Rattle.card.specs.ListsLaws.{or-left, or-right, or-false, or-false-left, or-false-right, or-cases, all-head, all-tail, all-cons, all-map, absurd-test, below-or-not}
+use Rattle.card.specs.Pointers.{ascending, contains, insert, insertBeside}
 use Rattle.card.specs.PointersLaws.{insert-length, ascending-cons, ascending-below, ascending-tail}
-use Rattle.tables.specs.Merge.{insertAll}
+use Rattle.card.specs.BesideLaws.{InStep, ended, onward, in-step, in-step-self, step-length, insertBeside-length}
+use Rattle.tables.specs.Merge.{insertAll, insertAllBeside}
 use Rattle.tables.specs.RankLaws.{ascending-first}
 
+insert-step : (w m : ℕ) {ws ns : List ℕ} → InStep ws ns → InStep (insert w ws) (insertBeside w m ws ns)
+insert-step w m {ws} {ns} s = in-step (insert w ws) (insertBeside w m ws ns) (omega (arith, insert-length w ws, insertBeside-length w m s, step-length s))
+
+pub insertAll-step : (f : ℕ → ℕ) (vs : List ℕ) {ws ns : List ℕ} → InStep ws ns → InStep (insertAll vs ws) (insertAllBeside f vs ws ns)
+unfolding insertAll insertAllBeside insert
+insertAll-step f [] s = s
+insertAll-step f (v ∷ vs) s = insert-step v (f v) (insertAll-step f vs s)
+
 pub insertAll-length : (vs ws : List ℕ) → length (insertAll vs ws) ≡ length vs + length ws
-unfolding insertAll
+unfolding insertAll insertAllBeside insert
 insertAll-length [] ws = omega arith
 insertAll-length (v ∷ vs) ws = omega (arith, insert-length v (insertAll vs ws), insertAll-length vs ws)
 
+pub insertAllBeside-length : (f : ℕ → ℕ) (vs : List ℕ) {ws ns : List ℕ} → InStep ws ns → length (insertAllBeside f vs ws ns) ≡ length vs + length ns
+insertAllBeside-length f vs {ws} s = omega (arith, step-length (insertAll-step f vs s), insertAll-length vs ws, step-length s)
+
 -- ---- the order of insertion
 
-insert-higher : (v w : ℕ) → v < w → (ws : List ℕ) → insert v (insert w ws) ≡ insert w (insert v ws)
-unfolding insert
-insert-higher v w h [] = rw (lt-ltb v w h, le-ltb w v (omega arith))
-insert-higher v w h (x ∷ xs) =
+insertBeside-higher : (v m w k : ℕ) → v < w → {ws ns : List ℕ} → InStep ws ns
+    → insertBeside v m (insert w ws) (insertBeside w k ws ns) ≡ insertBeside w k (insert v ws) (insertBeside v m ws ns)
+unfolding insert insertBeside
+insertBeside-higher v m w k h ended = rw (lt-ltb v w h, le-ltb w v (omega arith))
+insertBeside-higher v m w k h (onward {x = x} {n = n} {xs = xs} {ns = ns} s) =
     ⊎-elim
     (λ (a : w < x). rw (lt-ltb w x a, lt-ltb v x (omega arith), lt-ltb v w h, le-ltb w v (omega arith)) (rw (lt-ltb w x a)))
     (λ (a : x ≤ w).
     ⊎-elim
     (λ (b : v < x). rw (le-ltb w x a, lt-ltb v x b, le-ltb w v (omega arith)) (rw (le-ltb w x a)))
-    (λ (b : x ≤ v). rw (le-ltb w x a, le-ltb v x b) (rw (le-ltb w x a) (ap (λ (t : List ℕ). x ∷ t) (insert-higher v w h xs))))
+    (λ (b : x ≤ v). rw (le-ltb w x a, le-ltb v x b) (rw (le-ltb w x a) (ap (λ (t : List ℕ). n ∷ t) (insertBeside-higher v m w k h s))))
     (below-or-not v x))
     (below-or-not w x)
 
--- Two numbers can be inserted in either order.
-pub insert-insert : (v w : ℕ) (ws : List ℕ) → insert v (insert w ws) ≡ insert w (insert v ws)
-insert-insert v w ws =
+-- Two pointers, each with its number, can be inserted in either order.
+insertBeside-swap : (f : ℕ → ℕ) (v w : ℕ) {ws ns : List ℕ} → InStep ws ns
+    → insertBeside v (f v) (insert w ws) (insertBeside w (f w) ws ns) ≡ insertBeside w (f w) (insert v ws) (insertBeside v (f v) ws ns)
+insertBeside-swap f v w s =
     ⊎-elim
-    (λ (a : v < w). insert-higher v w a ws)
+    (λ (a : v < w). insertBeside-higher v (f v) w (f w) a s)
     (λ (a : w ≤ v).
     ⊎-elim
-    (λ (b : w < v). sym (insert-higher w v b ws))
+    (λ (b : w < v). sym (insertBeside-higher w (f w) v (f v) b s))
     (λ (b : v ≤ w). let e : v ≡ w = omega arith in rw e)
     (below-or-not w v))
     (below-or-not v w)
 
--- A number among those inserted can be inserted last.
-pub insertAll-insert : (w : ℕ) (vs ws : List ℕ) → insertAll (insert w vs) ws ≡ insert w (insertAll vs ws)
-unfolding insertAll insert
+-- A pointer among those inserted can be inserted last.
+insertAll-insert : (w : ℕ) (vs ws : List ℕ) → insertAll (insert w vs) ws ≡ insert w (insertAll vs ws)
+unfolding insertAll insertAllBeside insert insertBeside
 insertAll-insert w [] ws = refl
 insertAll-insert w (v ∷ vs) ws = go (ltb w v) (insertAll-insert w vs ws)
   where
     go : (t : Bool) → insertAll (insert w vs) ws ≡ insert w (insertAll vs ws)
         → insertAll (cond t (w ∷ (v ∷ vs)) (v ∷ insert w vs)) ws ≡ insert w (insert v (insertAll vs ws))
     go true e = refl
-    go false e = ap (insert v) e ∙ insert-insert v w (insertAll vs ws)
+    go false e = ap (insert v) e ∙ insertBeside-swap (λ x. x) v w (in-step-self (insertAll vs ws))
 
-insertAll-append : (us vs ws : List ℕ) → insertAll (us ++ vs) ws ≡ insertAll us (insertAll vs ws)
-unfolding insertAll
-insertAll-append [] vs ws = refl
-insertAll-append (u ∷ us) vs ws = ap (insert u) (insertAll-append us vs ws)
+pub insertAllBeside-insert : (f : ℕ → ℕ) (w : ℕ) (vs : List ℕ) {ws ns : List ℕ} → InStep ws ns
+    → insertAllBeside f (insert w vs) ws ns ≡ insertBeside w (f w) (insertAll vs ws) (insertAllBeside f vs ws ns)
+unfolding insertAllBeside insertAll insert insertBeside
+insertAllBeside-insert f w [] s = refl
+insertAllBeside-insert f w (v ∷ vs) {ws} {ns} s = go (ltb w v) (insertAllBeside-insert f w vs s)
+  where
+    go : (t : Bool) → insertAllBeside f (insert w vs) ws ns ≡ insertBeside w (f w) (insertAll vs ws) (insertAllBeside f vs ws ns)
+        → insertAllBeside f (cond t (w ∷ (v ∷ vs)) (v ∷ insert w vs)) ws ns
+        ≡ insertBeside w (f w) (insert v (insertAll vs ws)) (insertBeside v (f v) (insertAll vs ws) (insertAllBeside f vs ws ns))
+    go true e = refl
+    go false e = rw (insertAll-insert w vs ws, e) (insertBeside-swap f v w (insertAll-step f vs s))
+
+insertAllBeside-append : (f : ℕ → ℕ) (us vs ws ns : List ℕ)
+    → insertAllBeside f (us ++ vs) ws ns ≡ insertAllBeside f us (insertAll vs ws) (insertAllBeside f vs ws ns)
+unfolding insertAllBeside insertAll
+insertAllBeside-append f [] vs ws ns = refl
+insertAllBeside-append f (u ∷ us) vs ws ns = rw (insertAllBeside-append (λ x. x) us vs ws ws, insertAllBeside-append f us vs ws ns)
 
 -- ---- the last of the result
 
-insert-before : (v y : ℕ) (ws : List ℕ) → v ≤ y → insert v (ws ++ (y ∷ [])) ≡ insert v ws ++ (y ∷ [])
-unfolding insert
-insert-before v y [] h =
-    ⊎-elim (λ (l : v < y). rw (lt-ltb v y l)) (λ (l : y ≤ v). let same : v ≡ y = omega arith in rw (le-ltb v y l, same)) (below-or-not v y)
-insert-before v y (x ∷ xs) h = go (ltb v x) (insert-before v y xs h)
+-- What stands above a pointer that is inserted stays behind it.
+insertBeside-above : (v m : ℕ) {ws ns ys ks : List ℕ} → InStep ws ns → InStep ys ks → all (λ y. ltb v y) ys ≡ true
+    → insertBeside v m (ws ++ ys) (ns ++ ks) ≡ insertBeside v m ws ns ++ ks
+unfolding insertBeside
+insertBeside-above v m ended ended h = refl
+insertBeside-above v m ended (onward {x = y} {xs = ys} t) h = rw (all-head (λ y. ltb v y) y ys h)
+insertBeside-above v m {ys = ys} {ks = ks} (onward {x = x} {n = n} {xs = xs} {ns = ns} s) t h = go (ltb v x) (insertBeside-above v m s t h)
   where
-    go : (t : Bool) → insert v (xs ++ (y ∷ [])) ≡ insert v xs ++ (y ∷ [])
-        → cond t (v ∷ (x ∷ (xs ++ (y ∷ [])))) (x ∷ insert v (xs ++ (y ∷ []))) ≡ cond t (v ∷ (x ∷ xs)) (x ∷ insert v xs) ++ (y ∷ [])
+    go : (b : Bool) → insertBeside v m (xs ++ ys) (ns ++ ks) ≡ insertBeside v m xs ns ++ ks
+        → cond b (m ∷ (n ∷ (ns ++ ks))) (n ∷ insertBeside v m (xs ++ ys) (ns ++ ks)) ≡ cond b (m ∷ (n ∷ ns)) (n ∷ insertBeside v m xs ns) ++ ks
     go true e = refl
-    go false e = ap (λ (t : List ℕ). x ∷ t) e
+    go false e = ap (λ (l : List ℕ). n ∷ l) e
 
-insert-last : (w : ℕ) (ws : List ℕ) → all (λ x. ltb x (suc w)) ws ≡ true → insert w ws ≡ ws ++ (w ∷ [])
-unfolding insert
-insert-last w [] h = refl
-insert-last w (x ∷ xs) h =
+-- So does what stands above all that are inserted.
+pub insertAllBeside-above : (f : ℕ → ℕ) (vs : List ℕ) {ws ns ys ks : List ℕ} → InStep ws ns → InStep ys ks
+    → all (λ v. all (λ y. ltb v y) ys) vs ≡ true → insertAllBeside f vs (ws ++ ys) (ns ++ ks) ≡ insertAllBeside f vs ws ns ++ ks
+unfolding insertAllBeside insertAll
+insertAllBeside-above f [] s t h = refl
+insertAllBeside-above f (v ∷ vs) {ws} {ns} {ys} {ks} s t h =
+    let rest = all-tail (λ v. all (λ y. ltb v y) ys) v vs h in
+    rw (insertAllBeside-above (λ x. x) vs (in-step-self ws) (in-step-self ys) rest, insertAllBeside-above f vs s t rest)
+    (insertBeside-above v (f v) (insertAll-step f vs s) t (all-head (λ v. all (λ y. ltb v y) ys) v vs h))
+
+insertBeside-last : (w m : ℕ) {ws ns : List ℕ} → InStep ws ns → all (λ x. ltb x (suc w)) ws ≡ true → insertBeside w m ws ns ≡ ns ++ (m ∷ [])
+unfolding insertBeside
+insertBeside-last w m ended h = refl
+insertBeside-last w m (onward {x = x} {n = n} {xs = xs} {ns = ns} s) h =
     let low : x < suc w = ltb-true x (suc w) (all-head (λ x. ltb x (suc w)) x xs h) in
-    rw (le-ltb w x (omega arith)) (ap (λ (t : List ℕ). x ∷ t) (insert-last w xs (all-tail (λ x. ltb x (suc w)) x xs h)))
+    rw (le-ltb w x (omega arith)) (ap (λ (t : List ℕ). n ∷ t) (insertBeside-last w m s (all-tail (λ x. ltb x (suc w)) x xs h)))
 
--- A number that is below none of those inserted stays the last.
-insertAll-before : (vs ws : List ℕ) (y : ℕ) → all (λ v. ltb v (suc y)) vs ≡ true → insertAll vs (ws ++ (y ∷ [])) ≡ insertAll vs ws ++ (y ∷ [])
-unfolding insertAll
-insertAll-before [] ws y h = refl
-insertAll-before (v ∷ vs) ws y h =
-    let low : v < suc y = ltb-true v (suc y) (all-head (λ v. ltb v (suc y)) v vs h) in
-    ap (insert v) (insertAll-before vs ws y (all-tail (λ v. ltb v (suc y)) v vs h)) ∙ insert-before v y (insertAll vs ws) (omega arith)
+-- The highest inserted, where no pointer of the list is above it, becomes the last, and its number too.
+pub insertAllBeside-last : (f : ℕ → ℕ) (w : ℕ) (vs : List ℕ) {ws ns : List ℕ} → InStep ws ns → all (λ v. ltb v w) vs ≡ true → all (λ x. ltb x (suc w)) ws ≡ true
+    → insertAllBeside f (vs ++ (w ∷ [])) ws ns ≡ insertAllBeside f vs ws ns ++ (f w ∷ [])
+unfolding insertAllBeside insertAll all
+insertAllBeside-last f w vs {ws} {ns} s h g =
+    insertAllBeside-append f vs (w ∷ []) ws ns
+    ∙ rw (insertBeside-last w w (in-step-self ws) g, insertBeside-last w (f w) s g)
+    (insertAllBeside-above f vs s (onward ended)
+    (all-map (λ v. ltb v w) (λ v. all (λ y. ltb v y) (w ∷ [])) (λ v e. all-cons (λ y. ltb v y) w [] e refl) vs h))
 
--- So do several, where w parts them from those inserted.
-pub insertAll-above : (w : ℕ) (vs ws ys : List ℕ) → all (λ v. ltb v (suc w)) vs ≡ true → all (λ y. ltb w (suc y)) ys ≡ true
-    → insertAll vs (ws ++ ys) ≡ insertAll vs ws ++ ys
-insertAll-above w vs ws [] low high = rw (append-nil ws, append-nil (insertAll vs ws))
-insertAll-above w vs ws (y ∷ ys) low high =
-    let above : w < suc y = ltb-true w (suc y) (all-head (λ y. ltb w (suc y)) y ys high) in
-    ap (insertAll vs) (sym (append-snoc ws y ys))
-    ∙ insertAll-above w vs (ws ++ (y ∷ [])) ys low (all-tail (λ y. ltb w (suc y)) y ys high)
-    ∙ ap (λ (zs : List ℕ). zs ++ ys)
-    (insertAll-before vs ws y (all-map (λ v. ltb v (suc w)) (λ v. ltb v (suc y)) (λ v h. lt-ltb v (suc y) (omega (arith, ltb-true v (suc w) h))) vs low))
-    ∙ append-snoc (insertAll vs ws) y ys
+-- ---- in a list
 
--- The highest inserted, where no number of the list is above it, becomes the last.
-pub insertAll-last : (vs ws : List ℕ) (w : ℕ) → all (λ v. ltb v w) vs ≡ true → all (λ x. ltb x (suc w)) ws ≡ true
-    → insertAll (vs ++ (w ∷ [])) ws ≡ insertAll vs ws ++ (w ∷ [])
-unfolding insertAll
-insertAll-last vs ws w h g =
-    insertAll-append vs (w ∷ []) ws
-    ∙ ap (insertAll vs) (insert-last w ws g)
-    ∙ insertAll-before vs ws w (all-map (λ v. ltb v w) (λ v. ltb v (suc w)) (λ v l. lt-ltb v (suc w) (omega (arith, ltb-true v w l))) vs h)
+pub take-absent : (n w : ℕ) (ws : List ℕ) → contains w ws ≡ false → contains w (take n ws) ≡ false
+unfolding contains any
+take-absent zero w ws e = refl
+take-absent (suc n) w [] e = refl
+take-absent (suc n) w (x ∷ xs) e = or-false (eqb x w) _ (or-false-left (eqb x w) _ e) (take-absent n w xs (or-false-right (eqb x w) _ e))
 
 -- ---- in an ascending list
 
@@ -146,7 +174,7 @@ up-to-below (x ∷ xs) (suc i) y e l h =
 -- ---- contains
 
 insert-contains : (v w : ℕ) (ws : List ℕ) → eqb w v || contains v ws ≡ true → contains v (insert w ws) ≡ true
-unfolding insert contains any
+unfolding insert insertBeside contains any
 insert-contains v w [] h = h
 insert-contains v w (x ∷ xs) h = go (ltb w x) (insert-contains v w xs)
   where
@@ -160,7 +188,7 @@ insert-contains v w (x ∷ xs) h = go (ltb w x) (insert-contains v w xs)
 
 -- What is inserted is then contained.
 pub insertAll-contains : (v : ℕ) (vs ws : List ℕ) → contains v vs ≡ true → contains v (insertAll vs ws) ≡ true
-unfolding insertAll contains any
+unfolding insertAll insertAllBeside insert contains any
 insertAll-contains v [] ws h = absurd-test {t = false} h refl
 insertAll-contains v (u ∷ us) ws h =
     insert-contains v u (insertAll us ws)

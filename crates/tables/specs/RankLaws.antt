@@ -1,17 +1,17 @@
--- Laws of the rank in an ascending list: what stands before it and from it on, and what search, insertion and removal are by it.
+-- Laws of the rank in an ascending list: what stands before it and from it on, and what a search is by it.
 use Prim.Native.Nat.{ℕ, zero, suc, _+_, _*_, _≤_, _<_, compare·suc-suc}
-use mathlib.Core.Path.{_≡_, refl, sym, ap, _∙_, subst}
+use mathlib.Core.Path.{_≡_, refl, sym, ap, _∙_}
 use mathlib.Core.Logic.{_⊎_, ⊎-elim}
 use mathlib.Core.Bool.{Bool, true, false, _&&_, _||_, cond}
-use mathlib.Core.List.{List, [], _∷_, _++_}
+use mathlib.Core.List.{List, [], _∷_}
 use native.Mathlib.Nat.{le-of-suc-le-suc, not-suc-le-zero}
 use native.Mathlib.Omega.{arith}
 use lib.Dec.{eqb, ltb, isLe}
 use lib.ListN.{length, take, drop, getD}
 use borrow.Author.Tests.{lt-ltb, le-ltb, ne-eqb, eqb-false}
 use Rattle.card.specs.Lists.{all, any}
-use Rattle.card.specs.ListsLaws.{all-cons, and-right, or-false, or-false-left, or-false-right, absurd-test, below-or-not}
-use Rattle.card.specs.Pointers.{source, ascending, contains, pointsFrom, insert, remove}
+use Rattle.card.specs.ListsLaws.{all-cons, and-right, or-false, or-false-left, or-false-right, below-or-not}
+use Rattle.card.specs.Pointers.{source, ascending, contains, pointsFrom}
 use Rattle.card.specs.PointersLaws.{ascending-below, ascending-tail}
 use Rattle.tables.specs.Rank.{rank}
 
@@ -39,13 +39,13 @@ rank-rest w x (y ∷ ys) e h =
     let rest : rank w ys ≡ 0 = rank-rest w y ys (ascending-tail x (y ∷ ys) e) (omega arith) in
     rw (le-ltb y w (omega arith)) (omega arith)
 
--- In a list that starts from w on, none is below it.
-from-above : (w x : ℕ) (xs : List ℕ) → ascending (x ∷ xs) ≡ true → w ≤ x → all (λ y. ltb w (suc y)) (x ∷ xs) ≡ true
+-- A list that starts above w stays above it.
+from-above : (w x : ℕ) (xs : List ℕ) → ascending (x ∷ xs) ≡ true → w < x → all (λ y. ltb w y) (x ∷ xs) ≡ true
 unfolding all
-from-above w x [] e h = all-cons (λ y. ltb w (suc y)) x [] (lt-ltb w (suc x) (omega arith)) refl
+from-above w x [] e h = all-cons (λ y. ltb w y) x [] (lt-ltb w x h) refl
 from-above w x (y ∷ ys) e h =
     let below : x < y = ascending-below x y ys e in
-    all-cons (λ y. ltb w (suc y)) x (y ∷ ys) (lt-ltb w (suc x) (omega arith)) (from-above w y ys (ascending-tail x (y ∷ ys) e) (omega arith))
+    all-cons (λ y. ltb w y) x (y ∷ ys) (lt-ltb w x h) (from-above w y ys (ascending-tail x (y ∷ ys) e) (omega arith))
 
 pub rank-cons-above : (w x : ℕ) (xs : List ℕ) → ascending (x ∷ xs) ≡ true → w ≤ x → rank w (x ∷ xs) ≡ 0
 unfolding rank
@@ -83,18 +83,27 @@ rank-below w (x ∷ xs) e (suc i) l h =
     (λ (b : w ≤ x). omega (arith, rank-cons-above w x xs e b))
     (below-or-not x w)
 
--- Before the rank each element is.
-pub rank-before : (w : ℕ) (ws : List ℕ) → ascending ws ≡ true → (i : ℕ) → i < length ws → i < rank w ws → getD ws i 0 < w
-rank-before w ws e i l h = ⊎-elim (λ (b : getD ws i 0 < w). b) (λ (b : w ≤ getD ws i 0). absurd (omega (arith, rank-below w ws e i l b))) (below-or-not (getD ws i 0) w)
-
--- Behind the rank no element is below w.
-pub rank-behind : (w : ℕ) (ws : List ℕ) → ascending ws ≡ true → all (λ y. ltb w (suc y)) (drop (rank w ws) ws) ≡ true
-unfolding rank all
-rank-behind w [] e = refl
-rank-behind w (x ∷ xs) e =
+-- From the rank on each element is above w, if w is not among them.
+pub rank-behind : (w : ℕ) (ws : List ℕ) → ascending ws ≡ true → contains w ws ≡ false → all (λ y. ltb w y) (drop (rank w ws) ws) ≡ true
+unfolding rank all contains any
+rank-behind w [] e n = refl
+rank-behind w (x ∷ xs) e n =
     ⊎-elim
-    (λ (b : x < w). rw (rank-cons-below w x xs b) (rank-behind w xs (ascending-tail x xs e)))
-    (λ (b : w ≤ x). rw (rank-cons-above w x xs e b) (from-above w x xs e b))
+    (λ (b : x < w). rw (rank-cons-below w x xs b) (rank-behind w xs (ascending-tail x xs e) (or-false-right (eqb x w) _ n)))
+    (λ (b : w ≤ x).
+    let other : (x ≡ w → ⊥) = eqb-false x w (or-false-left (eqb x w) _ n) in
+    rw (rank-cons-above w x xs e b) (from-above w x xs e (omega arith)))
+    (below-or-not x w)
+
+-- Before it each is below.
+pub rank-front : (w : ℕ) (ws : List ℕ) → ascending ws ≡ true → all (λ x. ltb x (suc w)) (take (rank w ws) ws) ≡ true
+unfolding all rank
+rank-front w [] e = refl
+rank-front w (x ∷ xs) e =
+    ⊎-elim
+    (λ (b : x < w).
+    rw (rank-cons-below w x xs b) (all-cons (λ x. ltb x (suc w)) x (take (rank w xs) xs) (lt-ltb x (suc w) (omega arith)) (rank-front w xs (ascending-tail x xs e))))
+    (λ (b : w ≤ x). rw (rank-cons-above w x xs e b))
     (below-or-not x w)
 
 -- ---- search
@@ -132,7 +141,7 @@ contains-rank w ws e =
     any-rank (λ x. eqb x w) w (λ x b. ne-eqb x w (λ q. omega arith)) (λ x y h l f. ne-eqb y w (λ q. omega arith)) ws e
 
 -- A list that contains w starts with it, if it starts from w on.
-first-is : (w x : ℕ) (xs : List ℕ) → ascending (x ∷ xs) ≡ true → w ≤ x → contains w (x ∷ xs) ≡ true → eqb x w ≡ true
+pub first-is : (w x : ℕ) (xs : List ℕ) → ascending (x ∷ xs) ≡ true → w ≤ x → contains w (x ∷ xs) ≡ true → eqb x w ≡ true
 first-is w x xs e b h =
     and-right (ltb 0 (suc (length xs))) (eqb x w) (rw (rank-cons-above w x xs e b) at (sym (contains-rank w (x ∷ xs) e) ∙ h))
 
@@ -147,31 +156,3 @@ points-rank b ws e =
     let other : (source x ≡ b → ⊥) = eqb-false (source x) b f in
     ne-eqb (source y) b (λ q. other (omega arith)))
     ws e
-
--- ---- insertion and removal
-
-pub insert-rank : (w : ℕ) (ws : List ℕ) → ascending ws ≡ true → contains w ws ≡ false → insert w ws ≡ take (rank w ws) ws ++ (w ∷ drop (rank w ws) ws)
-unfolding insert contains any rank
-insert-rank w [] e n = refl
-insert-rank w (x ∷ xs) e n =
-    ⊎-elim
-    (λ (b : x < w).
-    rw (rank-cons-below w x xs b, le-ltb w x (omega arith))
-    (ap (λ (l : List ℕ). x ∷ l) (insert-rank w xs (ascending-tail x xs e) (or-false-right (eqb x w) _ n))))
-    (λ (b : w ≤ x).
-    let other : (x ≡ w → ⊥) = eqb-false x w (or-false-left (eqb x w) _ n) in
-    rw (rank-cons-above w x xs e b, lt-ltb w x (omega arith)))
-    (below-or-not x w)
-
-pub remove-rank : (w : ℕ) (ws : List ℕ) → ascending ws ≡ true → contains w ws ≡ true → remove w ws ≡ take (rank w ws) ws ++ drop (suc (rank w ws)) ws
-unfolding remove contains any
-remove-rank w [] e h = absurd-test {t = false} h refl
-remove-rank w (x ∷ xs) e h =
-    ⊎-elim
-    (λ (b : x < w).
-    let other : eqb x w ≡ false = ne-eqb x w (λ q. omega arith) in
-    rw (rank-cons-below w x xs b, other)
-    (ap (λ (l : List ℕ). x ∷ l) (remove-rank w xs (ascending-tail x xs e) (subst (λ (t : Bool). t || contains w xs ≡ true) other h))))
-    (λ (b : w ≤ x).
-    rw (rank-cons-above w x xs e b, first-is w x xs e b h))
-    (below-or-not x w)

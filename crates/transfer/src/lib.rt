@@ -28,16 +28,17 @@ pub fn read_sound(
     info: Info,
     flags: &[u8],
     keys: &[u64],
-    counts: &[u16],
+    counts: &[u32],
     pointers: &[u32],
+    multiplicities: &[u16],
     windows: &mut [u64],
     contents: &[u8],
     port: Port,
     o: ReadOperands,
     out: &mut [u8],
 ) -> Outcome
-    requires { ⌜ SoundCard (lent info flags keys counts pointers windows contents) ⌝ }
-    ensures { λ r. ⌜ Performs (λ c. performSound port c (request (Call.Read o) [] (now (out .entry)) [])) info flags keys counts pointers windows contents r (now (out .exit)) [] ⌝ }
+    requires { ⌜ SoundCard (lent info flags keys counts pointers multiplicities windows contents) ⌝ }
+    ensures { λ r. ⌜ Performs (λ c. performSound port c (request (Call.Read o) [] (now (out .entry)) [])) info flags keys counts pointers multiplicities windows contents r (now (out .exit)) [] ⌝ }
 {
     let block = o.block as usize;
     let bytes = info.bytes;
@@ -74,16 +75,17 @@ pub fn write_sound(
     info: Info,
     flags: &[u8],
     keys: &[u64],
-    counts: &[u16],
+    counts: &[u32],
     pointers: &[u32],
+    multiplicities: &[u16],
     windows: &mut [u64],
     contents: &mut [u8],
     port: Port,
     o: WriteOperands,
     input: &[u8],
 ) -> Outcome
-    requires { ⌜ SoundCard (lent info flags keys counts pointers windows contents) ⌝ }
-    ensures { λ r. ⌜ Performs (λ c. performSound port c (request (Call.Write o) (now (input .entry)) [] [])) info flags keys counts pointers windows contents r [] [] ⌝ }
+    requires { ⌜ SoundCard (lent info flags keys counts pointers multiplicities windows contents) ⌝ }
+    ensures { λ r. ⌜ Performs (λ c. performSound port c (request (Call.Write o) (now (input .entry)) [] [])) info flags keys counts pointers multiplicities windows contents r [] [] ⌝ }
 {
     let block = o.block as usize;
     let bytes = info.bytes;

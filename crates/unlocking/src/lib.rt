@@ -141,18 +141,19 @@ fn find(
     info: Info,
     flags: &[u8],
     keys: &[u64],
-    counts: &[u16],
+    counts: &[u32],
     pointers: &[u32],
+    multiplicities: &[u16],
     windows: &[u64],
     contents: &[u8],
     words: &[u64],
     chosen: u16,
     shut: &mut [u8; 4096],
 ) -> Found
-    requires { ⌜ SoundCard (lent info flags keys counts pointers windows contents) ⌝ }
-    requires { ⌜ missing (lent info flags keys counts pointers windows contents .public) chosen ≡ false ⌝ }
+    requires { ⌜ SoundCard (lent info flags keys counts pointers multiplicities windows contents) ⌝ }
+    requires { ⌜ missing (lent info flags keys counts pointers multiplicities windows contents .public) chosen ≡ false ⌝ }
     requires { ⌜ now shut ≡ replicate 4096 0 ⌝ }
-    ensures { λ r. ⌜ FoundOf (now (words .entry)) (atEntry info flags keys counts pointers windows contents) chosen (now (shut .exit)) r ⌝ }
+    ensures { λ r. ⌜ FoundOf (now (words .entry)) (atEntry info flags keys counts pointers multiplicities windows contents) chosen (now (shut .exit)) r ⌝ }
 {
     let mut marks = [0u8; 4096];
     let mut queue = [0u16; 4096];
@@ -162,6 +163,7 @@ fn find(
         keys,
         counts,
         pointers,
+        multiplicities,
         windows,
         contents,
         words,
@@ -184,16 +186,17 @@ fn unlocking_sound(
     info: Info,
     flags: &[u8],
     keys: &[u64],
-    counts: &[u16],
+    counts: &[u32],
     pointers: &[u32],
+    multiplicities: &[u16],
     windows: &[u64],
     contents: &[u8],
     words: &[u64],
     chosen: u16,
     places: &mut [u16],
 ) -> Answer
-    requires { ⌜ SoundCard (lent info flags keys counts pointers windows contents) ⌝ }
-    ensures { λ r. ⌜ Reports (unlockingSound (now (words .entry)) chosen) info flags keys counts pointers windows contents places r ⌝ }
+    requires { ⌜ SoundCard (lent info flags keys counts pointers multiplicities windows contents) ⌝ }
+    ensures { λ r. ⌜ Reports (unlockingSound (now (words .entry)) chosen) info flags keys counts pointers multiplicities windows contents places r ⌝ }
 {
     let gone = access::missing(info, flags, chosen as usize);
     let bad = reach::bad_keys(words);
@@ -210,6 +213,7 @@ fn unlocking_sound(
         keys,
         counts,
         pointers,
+        multiplicities,
         windows,
         contents,
         words,
@@ -231,17 +235,27 @@ pub fn unlocking(
     info: Info,
     flags: &[u8],
     keys: &[u64],
-    counts: &[u16],
+    counts: &[u32],
     pointers: &[u32],
+    multiplicities: &[u16],
     windows: &[u64],
     contents: &[u8],
     words: &[u64],
     chosen: u16,
     places: &mut [u16],
 ) -> Answer
-    ensures { λ r. ⌜ Reports (unlockingReport (now (words .entry)) chosen) info flags keys counts pointers windows contents places r ⌝ }
+    ensures { λ r. ⌜ Reports (unlockingReport (now (words .entry)) chosen) info flags keys counts pointers multiplicities windows contents places r ⌝ }
 {
-    match audit::audit(info, flags, keys, counts, pointers, windows, contents) {
+    match audit::audit(
+        info,
+        flags,
+        keys,
+        counts,
+        pointers,
+        multiplicities,
+        windows,
+        contents,
+    ) {
         Verdict::Misshapen => Answer::Refused(Refusal::Misshapen),
         Verdict::Unsound => Answer::Refused(Refusal::Unsound),
         Verdict::Sound => unlocking_sound(
@@ -250,6 +264,7 @@ pub fn unlocking(
             keys,
             counts,
             pointers,
+            multiplicities,
             windows,
             contents,
             words,

@@ -29,7 +29,7 @@ at-within m b n e h = rw e (windowAt-within m b n h)
 
 -- The card by its record and windows alone.
 abbrev pub windowed : Info → List ℕ → Card
-windowed info windows = card info [] [] [] [] windows []
+windowed info windows = card info [] [] [] [] [] windows []
 
 -- The end that a window gets is that on the whole card.
 pub after-whole : (p : Public) (mode : Mode) (b interval : ℕ) → windowAfter (windowed (p .info) (p .windows) .public) mode b interval ≡ windowAfter p mode b interval
@@ -65,7 +65,7 @@ module _ (info : Info) (windows : List ℕ) (mode : Mode) (b interval : ℕ) {po
 -- What opening does to the windows, it does on the whole card.
 module _ (c : Card) (mode : Mode) (b interval : ℕ) where
   abbrev after : Card → List ℕ → Card
-  after c windows = card (c .public .info) (c .public .flags) (c .keys) (c .public .counts) (c .public .pointers) windows (c .contents)
+  after c windows = card (c .public .info) (c .public .flags) (c .keys) (c .public .counts) (c .public .pointers) (c .public .multiplicities) windows (c .contents)
 
   by-test : (t : Bool) {windows : List ℕ}
       → windowed (c .public .info) windows ≡ changes (windowed (c .public .info) (c .public .windows)) (cond t [] (setWindow mode b (windowAfter (windowed (c .public .info) (c .public .windows) .public) mode b interval) ∷ []))

@@ -25,7 +25,7 @@ fn window_at(mode: Mode, block: usize) -> usize
 // The window gets the end that an interval gives it, or keeps its own where that is later.
 pub fn set_window(info: Info, windows: &mut [u64], mode: Mode, block: usize, interval: u32)
     requires { ⌜ (info .time < timeLimit) × ((block < 65536) × (2 * block + 2 ≤ length (now windows))) ⌝ }
-    ensures { λ _. ⌜ now (windows .exit) ≡ set (now (windows .entry)) (windowAt mode block) (windowAfter (card info [] [] [] [] (now (windows .entry)) [] .public) mode block interval) ⌝ }
+    ensures { λ _. ⌜ now (windows .exit) ≡ set (now (windows .entry)) (windowAt mode block) (windowAfter (card info [] [] [] [] [] (now (windows .entry)) [] .public) mode block interval) ⌝ }
 {
     let end = info.time + (interval as u64);
     let at = window_at(mode, block);
@@ -44,7 +44,7 @@ pub fn open_window(
     interval: u32,
 )
     requires { ⌜ (info .time < timeLimit) × ((block < 65536) × (2 * block + 2 ≤ length (now windows))) ⌝ }
-    ensures { λ _. ⌜ card info [] [] [] [] (now (windows .exit)) [] ≡ changes (card info [] [] [] [] (now (windows .entry)) []) (opensWindow port (card info [] [] [] [] (now (windows .entry)) [] .public) mode block interval) ⌝ }
+    ensures { λ _. ⌜ card info [] [] [] [] [] (now (windows .exit)) [] ≡ changes (card info [] [] [] [] [] (now (windows .entry)) []) (opensWindow port (card info [] [] [] [] [] (now (windows .entry)) [] .public) mode block interval) ⌝ }
 {
     match port {
         Port::Host => {

@@ -38,7 +38,7 @@ returns-3 c =
     let at-if1 : tie.Else1 = search in
     let start : tie.Start = search in
     let at = start .args in
-    reference-followed (card (at .info) (at .flags .now) [] [] (at .pointers .now) (at .windows .now) [] .public) (at .mode) (at .block) (at .reference)
+    reference-followed (card (at .info) (at .flags .now) [] [] (at .pointers .now) [] (at .windows .now) [] .public) (at .mode) (at .block) (at .reference)
     (at-if1 .if1 .left) (c .before .before .before .allocated .ensures) (c .before .before .if2 .left) (c .before .holds .ensures) (c .window-open .ensures)
 
 pub reference-opens-spec : {M : Type 1} → statement M

@@ -28,34 +28,39 @@ perform-requires : tie.Need-perform-requires
 perform-requires c κs = tt
 
 settle-requires : tie.Need-settle-requires
-settle-requires c κs = search needs
+settle-requires c κs =
+    let at-if1 : tie.Else1 = search in
+    at-if1 .if1 .left
 
 same-length : tie.Need-same-length
-same-length c = search
+same-length c = search needs
 
 same-length-2 : tie.Need-same-length-2
-same-length-2 c = search
+same-length-2 c = search needs
 
 same-length-3 : tie.Need-same-length-3
-same-length-3 c = search
+same-length-3 c = search needs
 
 same-length-4 : tie.Need-same-length-4
-same-length-4 c = search
+same-length-4 c = search needs
 
 same-length-5 : tie.Need-same-length-5
-same-length-5 c = search
+same-length-5 c = search needs
 
 same-length-6 : tie.Need-same-length-6
-same-length-6 c = search
+same-length-6 c = search needs
 
 same-length-7 : tie.Need-same-length-7
-same-length-7 c = search
+same-length-7 c = search needs
 
 same-length-8 : tie.Need-same-length-8
-same-length-8 c = search
+same-length-8 c = search needs
 
 same-length-9 : tie.Need-same-length-9
-same-length-9 c = search
+same-length-9 c = search needs
+
+same-length-10 : tie.Need-same-length-10
+same-length-10 c = search needs
 
 returns-3 : tie.Need-returns-3
 returns-3 c =
@@ -65,7 +70,7 @@ returns-3 c =
     let at-if1 : tie.Else1 = search in
     let at-decoding : tie.After-decoding = search in
     let start = start-from-decoding at-decoding in
-    effect-called (start .args .input .now) (start .args .out .now) (start .args .places .now) (start .args .value .now) (start .args .info .now) _ _ _ _ _ _ _ _ _ _ _ _ _ (at-decoding .decoding .given .1) (at-if1 .if1 .left) (at-load .load .ensures) (at-perform .perform .ensures) (at-settle .settle .ensures .0) (at-settle .settle .ensures .1 .0) (at-settle .settle .ensures .1 .1)
+    effect-called (start .args .input .now) (start .args .out .now) (start .args .places .now) (start .args .value .now) (start .args .info .now) _ _ _ _ _ _ _ _ _ _ _ _ _ _ _ (at-decoding .decoding .given .1) (at-if1 .if1 .left) (at-load .load .ensures) (at-perform .perform .ensures) (at-settle .settle .ensures .0) (at-settle .settle .ensures .1 .0) (at-settle .settle .ensures .1 .1)
 
 pub perform-spec : {M : Type 1} → statement M
 perform-spec =
@@ -87,4 +92,5 @@ perform-spec =
     same-length-7
     same-length-8
     same-length-9
+    same-length-10
     returns-3)

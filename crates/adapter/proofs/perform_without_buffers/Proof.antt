@@ -34,10 +34,13 @@ same-length-6 c = search needs
 same-length-7 : tie.Need-same-length-7
 same-length-7 c = search needs
 
+same-length-8 : tie.Need-same-length-8
+same-length-8 c = search needs
+
 returns : tie.Need-returns
 returns c =
     let at-perform : tie.After-perform = search in
-    no-places (no-out (at-perform .perform .ensures) (at-perform .perform .kept .1 .1 .1 .1 .1 .1 .1 .1 .1 .0)) (at-perform .perform .kept .1 .1 .1 .1 .1 .1 .1 .1 .1 .1 .0)
+    no-places (no-out (at-perform .perform .ensures) (at-perform .perform .kept .1 .1 .1 .1 .1 .1 .1 .1 .1 .1 .0)) (at-perform .perform .kept .1 .1 .1 .1 .1 .1 .1 .1 .1 .1 .1 .0)
 
 pub perform-without-buffers-spec : {M : Type 1} → statement M
 perform-without-buffers-spec =
@@ -53,4 +56,5 @@ perform-without-buffers-spec =
     same-length-5
     same-length-6
     same-length-7
+    same-length-8
     returns)

@@ -21,7 +21,7 @@ wanted-from-nearest-run c = search
 abbrev cardAt : tie.Start → Card
 cardAt start =
     let a = start .args in
-    card (a .info) (a .flags .now) (a .keys .now) (a .counts .now) (a .pointers .now) (a .windows .now) (a .contents .now)
+    card (a .info) (a .flags .now) (a .keys .now) (a .counts .now) (a .pointers .now) (a .multiplicities .now) (a .windows .now) (a .contents .now)
 
 -- The shared checks passed before the run is looked for.
 passed : (c : tie.After-wanted) → let start = start-from-wanted c in NoneHolds (shared (start .args .port) (cardAt start) (start .args .o) (start .args .places .now))

@@ -24,7 +24,7 @@ start-from-list-run-arg c = search
 abbrev cardAt : tie.Start → Card
 cardAt start =
     let a = start .args in
-    card (a .info) (a .flags .now) (a .keys .now) (a .counts .now) (a .pointers .now) (a .windows .now) (a .contents .now)
+    card (a .info) (a .flags .now) (a .keys .now) (a .counts .now) (a .pointers .now) (a .multiplicities .now) (a .windows .now) (a .contents .now)
 
 -- The checks passed and found the run before its numbers are listed.
 passed : (c : tie.After-list-run-arg)
@@ -92,15 +92,15 @@ same-length-4 c = search needs
 same-length-5 : tie.Need-same-length-5
 same-length-5 c = search needs
 
+same-length-6 : tie.Need-same-length-6
+same-length-6 c = search needs
+
 returns : tie.Need-returns
 unfolding performSound
 returns c =
     let at-alloc-contig-check : tie.After-alloc-contig-check = search in
     refuses (cardAt (start-from-alloc-contig-check at-alloc-contig-check)) _ _ (c .refused .ensures)
     (refused-run _ _ _ _ (start-from-alloc-contig-check at-alloc-contig-check .pre) (at-alloc-contig-check .alloc-contig-check .ensures) (c .before .before .why .given .1))
-
-same-length-6 : tie.Need-same-length-6
-same-length-6 c = search needs
 
 same-length-7 : tie.Need-same-length-7
 same-length-7 c = search needs
@@ -113,6 +113,12 @@ same-length-9 c = search needs
 
 same-length-10 : tie.Need-same-length-10
 same-length-10 c = search needs
+
+same-length-11 : tie.Need-same-length-11
+same-length-11 c = search needs
+
+same-length-12 : tie.Need-same-length-12
+same-length-12 c = search needs
 
 returns-2 : tie.Need-returns-2
 returns-2 c =
@@ -140,10 +146,12 @@ alloc-contig-sound-spec =
     same-length-3
     same-length-4
     same-length-5
-    returns
     same-length-6
+    returns
     same-length-7
     same-length-8
     same-length-9
     same-length-10
+    same-length-11
+    same-length-12
     returns-2)

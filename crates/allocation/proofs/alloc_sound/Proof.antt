@@ -22,7 +22,7 @@ start-from-wanted c = search
 abbrev cardAt : tie.Start → Card
 cardAt start =
     let a = start .args in
-    card (a .info) (a .flags .now) (a .keys .now) (a .counts .now) (a .pointers .now) (a .windows .now) (a .contents .now)
+    card (a .info) (a .flags .now) (a .keys .now) (a .counts .now) (a .pointers .now) (a .multiplicities .now) (a .windows .now) (a .contents .now)
 
 -- The checks passed before the blocks are picked.
 passed : (c : tie.After-wanted) → let start = start-from-wanted c in Passes (start .args .port) (cardAt start) (request (Alloc (start .args .o)) [] [] (start .args .places .now))
@@ -90,15 +90,15 @@ same-length-4 c = search needs
 same-length-5 : tie.Need-same-length-5
 same-length-5 c = search needs
 
+same-length-6 : tie.Need-same-length-6
+same-length-6 c = search needs
+
 returns : tie.Need-returns
 unfolding performSound
 returns c =
     let at-alloc-check : tie.After-alloc-check = search in
     refuses (cardAt (start-from-alloc-check at-alloc-check)) _ _ (c .refused .ensures)
     (refused-check _ _ _ (at-alloc-check .alloc-check .ensures) (c .before .before .why .given .1))
-
-same-length-6 : tie.Need-same-length-6
-same-length-6 c = search needs
 
 same-length-7 : tie.Need-same-length-7
 same-length-7 c = search needs
@@ -111,6 +111,12 @@ same-length-9 c = search needs
 
 same-length-10 : tie.Need-same-length-10
 same-length-10 c = search needs
+
+same-length-11 : tie.Need-same-length-11
+same-length-11 c = search needs
+
+same-length-12 : tie.Need-same-length-12
+same-length-12 c = search needs
 
 returns-2 : tie.Need-returns-2
 returns-2 c =
@@ -139,10 +145,12 @@ alloc-sound-spec =
     same-length-3
     same-length-4
     same-length-5
-    returns
     same-length-6
+    returns
     same-length-7
     same-length-8
     same-length-9
     same-length-10
+    same-length-11
+    same-length-12
     returns-2)

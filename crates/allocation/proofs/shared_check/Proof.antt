@@ -34,7 +34,7 @@ returns-3 c = search (checks-refused, root-reference)
 admits-requires : tie.Need-admits-requires
 admits-requires c κs =
     let start : tie.Start = search in
-    let a = start .args in let k = card (a .info) (a .flags .now) (a .keys .now) (a .counts .now) (a .pointers .now) (a .windows .now) (a .contents .now) in search (access-there {c = k})
+    let a = start .args in let k = card (a .info) (a .flags .now) (a .keys .now) (a .counts .now) (a .pointers .now) (a .multiplicities .now) (a .windows .now) (a .contents .now) in search (access-there {c = k})
 
 returns-4 : tie.Need-returns-4
 returns-4 c = search (checks-refused, reference-shut)

@@ -5,16 +5,17 @@ use native.Mathlib.Omega.{arith}
 use lib.ListN.{length}
 use Rattle.card.specs.Card.{card}
 use Rattle.allocation.proofs.Collecting.{Collected, collected-start, can-take, addable, collected-taken, flags-same, counts-same, contents-same, mergeable, collected-whole}
+use Rattle.tables.specs.InUseLaws.{sound-paired}
 use borrow.Author.Needs.{needs}
 use Rattle.allocation.proofs.take_all.Statement.{statement}
 use Rattle.allocation.proofs.take_all.Tie as tie
 
 abbrev Inv-loop : tie.InvT-loop
-Inv-loop info flags₀ keys counts₀ pointers windows contents₀ reference numbers bytes count added₀ taken₀ flags counts contents added taken =
-    Collected (card info flags₀ keys counts₀ pointers windows contents₀) reference numbers flags counts contents added taken
+Inv-loop info flags₀ keys counts₀ pointers multiplicities windows contents₀ reference numbers bytes count added₀ taken₀ flags counts contents added taken =
+    Collected (card info flags₀ keys counts₀ pointers multiplicities windows contents₀) reference numbers flags counts contents added taken
 
 abbrev μ-loop : tie.MeasureT-loop
-μ-loop info flags₀ keys counts₀ pointers windows contents₀ reference numbers bytes count added₀ taken₀ flags counts contents added taken =
+μ-loop info flags₀ keys counts₀ pointers multiplicities windows contents₀ reference numbers bytes count added₀ taken₀ flags counts contents added taken =
     length numbers - taken
 
 loop-holds : tie.Need-loop-holds Inv-loop μ-loop
@@ -64,7 +65,7 @@ slice-aggregate-merge : tie.Need-slice-aggregate-merge Inv-loop μ-loop
 slice-aggregate-merge c = search sym
 
 merge-requires : tie.Need-merge-requires Inv-loop μ-loop
-merge-requires c κs = mergeable (c .before .before .before .loop .inv) (c .before .before .loop-test .left)
+merge-requires c κs = (mergeable (c .before .before .before .before .loop .inv) (c .before .before .before .loop-test .left), search sound-paired)
 
 add-with-used : tie.Need-add-with-used Inv-loop μ-loop
 add-with-used c =
@@ -84,13 +85,16 @@ same-length-3 : tie.Need-same-length-3 Inv-loop μ-loop
 same-length-3 c = search
 
 same-length-4 : tie.Need-same-length-4 Inv-loop μ-loop
-same-length-4 c = search contents-same
+same-length-4 c = search
+
+same-length-5 : tie.Need-same-length-5 Inv-loop μ-loop
+same-length-5 c = search contents-same
 
 returns : tie.Need-returns Inv-loop μ-loop
 returns c =
     let at-loop : tie.At-loop Inv-loop μ-loop = search in
     let at-merge : tie.After-merge Inv-loop μ-loop = search in
-    collected-whole (at-loop .loop .inv) (at-merge .before .before .before .loop-test .left) (c .with-used .ensures) (at-merge .merge .ensures)
+    collected-whole (at-loop .loop .inv) (at-merge .before .before .before .before .loop-test .left) (c .with-used .ensures) (at-merge .merge .ensures)
 
 pub take-all-spec : {M : Type 1} → statement M
 take-all-spec =
@@ -119,4 +123,5 @@ take-all-spec =
     same-length-2
     same-length-3
     same-length-4
+    same-length-5
     returns)

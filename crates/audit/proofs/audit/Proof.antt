@@ -11,7 +11,7 @@ shaped-requires c κs = search needs
 walk-requires : tie.Need-walk-requires
 walk-requires c κs =
     let start : tie.Start = search in
-    let a = start .args in let k = card (a .info) (a .flags .now) (a .keys .now) (a .counts .now) (a .pointers .now) (a .windows .now) (a .contents .now) in search (shaped-fit k)
+    let a = start .args in let k = card (a .info) (a .flags .now) (a .keys .now) (a .counts .now) (a .pointers .now) (a .multiplicities .now) (a .windows .now) (a .contents .now) in search (shaped-fit k)
 
 returns : tie.Need-returns
 returns c = search shaped-verdict

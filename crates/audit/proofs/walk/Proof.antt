@@ -1,19 +1,17 @@
 -- `audit::walk` judges a card of the right shape.
-use mathlib.Core.Path.{refl}
+use borrow.Author.Needs.{needs}
 use Rattle.audit.proofs.Whole.{fault-pointers, fault-unused, whole}
 use Rattle.audit.proofs.walk.Statement.{statement}
 use Rattle.audit.proofs.walk.Tie as tie
 
 walk-pointers-requires : tie.Need-walk-pointers-requires
-walk-pointers-requires c κs =
-    let start : tie.Start = search in
-    (start .pre .0, refl)
+walk-pointers-requires c κs = search needs
 
 walk-unused-requires : tie.Need-walk-unused-requires
-walk-unused-requires c κs = search
+walk-unused-requires c κs = search needs
 
 walk-blocks-requires : tie.Need-walk-blocks-requires
-walk-blocks-requires c κs = search
+walk-blocks-requires c κs = search needs
 
 returns : tie.Need-returns
 returns c = search whole

@@ -19,7 +19,7 @@ add-start c = search needs
 add-end : tie.Need-add-end
 add-end c =
     let start : tie.Start = search in
-    omega (arith, part-within (start .args .info .bytes) (start .args .call) (start .args .at) (c .lent-size .ensures) (start .pre .1))
+    omega (arith, part-within (start .args .info .bytes) (start .args .call) (start .args .at) (c .lent-size .ensures) (start .pre .1), start .good .1 .1 .1 .1 .1 .1 .1 .1 .1 .1 .1 .1 .0 .1)
 
 sub-perform-judged : tie.Need-sub-perform-judged
 sub-perform-judged c = search needs
@@ -44,7 +44,7 @@ put-answer-bytes-requires c κs =
     let at-perform-judged : tie.After-perform-judged = search in
     let at-lent-size : tie.After-lent-size = search in
     let start = start-from-lent-size at-lent-size in
-    answer-room (start .args .port) _ (start .args .call) (start .args .payload .now) (start .args .to .now) (start .args .at) (at-lent-size .lent-size .ensures) (start .pre .1) (at-perform-judged .perform-judged .ensures) (at-perform-judged .perform-judged .kept .1 .1 .1 .1 .1 .1 .1 .1 .1 .1 .1 .0) (at-perform-judged .perform-judged .kept .1 .1 .1 .1 .1 .1 .1 .1 .1 .1 .1 .1 .0)
+    answer-room (start .args .port) _ (start .args .call) (start .args .payload .now) (start .args .to .now) (start .args .at) (at-lent-size .lent-size .ensures) (start .pre .1) (at-perform-judged .perform-judged .ensures) (at-perform-judged .perform-judged .kept .1 .1 .1 .1 .1 .1 .1 .1 .1 .1 .1 .1 .0) (at-perform-judged .perform-judged .kept .1 .1 .1 .1 .1 .1 .1 .1 .1 .1 .1 .1 .1 .0)
 
 same-length : tie.Need-same-length
 same-length c = search needs
@@ -67,12 +67,15 @@ same-length-6 c = search needs
 same-length-7 : tie.Need-same-length-7
 same-length-7 c = search needs
 
+same-length-8 : tie.Need-same-length-8
+same-length-8 c = search needs
+
 returns : tie.Need-returns
 returns c =
     let at-perform-judged : tie.After-perform-judged = search in
     let at-lent-size : tie.After-lent-size = search in
     let start = start-from-lent-size at-lent-size in
-    answered (start .args .port) _ (start .args .call) (start .args .payload .now) (start .args .to .now) (start .args .at) (at-lent-size .lent-size .ensures) (start .pre .1) (at-perform-judged .perform-judged .ensures) (at-perform-judged .perform-judged .kept .1 .1 .1 .1 .1 .1 .1 .1 .1 .1 .1 .0) (at-perform-judged .perform-judged .kept .1 .1 .1 .1 .1 .1 .1 .1 .1 .1 .1 .1 .0) (c .before .before .before .put-answer-bytes .ensures)
+    answered (start .args .port) _ (start .args .call) (start .args .payload .now) (start .args .to .now) (start .args .at) (at-lent-size .lent-size .ensures) (start .pre .1) (at-perform-judged .perform-judged .ensures) (at-perform-judged .perform-judged .kept .1 .1 .1 .1 .1 .1 .1 .1 .1 .1 .1 .1 .0) (at-perform-judged .perform-judged .kept .1 .1 .1 .1 .1 .1 .1 .1 .1 .1 .1 .1 .1 .0) (c .before .before .before .put-answer-bytes .ensures)
 
 pub answer-call-spec : {M : Type 1} → statement M
 answer-call-spec =
@@ -95,4 +98,5 @@ answer-call-spec =
     same-length-5
     same-length-6
     same-length-7
+    same-length-8
     returns)

@@ -1,16 +1,18 @@
 -- One row for each mistake in the rules that a must-fail edit makes: the mistake turns it from true to false, and so its theorem. And rows by which what a
 -- theorem excepts is seen to happen.
-use Prim.Native.Nat.{ℕ}
+use Prim.Native.Nat.{ℕ, _-_}
 use mathlib.Core.Path.{_≡_, refl}
 use mathlib.Core.Bool.{Bool, true, false, _&&_}
 use mathlib.Core.List.{List, [], _∷_, _++_}
 use mathlib.Core.Option.{orElse}
 use lib.Dec.{eqb, leb}
-use lib.ListN.{replicate}
+use lib.ListN.{length, replicate}
 use Rattle.card.specs.Contents.{zeros}
 use Rattle.card.specs.Card.{Card, card}
 use Rattle.card.specs.Plan.{withUsed, withTime}
 use Rattle.card.specs.Calls.{freshInfo, format}
+use Rattle.card.specs.Lists.{sumBelow}
+use Rattle.card.specs.Ledger.{made, taken, madeInAll, takenInAll}
 use Rattle.card.specs.Session.{Request, Sent, performed, refusals, portOf, replies, afterAll, traits}
 use Rattle.card.specs.Reach.{shows, someShows, presents, presented, keyPresented, sealed, isOne, takesLast, lastTaken}
 use Rattle.card.specs.Trials.{rules, blankCard, playerCard, lending, send, key, read, writeAll, alloc, create, delete, free, trialTable, trialReports}
@@ -28,23 +30,24 @@ use Rattle.card.proofs.Guarantees.Windows.{byRead, byWrite, byRenew}
 use Rattle.card.proofs.Secrecy.Bounds.{bounds}
 use Rattle.card.proofs.Secrecy.Example.{hosted}
 use Rattle.card.proofs.Computed.Same.{sameList, sameLists, replyNumbers, allLines}
-use Rattle.card.proofs.Computed.Tests.{refusalUnchangedTest, portsAlikeTest, doneSoundTest, countsRightTest, pointersAscendingTest, formatSoundTest, untouchedTest, firstNumber, refusedIffTest, noneHold, runFoundTest, runAdjoinsTest, runNearestTest, oneKeyUnsealedTest, otherKeyKeptTest, ownKeySetTest, bothWindowsClosedTest, writeAccessNeededTest, windowSetByTest, windowLaterTest, intervalZeroKeptTest, isSound, endsSooner, windowsKeptTest, withContents, sameHiddenTest, secrecyTest, trialsTest}
+use Rattle.card.proofs.Computed.Tests.{refusalUnchangedTest, portsAlikeTest, doneSoundTest, countsRightTest, pointersAscendingTest, formatSoundTest, untouchedTest, firstNumber, refusedIffTest, noneHold, madeAndTakenTest, ledgerTest, countsLedgerTest, runFoundTest, runAdjoinsTest, runNearestTest, oneKeyUnsealedTest, otherKeyKeptTest, ownKeySetTest, bothWindowsClosedTest, writeAccessNeededTest, windowSetByTest, windowLaterTest, intervalZeroKeptTest, isSound, endsSooner, windowsKeptTest, withContents, sameHiddenTest, secrecyTest, trialsTest}
 
 -- To compute a row, its proof unfolds this one name. A wrong rule makes use of `orElse`.
 unfoldable pub computing : Unit {0}
-unfolding orElse rules playerCard refusals portOf replies afterAll traits shows someShows presents presented keyPresented sealed isOne takesLast lastTaken trialTable trialReports bounds sameList sameLists replyNumbers allLines firstNumber noneHold
+unfolding orElse rules playerCard refusals portOf replies afterAll sumBelow made taken madeInAll takenInAll traits shows someShows presents presented keyPresented sealed isOne takesLast lastTaken trialTable trialReports bounds sameList sameLists replyNumbers allLines firstNumber noneHold
 computing = tt
 
 -- ---- cards, drawn by hand: no rule has made them
 
--- N 16, R 1, B 512 and P 32, at second 0 with no window open.
+-- N 16, R 1, B 512 and P 32, at second 0 with no window open, each pointer once.
 abbrev drawn : (used : ℕ) (flags keys counts pointers contents : List ℕ) → Card
-drawn used flags keys counts pointers contents = card (withUsed (freshInfo 16 1 512) used) flags keys counts pointers (zeros 32) contents
+drawn used flags keys counts pointers contents =
+    card (withUsed (freshInfo 16 1 512) used) flags keys counts pointers (replicate used 1 ++ zeros (length pointers - used)) (zeros 32) contents
 
 -- A card at this second, with these windows.
 abbrev timed : Card → ℕ → List ℕ → Card
 timed c time windows =
-    card (withTime (c .public .info) time) (c .public .flags) (c .keys) (c .public .counts) (c .public .pointers) windows (c .contents)
+    card (withTime (c .public .info) time) (c .public .flags) (c .keys) (c .public .counts) (c .public .pointers) (c .public .multiplicities) windows (c .contents)
 
 -- The root points to blocks 1 and 2.
 abbrev twoBelow : Card
@@ -58,9 +61,14 @@ chain = drawn 2 (1 ∷ 1 ∷ 1 ∷ zeros 13) (zeros 64) (0 ∷ 1 ∷ 1 ∷ zeros
 abbrev twice : Card
 twice = drawn 3 (1 ∷ 1 ∷ 1 ∷ zeros 13) (zeros 64) (0 ∷ 1 ∷ 2 ∷ zeros 13) (1 ∷ 2 ∷ 65538 ∷ zeros 29) (zeros 8192)
 
+-- The root points to block 2, so many times, and no other block is taken.
+abbrev often : ℕ → Card
+often times =
+    card (withUsed (freshInfo 16 1 512) 1) (1 ∷ 0 ∷ 1 ∷ zeros 13) (zeros 64) (0 ∷ 0 ∷ times ∷ zeros 13) (2 ∷ zeros 31) (times ∷ zeros 31) (zeros 32) (zeros 8192)
+
 -- The root points to block 2 alone, so that block 1 is free between two that are not.
 abbrev gapped : Card
-gapped = drawn 1 (1 ∷ 0 ∷ 1 ∷ zeros 13) (zeros 64) (0 ∷ 0 ∷ 1 ∷ zeros 13) (2 ∷ zeros 31) (zeros 8192)
+gapped = often 1
 
 -- The root points to all blocks but 5 to 7 and 12 to 15, and there are so many places left for pointers.
 abbrev apart : ℕ → Card
@@ -89,7 +97,7 @@ keyedRoot contents = drawn 0 (7 ∷ zeros 15) (1 ∷ 2 ∷ 3 ∷ 4 ∷ zeros 60)
 
 -- The fresh card with an open window in its table, and 7 in every byte.
 abbrev opened : Card
-opened = card (freshInfo 16 1 512) (1 ∷ zeros 15) (zeros 64) (zeros 16) (zeros 32) (0 ∷ 0 ∷ 10 ∷ zeros 29) (replicate 8192 7)
+opened = card (freshInfo 16 1 512) (1 ∷ zeros 15) (zeros 64) (zeros 16) (zeros 32) (zeros 32) (0 ∷ 0 ∷ 10 ∷ zeros 29) (replicate 8192 7)
 
 -- One byte in every place from block 2 on.
 abbrev pub below : ℕ → List ℕ
@@ -143,6 +151,14 @@ pub root-pointed-to-at-the-service-port : doneSoundTest twoBelow (create Service
 unfolding computing
 root-pointed-to-at-the-service-port = refl
 
+pub no-seven-at-the-highest-multiplicity : doneSoundTest (often 65535) (create Service 0 Nothing 2 Nothing) ≡ true
+unfolding computing
+no-seven-at-the-highest-multiplicity = refl
+
+pub multiplicity-left-behind-the-pointers : doneSoundTest twoBelow (delete Service 0 2) ≡ true
+unfolding computing
+multiplicity-left-behind-the-pointers = refl
+
 -- ---- counts-right
 
 pub dropped-pointer-still-counted : countsRightTest twice (delete Service 1 2) ≡ true
@@ -152,6 +168,36 @@ dropped-pointer-still-counted = refl
 pub created-pointer-counted-at-its-source : countsRightTest twoBelow (create Service 1 Nothing 2 Nothing) ≡ true
 unfolding computing
 created-pointer-counted-at-its-source = refl
+
+pub pointer-counted-once-whatever-its-multiplicity : countsRightTest twoBelow (create Service 0 Nothing 1 Nothing) ≡ true
+unfolding computing
+pointer-counted-once-whatever-its-multiplicity = refl
+
+-- ---- made-and-taken, ledger and counts-ledger
+
+pub existing-pointer-not-raised : madeAndTakenTest twoBelow (create Service 0 Nothing 1 Nothing) 0 1 ≡ true
+unfolding computing
+existing-pointer-not-raised = refl
+
+pub delete-takes-the-pointer-whole : madeAndTakenTest (often 2) (delete Service 0 2) 0 2 ≡ true
+unfolding computing
+delete-takes-the-pointer-whole = refl
+
+pub allotted-block-pointed-to-twice : ledgerTest playerCard (alloc Service 0 65535 1 ∷ []) 0 1 ≡ true
+unfolding computing
+allotted-block-pointed-to-twice = refl
+
+pub multiplicities-not-shifted : ledgerTest (often 2) (alloc Service 0 65535 1 ∷ delete Service 0 2 ∷ []) 0 2 ≡ true
+unfolding computing
+multiplicities-not-shifted = refl
+
+pub raised-pointer-counted-twice : countsLedgerTest twoBelow (create Service 0 Nothing 1 Nothing ∷ []) 1 ≡ true
+unfolding computing
+raised-pointer-counted-twice = refl
+
+pub lowered-pointer-still-counted : countsLedgerTest (often 2) (delete Service 0 2 ∷ []) 2 ≡ true
+unfolding computing
+lowered-pointer-still-counted = refl
 
 -- ---- pointers-ascending
 
@@ -168,6 +214,10 @@ created-pointer-put-last = refl
 pub format-leaves-the-pointers : formatSoundTest 16 1 512 twoBelow ≡ true
 unfolding computing
 format-leaves-the-pointers = refl
+
+pub format-leaves-the-multiplicities : formatSoundTest 16 1 512 twoBelow ≡ true
+unfolding computing
+format-leaves-the-multiplicities = refl
 
 pub format-leaves-the-windows : formatSoundTest 16 1 512 opened ≡ true
 unfolding computing
@@ -393,7 +443,8 @@ last-pointer-to-the-source = refl
 
 -- ---- trials
 
--- All rows of the table in one: window_open_at_its_end, root_counted_as_free, destination_tested_for_reading and write_window_serves_reading.
+-- All rows of the table in one: window_open_at_its_end, root_counted_as_free, destination_tested_for_reading, write_window_serves_reading,
+-- eleven_on_an_existing_pointer and nine_judged_on_places.
 pub trials-computed : trialsTest trialTable ≡ true
 unfolding computing
 trials-computed = refl

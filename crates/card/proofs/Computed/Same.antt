@@ -47,7 +47,7 @@ true-sameLists {xs} e = subst (λ (zs : List (List ℕ)). sameLists xs zs ≡ tr
 
 -- ---- what is compared
 
--- A card's record and its six tables.
+-- A card's record and its seven tables.
 abbrev pub cardNumbers : Card → List (List ℕ)
 cardNumbers c =
     (c .public .info .blocks ∷ c .public .info .roots ∷ c .public .info .bytes ∷ c .public .info .used ∷ c .public .info .time ∷ [])
@@ -55,6 +55,7 @@ cardNumbers c =
     ∷ c .keys
     ∷ c .public .counts
     ∷ c .public .pointers
+    ∷ c .public .multiplicities
     ∷ c .public .windows
     ∷ c .contents
     ∷ []

@@ -1,7 +1,7 @@
 -- For each theorem about the rules a test: what it says of given cards and calls, or a part of it, as a value that can be computed.
 -- Each test is shown to hold of everything by its theorem. So where a test is false, its theorem is false.
-use Prim.Native.Nat.{ℕ, zero, suc, _+_, _<_, max}
-use mathlib.Core.Path.{_≡_, refl, sym, ap, _∙_, subst}
+use Prim.Native.Nat.{ℕ, _+_, max}
+use mathlib.Core.Path.{_≡_, refl, sym, ap, _∙_}
 use mathlib.Core.Logic.{_⊎_, inl, inr, ⊎-elim}
 use mathlib.Core.Bool.{Bool, true, false, _&&_, _||_, not, cond}
 use mathlib.Core.List.{List, [], _∷_, map}
@@ -9,11 +9,11 @@ use lib.Dec.{eqb, ltb, leb}
 use lib.ListN.{length, take, drop, getD}
 use native.Mathlib.Omega.{arith}
 use borrow.Author.Tests.{lt-ltb, ltb-true, le-leb, leb-true, eqb-true, eqb-false, eq-eqb, not-true}
-use Rattle.card.specs.Lists.{every, all, allBelow}
-use Rattle.card.specs.ListsLaws.{and-left, and-right, and-true, or-left, or-right, or-cases, or-else, absurd-test, false-unless, not-cases, every-true, true-every, allBelow-true, true-allBelow}
+use Rattle.card.specs.Lists.{every, all, allBelow, sumBelow}
+use Rattle.card.specs.ListsLaws.{and-left, and-right, and-true, or-left, or-right, or-cases, or-else, absurd-test, false-unless, not-cases, every-true, allBelow-true, true-allBelow}
 use Rattle.card.specs.Pointers.{ascending, pointersTo}
 use Rattle.card.specs.Contents.{zeros}
-use Rattle.card.specs.Card.{Public, Card, allocated, hasKey, isRoot, freeBlocks, windowEnd, windowOpen, count, inUse, pointsTo, keyHigh, keyLow, block}
+use Rattle.card.specs.Card.{Public, Card, allocated, hasKey, isRoot, freeBlocks, windowEnd, windowOpen, count, inUse, timesInUse, multiplicity, pointsTo, keyHigh, keyLow, block}
 use Rattle.card.specs.Soundness.{ranges, lengths, shape, sound}
 use Rattle.card.specs.SoundCard.{SoundCard}
 use Rattle.card.specs.SoundnessLaws.{shape-true, true-shape, sound-true, true-sound}
@@ -21,7 +21,8 @@ use Rattle.card.specs.Plan.{Check, _⇒_, FirstHolds, here, later, NoneH
 use Rattle.card.specs.ChangesLaws.{other-mode}
 use Rattle.card.specs.Calls.{refusalNumber, answerNumber, answerValues, isDone, format, noHint, distance, isRun}
 use Rattle.card.specs.RunsLaws.{run-blocks, blocks-run}
-use Rattle.card.specs.Session.{Request, Sent, portOf, EitherPort, refusals, perform, performed, replies, afterAll, hostSession}
+use Rattle.card.specs.Ledger.{made as madeBy, taken as takenBy, madeInAll, takenInAll}
+use Rattle.card.specs.Session.{Request, Sent, portOf, EitherPort, refusals, perform, performed, reply, replies, afterAll, hostSession}
 use Rattle.card.specs.SessionLaws.{ports-alike}
 use Rattle.card.specs.Reach.{presented, keyPresented, sealed, Reach, unsealedRoot, byKey, Hidden, lastTaken}
 use Rattle.card.specs.Trials.{Trial, trialTable, trialReports, trials}
@@ -35,7 +36,7 @@ use Rattle.card.specs.declared.NewKey.{NewKey}
 use Rattle.card.specs.declared.Refusal.{Refusal}
 use Rattle.card.specs.declared.Answer.{Answer}
 use Rattle.card.specs.declared.Answer.the-variants.{Refused, Done, Value}
-use Rattle.card.specs.declared.Refusal.the-variants.{Misshapen, Unsound, NotAllocated, BadOperand, NotOpened, IsRoot, PointerExists, NoPointer, HasPointers, TooFewBlocks, TooFewPlaces, TimeEnds, BadRecord, NoRun}
+use Rattle.card.specs.declared.Refusal.the-variants.{Misshapen, Unsound, NotAllocated, BadOperand, NotOpened, IsRoot, CannotPoint, NoPointer, HasPointers, TooFewBlocks, TooFewPlaces, TimeEnds, BadRecord, NoRun}
 use Rattle.card.specs.declared.Call.{Call}
 use Rattle.card.specs.declared.Call.the-variants.{Read, Write, Alloc, AllocContig, Create, Delete, KeyRead, KeyWrite, Renew, Force, Free, Tick, Audit}
 use Rattle.card.specs.declared.AllocOperands.{AllocOperands}
@@ -43,10 +44,11 @@ use Rattle.card.specs.declared.KeyOperands.{KeyOperands}
 use Rattle.card.proofs.Guarantees.Judged.{RefusedBy}
 use Rattle.card.proofs.Guarantees.Unchanged.{Unchanged, refusal-unchanged}
 use Rattle.card.proofs.Guarantees.KeepsSound.{done-sound, counts-right, pointers-ascending}
+use Rattle.card.proofs.Guarantees.Ledger.{made-and-taken, ledger, counts-ledger}
 use Rattle.card.proofs.Guarantees.Format.{format-sound}
 use Rattle.card.proofs.Guarantees.Untouched.{LeftAlone, AllottedZeroed, untouched}
 use Rattle.card.proofs.Guarantees.RefusedIff.{RefusedIff, refused-iff}
-use Rattle.card.proofs.Guarantees.Runs.{Run, contig, RunFound, RunAdjoins, RunNearest, some-blocks, run-found, run-adjoins, run-nearest}
+use Rattle.card.proofs.Guarantees.Runs.{Run, contig, some-blocks, run-found, run-adjoins, run-nearest}
 use Rattle.card.proofs.Guarantees.Keys.{setting, WriteAccess, byWriteKey, byReference, one-key-unsealed, other-key-kept, own-key-set, both-windows-closed, write-access-needed}
 use Rattle.card.proofs.Guarantees.Windows.{SetsWindow, SetBy, Shortens, byForce, byKeyRead, byKeyWrite, byFreeing, window-set-by, window-later, interval-zero-kept, windows-kept}
 use Rattle.card.proofs.Secrecy.Theorem.{EqualBut, HiddenOrFree, Secret, same-hidden, secrecy}
@@ -122,7 +124,7 @@ done-sound-tested c s = true-implies (isSound c) _ (λ h. true-isSound (done-sou
 abbrev pub countsRightTest : Card → Sent → Bool
 countsRightTest c s =
     let p = performed c s .after .public in
-    implies (isSound c) (allBelow (λ b. eqb (count p b) (pointersTo b (inUse p))) (p .info .blocks))
+    implies (isSound c) (allBelow (λ b. eqb (count p b) (pointersTo b (inUse p) (timesInUse p))) (p .info .blocks))
 
 pub counts-right-tested : (c : Card) (s : Sent) → countsRightTest c s ≡ true
 counts-right-tested c s =
@@ -143,6 +145,36 @@ formatSoundTest blocks roots bytes c = implies (ranges blocks roots bytes && len
 
 pub format-sound-tested : (blocks roots bytes : ℕ) (c : Card) → formatSoundTest blocks roots bytes c ≡ true
 format-sound-tested blocks roots bytes c = true-implies (ranges blocks roots bytes && lengths blocks bytes c) _ (λ h. true-isSound (format-sound blocks roots bytes c h))
+
+-- ---- made-and-taken, ledger and counts-ledger
+
+abbrev pub madeAndTakenTest : Card → Sent → ℕ → ℕ → Bool
+madeAndTakenTest c s a b =
+    let r = performed c s in
+    let call = s .request .call in
+    implies (ltb b 65536)
+    (eqb (multiplicity (r .after .public) a b + takenBy call (reply r) a b) (multiplicity (c .public) a b + madeBy call (reply r) a b))
+
+pub made-and-taken-tested : (c : Card) (s : Sent) (a b : ℕ) → madeAndTakenTest c s a b ≡ true
+made-and-taken-tested c s a b = true-implies (ltb b 65536) _ (λ h. eq-eqb _ _ (made-and-taken (s .port) c (s .request) a b (ltb-true _ _ h)))
+
+abbrev pub ledgerTest : Card → List Sent → ℕ → ℕ → Bool
+ledgerTest c ss a b =
+    implies (ltb b 65536) (eqb (multiplicity (afterAll c ss .public) a b + takenInAll c ss a b) (multiplicity (c .public) a b + madeInAll c ss a b))
+
+pub ledger-tested : (c : Card) (ss : List Sent) (a b : ℕ) → ledgerTest c ss a b ≡ true
+ledger-tested c ss a b = true-implies (ltb b 65536) _ (λ h. eq-eqb _ _ (ledger c ss a b (ltb-true _ _ h)))
+
+abbrev pub countsLedgerTest : Card → List Sent → ℕ → Bool
+countsLedgerTest c ss b =
+    let n = c .public .info .blocks in
+    implies (isSound c && ltb b n)
+    (eqb (count (afterAll c ss .public) b + sumBelow (λ a. takenInAll c ss a b) n) (count (c .public) b + sumBelow (λ a. madeInAll c ss a b) n))
+
+pub counts-ledger-tested : (c : Card) (ss : List Sent) (b : ℕ) → countsLedgerTest c ss b ≡ true
+counts-ledger-tested c ss b =
+    true-implies (isSound c && ltb b (c .public .info .blocks)) _
+    (λ h. eq-eqb _ _ (counts-ledger c ss (isSound-true (and-left _ _ h)) b (ltb-true _ _ (and-right (isSound c) _ h))))
 
 -- ---- untouched
 
@@ -247,7 +279,7 @@ refusal-14 NotAllocated e = absurd (omega (arith, e))
 refusal-14 BadOperand e = absurd (omega (arith, e))
 refusal-14 NotOpened e = absurd (omega (arith, e))
 refusal-14 IsRoot e = absurd (omega (arith, e))
-refusal-14 PointerExists e = absurd (omega (arith, e))
+refusal-14 CannotPoint e = absurd (omega (arith, e))
 refusal-14 NoPointer e = absurd (omega (arith, e))
 refusal-14 HasPointers e = absurd (omega (arith, e))
 refusal-14 TooFewBlocks e = absurd (omega (arith, e))

@@ -11,7 +11,7 @@ use lib.ListN.{length, drop, getD, replicate, length-append, length-replicate, g
 use lib.Seq.{getD-append-add, getD-take, getD-drop, ext-getD}
 use Rattle.card.specs.Lists.{all}
 use Rattle.card.specs.ListsLaws.{and-left, and-right, absurd-test, below-or-not}
-use Rattle.card.specs.Pointers.{ascending, pointersTo}
+use Rattle.card.specs.Pointers.{ascending, total}
 use Rattle.card.specs.Contents.{overwrite, part, zeros}
 use Rattle.card.specs.ContentsLaws.{block-fits, overwrite-length, overwrite-within, overwrite-behind, part-length, part-same}
 use Rattle.card.specs.Card.{Card, allocatedFlag, block}
@@ -98,6 +98,7 @@ module _ (blocks roots bytes : ℕ) (c : Card) (inRanges : InRanges blocks roots
       counts = repeated blocks 0;
       placesLow = subst (λ (n : ℕ). 1 ≤ n) (sym (repeated (length (c .public .pointers)) 0)) (hasLengths .placesLow);
       placesHigh = subst (λ (n : ℕ). n ≤ 16384) (sym (repeated (length (c .public .pointers)) 0)) (hasLengths .placesHigh);
+      multiplicities = repeated (length (c .public .multiplicities)) 0 ∙ hasLengths .multiplicities ∙ sym (repeated (length (c .public .pointers)) 0);
       windows = repeated (2 * blocks) 0;
       contents = overwrite-length (c .contents) 0 (zeros (roots * bytes)) rootsFit ∙ hasLengths .contents;
     };
@@ -108,7 +109,7 @@ module _ (blocks roots bytes : ℕ) (c : Card) (inRanges : InRanges blocks roots
   noKeys m b = record { high = zeros-at (4 * blocks) _; low = zeros-at (4 * blocks) _ }
 
   fresh-sound : Consistent (freshCard blocks roots bytes c)
-  unfolding ascending all pointersTo
+  unfolding ascending all total
   fresh-sound = record {
     flagsLow = λ b l. freshFlags-either blocks roots (λ (f : ℕ). f < 8) b (λ r. omega arith) (λ r. omega arith);
     rootsAllocated = λ b l r. ap allocatedFlag (freshFlags-root blocks roots b r);
@@ -125,6 +126,8 @@ module _ (blocks roots bytes : ℕ) (c : Card) (inRanges : InRanges blocks roots
     absentKey = λ m b l e. noKeys m b;
     ascends = refl;
     restZero = zeros-all (length (c .public .pointers));
+    timesRight = refl;
+    restTimesZero = zeros-all (length (c .public .multiplicities));
     pointersRight = refl;
     counts = λ b l. zeros-at blocks b;
     pointed = λ b l r e. absurd-test e (ap allocatedFlag (freshFlags-other blocks roots b r));

@@ -11,11 +11,11 @@ use borrow.Author.Tests.{eqb-true, eqb-false, ltb-true, ltb-false, leb-false, no
 use Rattle.card.specs.Lists.{all}
 use Rattle.card.specs.ListsLaws.{or-false-left, or-false-right, all-head, all-tail, all-both}
 use Rattle.card.specs.Pointers.{pointer, source, destination, ascending, pointersTo}
-use Rattle.card.specs.Card.{Public, Card, flag, allocatedFlag, allocated, isRoot, freeBlocks, longestInterval, count, inUse, pointsTo, hasPointers}
+use Rattle.card.specs.Card.{Public, Card, flag, allocatedFlag, allocated, isRoot, freeBlocks, longestInterval, count, inUse, timesInUse, multiplicity, pointsTo, hasPointers}
 use Rattle.card.specs.Soundness.{timeLimit}
 use Rattle.card.specs.SoundCard.{SoundCard}
-use Rattle.card.specs.SoundnessLaws.{allocated-below}
-use Rattle.card.specs.Plan.{NoneHolds, setWindow, freeBlock, dropPointer, withFlags, changePublic, change, changes, Buffers, Result, settle}
+use Rattle.card.specs.SoundnessLaws.{multiplicityRight-low, allocated-below}
+use Rattle.card.specs.Plan.{NoneHolds, setWindow, freeBlock, addPointer, raisePointer, lowerPointer, dropPointer, withFlags, changePublic, change, changes, Buffers, Result, settle}
 use Rattle.card.specs.Calls.{missing, windowAfter, opensWindow, wanted, picks, takeAll, closeWindows, modeOf, readPlan, writePlan, allocPlan, runStarts, nearestRun, allocContigPlan, createPlan, deletePlan, keyPlan, renewPlan, forcePlan, freePlan, tickPlan, auditPlan}
 use Rattle.card.specs.Session.{Request, plan, perform}
 use Rattle.card.specs.declared.Port.{Port}
@@ -37,7 +37,7 @@ use Rattle.card.specs.declared.Call.{Call}
 use Rattle.card.specs.declared.Call.the-variants.{Read, Write, Alloc, AllocContig, Create, Delete, KeyRead, KeyWrite, Renew, Force, Free, Tick, Audit}
 use Rattle.card.proofs.Guarantees.Steps.{allocated-set, allocated-other, unallocated-flag, setWindow-sound, setBlock-sound, setKey-sound, setTime-sound}
 use Rattle.card.specs.ChangesLaws.{keyed-allocated, inserted-length}
-use Rattle.card.proofs.Guarantees.PointerSteps.{sound-but, addPointer-sound, takeAdd-sound, dropOne-sound, dropLast-sound}
+use Rattle.card.proofs.Guarantees.PointerSteps.{sound-but, addPointer-sound, takeAdd-sound, raise-sound, lower-sound, times-right, times-counted, dropOne-sound, dropLast-sound}
 use Rattle.card.specs.Takeable.{Without, Takeable}
 use Rattle.card.specs.PicksLaws.{distinct-head, distinct-tail, picks-takeable, picks-length}
 use Rattle.card.specs.RunsLaws.{run-takeable, run-length}
@@ -122,20 +122,34 @@ create-sound : (port : Port) (c : Card) (sourceOpened destinationOpened : Bool) 
     → SoundCard (changes c (createPlan port (c .public) sourceOpened destinationOpened o .steps))
 unfolding createPlan changes
 create-sound port c sourceOpened destinationOpened o s h =
-    let p : Public = c .public in
-    let full : (p .info .used ≡ length (p .pointers) → ⊥) = eqb-false _ _ (h .1 .1 .1 .1 .1 .1 .0) in
-    addPointer-sound (o .source) (o .destination) (sound-but (o .destination) s)
-    (not-missing p (o .source) (h .0))
-    (not-missing p (o .destination) (h .1 .0))
-    (ltb-false _ _ (or-false-left (isRoot p (o .destination)) _ (h .1 .1 .0)))
-    (eqb-false _ _ (or-false-left (eqb (o .source) (o .destination)) _ (h .1 .1 .1 .1 .1 .0)))
-    (or-false-right (eqb (o .source) (o .destination)) _ (h .1 .1 .1 .1 .1 .0))
-    (omega (arith, s .shaped .usedHigh))
+    go (pointsTo p (o .source) (o .destination)) refl (h .1 .1 .1 .1 .1 .1 .0)
+  where
+    p : Public
+    p = c .public
+
+    held : allocated p (o .destination) ≡ true
+    held = not-missing p (o .destination) (h .1 .0)
+
+    go : (t : Bool) → pointsTo p (o .source) (o .destination) ≡ t → not t && eqb (p .info .used) (length (p .pointers)) ≡ false
+        → SoundCard (changes c (cond t (raisePointer (o .source) (o .destination)) (addPointer (o .source) (o .destination)) ∷ []))
+    go true e f =
+        raise-sound (o .source) (o .destination) s held e
+        (eqb-false _ _ (or-false-right (eqb (o .source) (o .destination)) _ (h .1 .1 .1 .1 .1 .0)))
+    go false e f =
+        let full : (p .info .used ≡ length (p .pointers) → ⊥) = eqb-false _ _ f in
+        addPointer-sound (o .source) (o .destination) (sound-but (o .destination) s)
+        (not-missing p (o .source) (h .0))
+        held
+        (ltb-false _ _ (or-false-left (isRoot p (o .destination)) _ (h .1 .1 .0)))
+        (eqb-false _ _ (or-false-left (eqb (o .source) (o .destination)) _ (h .1 .1 .1 .1 .1 .0)))
+        e
+        (omega (arith, s .shaped .usedHigh))
 
 delete-sound : (port : Port) (c : Card) (opened : Bool) (o : DeleteOperands) → SoundCard c → NoneHolds (deletePlan port (c .public) opened o .checks)
     → SoundCard (changes c (deletePlan port (c .public) opened o .steps))
 unfolding deletePlan changes
-delete-sound port c opened o s h = go (eqb (count (c .public) (o .destination)) 1) refl (h .1 .1 .1 .1 .1 .0)
+delete-sound port c opened o s h =
+    go (eqb (multiplicity (c .public) (o .source) (o .destination)) 1) (eqb (count (c .public) (o .destination)) 1) refl refl (h .1 .1 .1 .1 .1 .0)
   where
     held : allocated (c .public) (o .destination) ≡ true
     held = not-missing _ _ (h .1 .0)
@@ -143,10 +157,22 @@ delete-sound port c opened o s h = go (eqb (count (c .public) (o .destination)) 
     there : pointsTo (c .public) (o .source) (o .destination) ≡ true
     there = not-false _ (h .1 .1 .1 .1 .0)
 
-    go : (t : Bool) → eqb (count (c .public) (o .destination)) 1 ≡ t → t && hasPointers (c .public) (o .destination) ≡ false
-        → SoundCard (changes (change c (dropPointer (o .source) (o .destination))) (cond t (freeBlock (o .destination) ∷ []) []))
-    go true e f = dropLast-sound (o .source) (o .destination) s held there (eqb-true _ _ e) f
-    go false e f = dropOne-sound (o .source) (o .destination) s held there (eqb-false _ _ e)
+    low : 1 ≤ multiplicity (c .public) (o .source) (o .destination)
+    low = multiplicityRight-low _ (times-right (o .source) (o .destination) s there)
+
+    counted : multiplicity (c .public) (o .source) (o .destination) ≤ count (c .public) (o .destination)
+    counted = times-counted (o .source) (o .destination) s held there
+
+    go : (once last : Bool) → eqb (multiplicity (c .public) (o .source) (o .destination)) 1 ≡ once → eqb (count (c .public) (o .destination)) 1 ≡ last
+        → last && hasPointers (c .public) (o .destination) ≡ false
+        → SoundCard (changes c (cond once (dropPointer (o .source) (o .destination)) (lowerPointer (o .source) (o .destination)) ∷ cond last (freeBlock (o .destination) ∷ []) []))
+    go true true m e f = dropLast-sound (o .source) (o .destination) s held there (eqb-true _ _ m) (eqb-true _ _ e) f
+    go true false m e f = dropOne-sound (o .source) (o .destination) s held there (eqb-true _ _ m) (eqb-false _ _ e)
+    go false true m e f =
+        let several : (multiplicity (c .public) (o .source) (o .destination) ≡ 1 → ⊥) = eqb-false _ _ m in
+        let single : count (c .public) (o .destination) ≡ 1 = eqb-true _ _ e in
+        absurd (several (omega (arith, low, counted)))
+    go false false m e f = lower-sound (o .source) (o .destination) s held there (eqb-false _ _ m)
 
 -- ---- ALLOC
 
@@ -257,10 +283,10 @@ done-leaves-sound port c q =
     (λ r never. absurd (never r refl))
     (λ s h never. call-sound port c (q .call) (q .lent) s h)
 
--- After any call on a sound card every count is the number of pointers to its block.
+-- After any call on a sound card every count is the sum of the multiplicities of the pointers to its block.
 pub counts-right : (port : Port) (c : Card) (q : Request) → SoundCard c
     → (b : ℕ) → b < perform port c q .after .public .info .blocks
-    → count (perform port c q .after .public) b ≡ pointersTo b (inUse (perform port c q .after .public))
+    → count (perform port c q .after .public) b ≡ pointersTo b (inUse (perform port c q .after .public)) (timesInUse (perform port c q .after .public))
 counts-right port c q s = done-sound port c q s .isSound .counts
 
 -- The pointers in use strictly ascend, and the places behind them hold 0.

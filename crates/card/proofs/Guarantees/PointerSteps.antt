@@ -3,26 +3,27 @@
 use Prim.Native.Nat.{ℕ, _+_, _-_, _*_, _≤_, _<_}
 use mathlib.Core.Path.{_≡_, refl, sym, ap, _∙_, subst}
 use mathlib.Core.Logic.{⊎-elim}
-use mathlib.Core.Bool.{true, false, _&&_, not}
+use mathlib.Core.Bool.{true, false, _&&_, not, cond}
 use mathlib.Core.List.{List, _∷_, _++_}
 use native.Mathlib.Omega.{arith}
-use lib.Dec.{eqb}
+use lib.Dec.{eqb, leb}
 use lib.ListN.{length, take, drop, getD, set, length-set, length-replicate}
 use lib.Seq.{getD-set-same, getD-set-other}
-use borrow.Author.Tests.{eq-eqb, ne-eqb, eqb-false, not-true}
+use borrow.Author.Tests.{eq-eqb, ne-eqb, eqb-false, not-true, le-leb}
 use Rattle.card.specs.Lists.{all}
-use Rattle.card.specs.ListsLaws.{and-left, and-right, and-true, absurd-test, false-unless, below-or-not, same-or-other, all-both, all-drop, all-cons}
-use Rattle.card.specs.Pointers.{pointer, source, destination, ascending, contains, adds, pointersTo, insert, remove}
-use Rattle.card.specs.PointersLaws.{source-pointer, destination-pointer, insert-ascending, all-insert, pointersTo-insert, remove-ascending, all-remove, pointersTo-remove, uncounted, contains-all, contains-counted, unpointing}
+use Rattle.card.specs.ListsLaws.{and-left, and-right, and-true, absurd-test, false-unless, below-or-not, same-or-other, all-both, all-map, all-drop, all-cons, not-cases}
+use Rattle.card.specs.Pointers.{pointer, source, destination, ascending, pointersTo, insert, remove, beside, insertBeside, removeBeside, setBeside}
+use Rattle.card.specs.PointersLaws.{source-pointer, destination-pointer, insert-ascending, all-insert, remove-ascending, all-remove, contains-all, unpointing}
+use Rattle.card.specs.BesideLaws.{InStep, Moved, moved-insert, moved-remove, moved-set, all-insertBeside, all-removeBeside, all-setBeside, beside-all, beside-absent, total-counted, uncounted}
 use Rattle.card.specs.Contents.{zeros}
-use Rattle.card.specs.Card.{Public, Card, flag, allocatedFlag, keyFlag, allocated, windowAt, windowEnd, longestInterval, count, inUse, pointsTo, hasPointers}
-use Rattle.card.specs.Soundness.{pointerRight}
+use Rattle.card.specs.Card.{Public, Card, flag, allocatedFlag, keyFlag, allocated, windowAt, windowEnd, longestInterval, count, inUse, timesInUse, multiplicity, highestMultiplicity, pointsTo, hasPointers}
+use Rattle.card.specs.Soundness.{pointerRight, multiplicityRight}
 use Rattle.card.specs.SoundCard.{Shaped, KeyZero, Empty, RightPointer, SoundCard}
-use Rattle.card.specs.SoundnessLaws.{pointerRight-true, true-pointerRight, allocated-below, allocated-flag, flag-allocated}
-use Rattle.card.specs.Plan.{takeBlock, freeBlock, addPointer, dropPointer, withFlags, changePublic, changeKeys, changeContents, change}
+use Rattle.card.specs.SoundnessLaws.{pointerRight-true, true-pointerRight, multiplicityRight-low, multiplicityRight-high, true-multiplicityRight, allocated-below, allocated-flag, flag-allocated}
+use Rattle.card.specs.Plan.{takeBlock, freeBlock, addPointer, raisePointer, lowerPointer, dropPointer, withFlags, withCount, withMultiplicity, changePublic, changeKeys, changeContents, change}
 use Rattle.card.specs.declared.Mode.{Mode}
 use Rattle.card.specs.declared.Mode.the-variants.{Reading, Writing}
-use Rattle.card.specs.ChangesLaws.{inserted-take, inserted-drop, inserted-length, removed-take, removed-drop, removed-length, getD-set-either, getD-set-cases, windowAt-block, clearKeys-length, cleared-high, cleared-low, uncleared-high, uncleared-low}
+use Rattle.card.specs.ChangesLaws.{inserted-take, inserted-drop, inserted-length, removed-take, removed-drop, removed-length, used-in-step, insertedTimes-take, insertedTimes-drop, insertedTimes-length, setTimes-take, setTimes-drop, setTimes-length, removedTimes-take, removedTimes-drop, removedTimes-length, getD-set-either, getD-set-cases, windowAt-block, clearKeys-length, cleared-high, cleared-low, uncleared-high, uncleared-low}
 use Rattle.card.proofs.Guarantees.Steps.{shaped-with, filled-length, keyZero-from, empty-from, not-allocated, allocated-set, allocated-other, right-kept, set-flag-pointers}
 
 -- ---- soundness but for one block
@@ -36,8 +37,10 @@ pub record SoundBut (x : ℕ) (c : Card) : Type 0 where
   pub absentKey : (mode : Mode) (b : ℕ) → b < c .public .info .blocks → keyFlag mode (flag (c .public) b) ≡ false → KeyZero c mode b
   pub ascends : ascending (inUse (c .public)) ≡ true
   pub restZero : all (λ w. eqb w 0) (drop (c .public .info .used) (c .public .pointers)) ≡ true
+  pub timesRight : all (λ n. multiplicityRight n) (timesInUse (c .public)) ≡ true
+  pub restTimesZero : all (λ n. eqb n 0) (drop (c .public .info .used) (c .public .multiplicities)) ≡ true
   pub pointersRight : all (λ w. pointerRight (c .public) w) (inUse (c .public)) ≡ true
-  pub counts : (b : ℕ) → b < c .public .info .blocks → count (c .public) b ≡ pointersTo b (inUse (c .public))
+  pub counts : (b : ℕ) → b < c .public .info .blocks → count (c .public) b ≡ pointersTo b (inUse (c .public)) (timesInUse (c .public))
   pub pointed : (b : ℕ) → (b ≡ x → ⊥) → b < c .public .info .blocks → c .public .info .roots ≤ b → allocatedFlag (flag (c .public) b) ≡ true → 1 ≤ count (c .public) b
   pub windowsLow : (mode : Mode) (b : ℕ) → b < c .public .info .blocks → windowEnd (c .public) mode b ≤ c .public .info .time + longestInterval
 
@@ -51,6 +54,8 @@ sound-but x s = record {
   absentKey = s .isSound .absentKey;
   ascends = s .isSound .ascends;
   restZero = s .isSound .restZero;
+  timesRight = s .isSound .timesRight;
+  restTimesZero = s .isSound .restTimesZero;
   pointersRight = s .isSound .pointersRight;
   counts = s .isSound .counts;
   pointed = λ b other. s .isSound .pointed b;
@@ -68,6 +73,8 @@ but-sound {c} {x} s one = record {
     absentKey = s .absentKey;
     ascends = s .ascends;
     restZero = s .restZero;
+    timesRight = s .timesRight;
+    restTimesZero = s .restTimesZero;
     pointersRight = s .pointersRight;
     counts = s .counts;
     pointed = λ b l r a.
@@ -90,7 +97,7 @@ takeBlock-sound {c} b s below free =
     let d : Card = change c (takeBlock b) in
     let inFlags : b < length (p .flags) = omega (arith, s .shaped .hasLengths .flags) in
     record {
-      shaped = shaped-with (s .shaped) (length-set (p .flags) b 1) refl refl refl refl
+      shaped = shaped-with (s .shaped) (length-set (p .flags) b 1) refl refl refl refl refl
           (filled-length b (zeros (p .info .bytes)) (s .shaped) below (length-replicate (p .info .bytes) 0))
           (s .shaped .usedHigh)
           (s .shaped .timeHigh);
@@ -106,38 +113,29 @@ takeBlock-sound {c} b s below free =
           (λ other e. keyZero-from refl refl (s .isSound .absentKey m x l e));
       ascends = s .isSound .ascends;
       restZero = s .isSound .restZero;
+      timesRight = s .isSound .timesRight;
+      restTimesZero = s .isSound .restTimesZero;
       pointersRight = set-flag-pointers p b 1 refl (inUse p) (s .isSound .pointersRight);
       counts = s .isSound .counts;
       pointed = λ x other l r e. s .isSound .pointed x l r (subst (λ (f : ℕ). allocatedFlag f ≡ true) (getD-set-other (p .flags) b x 1 0 other) e);
       windowsLow = s .isSound .windowsLow;
     }
 
-adds-same : (b w : ℕ) → destination w ≡ b → adds b w ≡ 1
-adds-same b w e = rw (eq-eqb (destination w) b e)
-
-adds-other : (b w : ℕ) → (destination w ≡ b → ⊥) → adds b w ≡ 0
-adds-other b w e = rw (ne-eqb (destination w) b e)
-
--- Counts stay right with a pointer more to b, and with one less.
-module _ (counts ws : List ℕ) (a b : ℕ) (narrow : b < 65536) (inCounts : b < length counts) (atEnd : getD counts b 0 ≡ pointersTo b ws) where
-  one : adds b (pointer a b) ≡ 1
-  one = adds-same b (pointer a b) (destination-pointer a b narrow)
-
-  none : {x : ℕ} → (x ≡ b → ⊥) → adds x (pointer a b) ≡ 0
-  none {x} other = adds-other x (pointer a b) (λ e. other (sym e ∙ destination-pointer a b narrow))
-
-  count-insert : (x : ℕ) → getD counts x 0 ≡ pointersTo x ws → getD (set counts b (getD counts b 0 + 1)) x 0 ≡ pointersTo x (insert (pointer a b) ws)
-  count-insert x right =
-      getD-set-cases (λ (x n : ℕ). n ≡ pointersTo x (insert (pointer a b) ws)) counts b (getD counts b 0 + 1) x inCounts
-      (omega (arith, pointersTo-insert b (pointer a b) ws, one))
-      (λ other. omega (arith, pointersTo-insert x (pointer a b) ws, none other))
-
-  count-remove : contains (pointer a b) ws ≡ true
-      → (x : ℕ) → getD counts x 0 ≡ pointersTo x ws → getD (set counts b (getD counts b 0 - 1)) x 0 ≡ pointersTo x (remove (pointer a b) ws)
-  count-remove there x right =
-      getD-set-cases (λ (x n : ℕ). n ≡ pointersTo x (remove (pointer a b) ws)) counts b (getD counts b 0 - 1) x inCounts
-      (omega (arith, pointersTo-remove b (pointer a b) ws there, one))
-      (λ other. omega (arith, pointersTo-remove x (pointer a b) ws there, none other))
+-- Counts stay right where the number beside one pointer to b moves, and b's count with it.
+count-moved : (counts : List ℕ) (a b counted old new : ℕ) {ws ns ws′ ns′ : List ℕ} → b < 65536 → b < length counts
+    → Moved (pointer a b) old new ws ns ws′ ns′ → counted + old ≡ getD counts b 0 + new → getD counts b 0 ≡ pointersTo b ws ns
+    → (x : ℕ) → getD counts x 0 ≡ pointersTo x ws ns → getD (set counts b counted) x 0 ≡ pointersTo x ws′ ns′
+count-moved counts a b counted old new {ws} {ns} {ws′} {ns′} narrow inCounts moved e atEnd x right =
+    getD-set-cases (λ (x n : ℕ). n ≡ pointersTo x ws′ ns′) counts b counted x inCounts
+    (let here : eqb (destination (pointer a b)) b ≡ true = eq-eqb _ b (destination-pointer a b narrow) in
+    let before : cond (eqb (destination (pointer a b)) b) old 0 ≡ old = rw here in
+    let after : cond (eqb (destination (pointer a b)) b) new 0 ≡ new = rw here in
+    omega (arith, moved .sums (λ w. eqb (destination w) b)))
+    (λ other.
+    let elsewhere : eqb (destination (pointer a b)) x ≡ false = ne-eqb _ x (λ q. other (sym q ∙ destination-pointer a b narrow)) in
+    let before : cond (eqb (destination (pointer a b)) x) old 0 ≡ 0 = rw elsewhere in
+    let after : cond (eqb (destination (pointer a b)) x) new 0 ≡ 0 = rw elsewhere in
+    omega (arith, moved .sums (λ w. eqb (destination w) x)))
 
 -- Add a pointer that is not there, between two allocated blocks, to no root, where a place is left.
 pub addPointer-sound : {c : Card} (a b : ℕ) → SoundBut b c
@@ -156,7 +154,11 @@ addPointer-sound {c} a b s fromAllocated toAllocated noRoot different absent roo
     let inCounts : b < length (p .counts) = omega (arith, s .shaped .hasLengths .counts) in
     let used : ℕ = p .info .used in
     let ps : List ℕ = p .pointers in
+    let ms : List ℕ = p .multiplicities in
+    let same : length ms ≡ length ps = s .shaped .hasLengths .multiplicities in
     let w : ℕ = pointer a b in
+    let step : InStep (inUse p) (timesInUse p) = used-in-step w 1 used ps ms (omega arith) same in
+    let timed : take (used + 1) (insertBeside w 1 (inUse p) (timesInUse p) ++ drop (used + 1) ms) ≡ insertBeside w 1 (inUse p) (timesInUse p) = insertedTimes-take w 1 used ps ms (omega arith) same in
     let listed : take (used + 1) (insert w (inUse p) ++ drop (used + 1) ps) ≡ insert w (inUse p) = inserted-take w used ps (omega arith) in
     let right : pointerRight p w ≡ true = true-pointerRight {p = p} (record {
       sourceAllocated = subst (λ (n : ℕ). allocated p n ≡ true) (sym (source-pointer a b narrow)) fromAllocated;
@@ -165,7 +167,7 @@ addPointer-sound {c} a b s fromAllocated toAllocated noRoot different absent roo
       different = λ e. different (sym (source-pointer a b narrow) ∙ e ∙ destination-pointer a b narrow);
     }) in
     but-sound {x = b} (record {
-      shaped = shaped-with (s .shaped) refl refl (length-set (p .counts) b (count p b + 1)) (inserted-length w used ps (omega arith) room) refl refl
+      shaped = shaped-with (s .shaped) refl refl (length-set (p .counts) b (count p b + 1)) (inserted-length w used ps (omega arith) room) (insertedTimes-length w 1 used ps ms (omega arith) same room) refl refl
           (omega (arith, inserted-length w used ps (omega arith) room))
           (s .shaped .timeHigh);
       flagsLow = s .flagsLow;
@@ -180,12 +182,18 @@ addPointer-sound {c} a b s fromAllocated toAllocated noRoot different absent roo
       restZero =
           subst (λ (ws : List ℕ). all (λ w. eqb w 0) ws ≡ true) (sym (inserted-drop w used ps (omega arith)))
           (all-drop (λ w. eqb w 0) 1 (drop used ps) (s .restZero));
+      timesRight =
+          subst (λ (ns : List ℕ). all (λ n. multiplicityRight n) ns ≡ true) (sym timed)
+          (all-insertBeside (λ n. multiplicityRight n) w 1 step (true-multiplicityRight 1 (omega arith) (omega arith)) (s .timesRight));
+      restTimesZero =
+          subst (λ (ns : List ℕ). all (λ n. eqb n 0) ns ≡ true) (sym (insertedTimes-drop w 1 used ps ms (omega arith) same))
+          (all-drop (λ n. eqb n 0) 1 (drop used ms) (s .restTimesZero));
       pointersRight =
           subst (λ (ws : List ℕ). all (λ w. pointerRight p w) ws ≡ true) (sym listed)
           (all-insert (λ w. pointerRight p w) w (inUse p) right (s .pointersRight));
       counts = λ x l.
-          subst (λ (ws : List ℕ). getD (set (p .counts) b (count p b + 1)) x 0 ≡ pointersTo x ws) (sym listed)
-          (count-insert (p .counts) (inUse p) a b narrow inCounts (s .counts b below) x (s .counts x l));
+          rw (listed, timed)
+          (count-moved (p .counts) a b (count p b + 1) 0 1 narrow inCounts (moved-insert w 1 step) (omega arith) (s .counts b below) x (s .counts x l));
       pointed = λ x other l r e.
           subst (λ (n : ℕ). 1 ≤ n) (sym (getD-set-other (p .counts) b x (count p b + 1) 0 other)) (s .pointed x other l r e);
       windowsLow = s .windowsLow;
@@ -197,7 +205,7 @@ addPointer-sound {c} a b s fromAllocated toAllocated noRoot different absent roo
 -- Drop a pointer that is there: sound but for a pointer to its block.
 pub dropPointer-sound : {c : Card} (a b : ℕ) → SoundCard c → allocated (c .public) b ≡ true → pointsTo (c .public) a b ≡ true
     → SoundBut b (change c (dropPointer a b))
-unfolding change changePublic changeKeys changeContents pointsTo pointerRight allocated
+unfolding change changePublic changeKeys changeContents pointsTo multiplicity pointerRight allocated
 dropPointer-sound {c} a b s toAllocated there =
     let p : Public = c .public in
     let below : b < p .info .blocks = allocated-below p b toAllocated in
@@ -205,18 +213,25 @@ dropPointer-sound {c} a b s toAllocated there =
     let inCounts : b < length (p .counts) = omega (arith, s .shaped .hasLengths .counts) in
     let used : ℕ = p .info .used in
     let ps : List ℕ = p .pointers in
+    let ms : List ℕ = p .multiplicities in
     let fit : used ≤ length ps = s .shaped .usedHigh in
+    let same : length ms ≡ length ps = s .shaped .hasLengths .multiplicities in
     let w : ℕ = pointer a b in
+    let old : ℕ = beside w (inUse p) (timesInUse p) in
+    let step : InStep (inUse p) (timesInUse p) = used-in-step w 0 used ps ms fit same in
+    let timed : take (used - 1) (removeBeside w (inUse p) (timesInUse p) ++ (0 ∷ drop used ms)) ≡ removeBeside w (inUse p) (timesInUse p) = removedTimes-take w used ps ms fit same there in
+    let counted : old ≤ count p b =
+    subst (λ (n : ℕ). old ≤ n) (sym (s .isSound .counts b below)) (total-counted (λ w. eqb (destination w) b) w step there (eq-eqb (destination w) b (destination-pointer a b narrow))) in
     let listed : take (used - 1) (remove w (inUse p) ++ (0 ∷ drop used ps)) ≡ remove w (inUse p) = removed-take w used ps fit there in
     record {
-      shaped = shaped-with (s .shaped) refl refl (length-set (p .counts) b (count p b - 1)) (removed-length w used ps fit there) refl refl
+      shaped = shaped-with (s .shaped) refl refl (length-set (p .counts) b (count p b - old)) (removed-length w used ps fit there) (removedTimes-length w used ps ms fit same there) refl refl
           (omega (arith, removed-length w used ps fit there))
           (s .shaped .timeHigh);
       flagsLow = s .isSound .flagsLow;
       rootsAllocated = s .isSound .rootsAllocated;
       unallocated = λ x l e.
           empty-from refl (λ m. refl) (λ m. refl)
-          (getD-set-other (p .counts) b x (count p b - 1) 0 (not-allocated p toAllocated e))
+          (getD-set-other (p .counts) b x (count p b - old) 0 (not-allocated p toAllocated e))
           (λ m. refl)
           (s .isSound .unallocated x l e);
       absentKey = λ m x l e. keyZero-from refl refl (s .isSound .absentKey m x l e);
@@ -224,14 +239,20 @@ dropPointer-sound {c} a b s toAllocated there =
       restZero =
           subst (λ (ws : List ℕ). all (λ w. eqb w 0) ws ≡ true) (sym (removed-drop w used ps fit there))
           (all-cons (λ w. eqb w 0) 0 (drop used ps) refl (s .isSound .restZero));
+      timesRight =
+          subst (λ (ns : List ℕ). all (λ n. multiplicityRight n) ns ≡ true) (sym timed)
+          (all-removeBeside (λ n. multiplicityRight n) w step (s .isSound .timesRight));
+      restTimesZero =
+          subst (λ (ns : List ℕ). all (λ n. eqb n 0) ns ≡ true) (sym (removedTimes-drop w used ps ms fit same there))
+          (all-cons (λ n. eqb n 0) 0 (drop used ms) refl (s .isSound .restTimesZero));
       pointersRight =
           subst (λ (ws : List ℕ). all (λ w. pointerRight p w) ws ≡ true) (sym listed)
           (all-remove (λ w. pointerRight p w) w (inUse p) (s .isSound .pointersRight));
       counts = λ x l.
-          subst (λ (ws : List ℕ). getD (set (p .counts) b (count p b - 1)) x 0 ≡ pointersTo x ws) (sym listed)
-          (count-remove (p .counts) (inUse p) a b narrow inCounts (s .isSound .counts b below) there x (s .isSound .counts x l));
+          rw (listed, timed)
+          (count-moved (p .counts) a b (count p b - old) old 0 narrow inCounts (moved-remove w step there) (omega arith) (s .isSound .counts b below) x (s .isSound .counts x l));
       pointed = λ x other l r e.
-          subst (λ (n : ℕ). 1 ≤ n) (sym (getD-set-other (p .counts) b x (count p b - 1) 0 other)) (s .isSound .pointed x l r e);
+          subst (λ (n : ℕ). 1 ≤ n) (sym (getD-set-other (p .counts) b x (count p b - old) 0 other)) (s .isSound .pointed x l r e);
       windowsLow = s .isSound .windowsLow;
     }
 
@@ -288,12 +309,13 @@ freeBlock-sound {c} b s below noRoot uncount unpoint =
     let inFlags : b < length (p .flags) = omega (arith, s .shaped .hasLengths .flags) in
     let fits : 4 * b + 4 ≤ length (c .keys) = omega (arith, s .shaped .hasLengths .keys) in
     let inWindows : 2 * b + 1 < length (p .windows) = omega (arith, s .shaped .hasLengths .windows) in
+    let step : InStep (inUse p) (timesInUse p) = used-in-step 0 0 (p .info .used) (p .pointers) (p .multiplicities) (s .shaped .usedHigh) (s .shaped .hasLengths .multiplicities) in
     let d : Card = change c (freeBlock b) in
     let noKeys : (m : Mode) → KeyZero d m b = λ m. record { high = cleared-high (c .keys) b fits m; low = cleared-low (c .keys) b fits m } in
     let keysKept : (m : Mode) (x : ℕ) → (x ≡ b → ⊥) → KeyZero c m x → KeyZero d m x = λ m x other.
     keyZero-from (uncleared-high (c .keys) b m x other) (uncleared-low (c .keys) b m x other) in
     record {
-      shaped = shaped-with (s .shaped) (length-set (p .flags) b 0) (clearKeys-length (c .keys) b) refl refl
+      shaped = shaped-with (s .shaped) (length-set (p .flags) b 0) (clearKeys-length (c .keys) b) refl refl refl
           (length-set (set (p .windows) (windowAt Reading b) 0) (windowAt Writing b) 0 ∙ length-set (p .windows) (windowAt Reading b) 0)
           refl
           (s .shaped .usedHigh)
@@ -326,7 +348,9 @@ freeBlock-sound {c} b s below noRoot uncount unpoint =
             (λ other e. keysKept m x other (s .absentKey m x l e));
         ascends = s .ascends;
         restZero = s .restZero;
-        pointersRight = free-pointers p b (inUse p) (s .pointersRight) unpoint (uncounted b (inUse p) (sym (s .counts b below) ∙ uncount));
+        timesRight = s .timesRight;
+        restTimesZero = s .restTimesZero;
+        pointersRight = free-pointers p b (inUse p) (s .pointersRight) unpoint (uncounted (λ w. eqb (destination w) b) step (all-map (λ n. multiplicityRight n) (λ n. leb 1 n) (λ n e. le-leb 1 n (multiplicityRight-low n e)) (timesInUse p) (s .timesRight)) (sym (s .counts b below) ∙ uncount));
         counts = s .counts;
         pointed = λ x l r.
             getD-set-cases (λ (x f : ℕ). allocatedFlag f ≡ true → 1 ≤ count p x) (p .flags) b 0 x inFlags
@@ -382,27 +406,122 @@ takeAdd-sound {c} a b s fromAllocated below free room =
     (no-pointer a b s below free)
     room
 
+-- ---- another multiplicity of a pointer that is there
+
+module _ {c : Card} (a b : ℕ) (s : SoundCard c) where
+  -- The pointers in use and the multiplicities beside them.
+  card-in-step : InStep (inUse (c .public)) (timesInUse (c .public))
+  card-in-step = used-in-step 0 0 (c .public .info .used) (c .public .pointers) (c .public .multiplicities) (s .shaped .usedHigh) (s .shaped .hasLengths .multiplicities)
+
+  -- A pointer in use has a multiplicity from 1 to 65,535.
+  pub times-right : pointsTo (c .public) a b ≡ true → multiplicityRight (multiplicity (c .public) a b) ≡ true
+  unfolding multiplicity pointsTo
+  times-right there = beside-all (λ n. multiplicityRight n) (pointer a b) card-in-step there (s .isSound .timesRight)
+
+  -- A block points to another while the multiplicity is at least 1.
+  pub points-times : pointsTo (c .public) a b ≡ not (eqb (multiplicity (c .public) a b) 0)
+  unfolding multiplicity pointsTo
+  points-times =
+      ⊎-elim
+      (λ (there : pointsTo (c .public) a b ≡ true).
+      let low : 1 ≤ multiplicity (c .public) a b = multiplicityRight-low _ (times-right there) in
+      there ∙ sym (ap not (ne-eqb (multiplicity (c .public) a b) 0 (λ (z : multiplicity (c .public) a b ≡ 0). omega arith))))
+      (λ (absent : pointsTo (c .public) a b ≡ false).
+      absent ∙ sym (ap not (eq-eqb (multiplicity (c .public) a b) 0 (beside-absent (pointer a b) (inUse (c .public)) (timesInUse (c .public)) absent))))
+      (not-cases (pointsTo (c .public) a b))
+
+  -- No multiplicity is above the highest.
+  pub times-high : multiplicity (c .public) a b ≤ highestMultiplicity
+  unfolding multiplicity pointsTo
+  times-high =
+      ⊎-elim
+      (λ (there : pointsTo (c .public) a b ≡ true). multiplicityRight-high _ (times-right there))
+      (λ (absent : pointsTo (c .public) a b ≡ false). omega (arith, beside-absent (pointer a b) (inUse (c .public)) (timesInUse (c .public)) absent))
+      (not-cases (pointsTo (c .public) a b))
+
 module _ {c : Card} (a b : ℕ) (s : SoundCard c) (toAllocated : allocated (c .public) b ≡ true) (there : pointsTo (c .public) a b ≡ true) where
-  count-after : count (change c (dropPointer a b) .public) b ≡ count (c .public) b - 1
+  -- The destination's count is no lower.
+  pub times-counted : multiplicity (c .public) a b ≤ count (c .public) b
+  unfolding multiplicity pointsTo
+  times-counted =
+      let below : b < c .public .info .blocks = allocated-below (c .public) b toAllocated in
+      subst (λ (n : ℕ). multiplicity (c .public) a b ≤ n) (sym (s .isSound .counts b below))
+      (total-counted (λ w. eqb (destination w) b) (pointer a b) (card-in-step a b s) there
+      (eq-eqb (destination (pointer a b)) b (destination-pointer a b (block-narrow s below))))
+
+  -- Another multiplicity, and the destination's count with it.
+  times-sound : (times counted : ℕ) → 1 ≤ times → times ≤ highestMultiplicity → counted + multiplicity (c .public) a b ≡ count (c .public) b + times
+      → SoundCard (record { public = withMultiplicity (withCount (c .public) b counted) a b times; keys = c .keys; contents = c .contents })
+  unfolding pointerRight allocated multiplicity pointsTo
+  times-sound times counted low high moves =
+      let p : Public = c .public in
+      let below : b < p .info .blocks = allocated-below p b toAllocated in
+      let inCounts : b < length (p .counts) = omega (arith, s .shaped .hasLengths .counts) in
+      let used : ℕ = p .info .used in
+      let ps : List ℕ = p .pointers in
+      let ms : List ℕ = p .multiplicities in
+      let fit : used ≤ length ps = s .shaped .usedHigh in
+      let same : length ms ≡ length ps = s .shaped .hasLengths .multiplicities in
+      let w : ℕ = pointer a b in
+      let timed : take used (setBeside w times (inUse p) (timesInUse p) ++ drop used ms) ≡ setBeside w times (inUse p) (timesInUse p) = setTimes-take w times used ps ms fit same in
+      but-sound {x = b} (record {
+        shaped = shaped-with (s .shaped) refl refl (length-set (p .counts) b counted) refl (setTimes-length w times used ps ms fit same) refl refl fit (s .shaped .timeHigh);
+        flagsLow = s .isSound .flagsLow;
+        rootsAllocated = s .isSound .rootsAllocated;
+        unallocated = λ x l e.
+            empty-from refl (λ m. refl) (λ m. refl)
+            (getD-set-other (p .counts) b x counted 0 (not-allocated p toAllocated e))
+            (λ m. refl)
+            (s .isSound .unallocated x l e);
+        absentKey = λ m x l e. keyZero-from refl refl (s .isSound .absentKey m x l e);
+        ascends = s .isSound .ascends;
+        restZero = s .isSound .restZero;
+        timesRight =
+            subst (λ (ns : List ℕ). all (λ n. multiplicityRight n) ns ≡ true) (sym timed)
+            (all-setBeside (λ n. multiplicityRight n) w times (card-in-step a b s) (true-multiplicityRight times low high) (s .isSound .timesRight));
+        restTimesZero =
+            subst (λ (ns : List ℕ). all (λ n. eqb n 0) ns ≡ true) (sym (setTimes-drop w times used ps ms fit same)) (s .isSound .restTimesZero);
+        pointersRight = s .isSound .pointersRight;
+        counts = λ x l.
+            rw timed
+            (count-moved (p .counts) a b counted (multiplicity p a b) times (block-narrow s below) inCounts (moved-set w times (card-in-step a b s) there) moves
+            (s .isSound .counts b below) x (s .isSound .counts x l));
+        pointed = λ x other l r e.
+            subst (λ (n : ℕ). 1 ≤ n) (sym (getD-set-other (p .counts) b x counted 0 other)) (s .isSound .pointed x l r e);
+        windowsLow = s .isSound .windowsLow;
+      })
+      (subst (λ (n : ℕ). 1 ≤ n) (sym (getD-set-same (p .counts) b counted 0 inCounts)) (omega (arith, times-counted)))
+
+  -- One more of a pointer whose multiplicity is below 65,535.
+  pub raise-sound : (multiplicity (c .public) a b ≡ highestMultiplicity → ⊥) → SoundCard (change c (raisePointer a b))
+  unfolding change changePublic changeKeys changeContents
+  raise-sound below =
+      times-sound (multiplicity (c .public) a b + 1) (count (c .public) b + 1) (omega arith)
+      (omega (arith, multiplicityRight-high _ (times-right a b s there))) (omega arith)
+
+  -- One less of a pointer whose multiplicity is above 1.
+  pub lower-sound : (multiplicity (c .public) a b ≡ 1 → ⊥) → SoundCard (change c (lowerPointer a b))
+  unfolding change changePublic changeKeys changeContents
+  lower-sound more =
+      times-sound (multiplicity (c .public) a b - 1) (count (c .public) b - 1) (omega (arith, multiplicityRight-low _ (times-right a b s there)))
+      (omega (arith, multiplicityRight-high _ (times-right a b s there))) (omega (arith, multiplicityRight-low _ (times-right a b s there), times-counted))
+
+module _ {c : Card} (a b : ℕ) (s : SoundCard c) (toAllocated : allocated (c .public) b ≡ true) (there : pointsTo (c .public) a b ≡ true) where
+  count-after : count (change c (dropPointer a b) .public) b ≡ count (c .public) b - multiplicity (c .public) a b
   unfolding change changePublic
   count-after =
-      getD-set-same (c .public .counts) b (count (c .public) b - 1) 0
+      getD-set-same (c .public .counts) b (count (c .public) b - multiplicity (c .public) a b) 0
       (omega (arith, allocated-below (c .public) b toAllocated, s .shaped .hasLengths .counts))
 
-  -- Drop a pointer to a block that has another.
-  pub dropOne-sound : (count (c .public) b ≡ 1 → ⊥) → SoundCard (change c (dropPointer a b))
-  unfolding pointsTo
-  dropOne-sound more =
-      let below : b < c .public .info .blocks = allocated-below (c .public) b toAllocated in
-      let some : 1 ≤ count (c .public) b =
-      subst (λ (n : ℕ). 1 ≤ n) (sym (s .isSound .counts b below))
-      (contains-counted b (pointer a b) (inUse (c .public)) there (destination-pointer a b (block-narrow s below))) in
-      but-sound (dropPointer-sound a b s toAllocated there) (omega (arith, count-after))
+  -- Drop a pointer of multiplicity 1 to a block that has another.
+  pub dropOne-sound : multiplicity (c .public) a b ≡ 1 → (count (c .public) b ≡ 1 → ⊥) → SoundCard (change c (dropPointer a b))
+  dropOne-sound once more =
+      but-sound (dropPointer-sound a b s toAllocated there) (omega (arith, count-after, times-counted a b s toAllocated there))
 
   -- Drop the last pointer to a block that has none of its own, and free the block.
-  pub dropLast-sound : count (c .public) b ≡ 1 → hasPointers (c .public) b ≡ false → SoundCard (change (change c (dropPointer a b)) (freeBlock b))
+  pub dropLast-sound : multiplicity (c .public) a b ≡ 1 → count (c .public) b ≡ 1 → hasPointers (c .public) b ≡ false → SoundCard (change (change c (dropPointer a b)) (freeBlock b))
   unfolding change changePublic pointsTo hasPointers
-  dropLast-sound last alone =
+  dropLast-sound once last alone =
       let p : Public = c .public in
       let below : b < p .info .blocks = allocated-below p b toAllocated in
       freeBlock-sound b (dropPointer-sound a b s toAllocated there) below

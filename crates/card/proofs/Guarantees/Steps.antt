@@ -25,17 +25,18 @@ use Rattle.card.specs.ChangesLaws.{getD-set-either, getD-set-cases, wind
 -- ---- shape
 
 -- A card with tables of the same lengths has the same shape, with as many pointers as fit and a time below the limit.
-pub shaped-with : {c : Card} {flags keys counts pointers windows contents : List ℕ} {used time : ℕ} → Shaped c
+pub shaped-with : {c : Card} {flags keys counts pointers multiplicities windows contents : List ℕ} {used time : ℕ} → Shaped c
     → length flags ≡ length (c .public .flags)
     → length keys ≡ length (c .keys)
     → length counts ≡ length (c .public .counts)
     → length pointers ≡ length (c .public .pointers)
+    → length multiplicities ≡ length (c .public .multiplicities)
     → length windows ≡ length (c .public .windows)
     → length contents ≡ length (c .contents)
     → used ≤ length pointers
     → time < timeLimit
-    → Shaped (card (record { blocks = c .public .info .blocks; roots = c .public .info .roots; bytes = c .public .info .bytes; used = used; time = time }) flags keys counts pointers windows contents)
-shaped-with {c} {flags} {keys} {counts} {pointers} {windows} {contents} s f k n p w d u t = record {
+    → Shaped (card (record { blocks = c .public .info .blocks; roots = c .public .info .roots; bytes = c .public .info .bytes; used = used; time = time }) flags keys counts pointers multiplicities windows contents)
+shaped-with {c} {flags} {keys} {counts} {pointers} {multiplicities} {windows} {contents} s f k n p m w d u t = record {
   inRanges = s .inRanges;
   timeHigh = t;
   hasLengths = record {
@@ -44,6 +45,7 @@ shaped-with {c} {flags} {keys} {counts} {pointers} {windows} {contents} s f k n 
     counts = n ∙ s .hasLengths .counts;
     placesLow = subst (λ (m : ℕ). 1 ≤ m) (sym p) (s .hasLengths .placesLow);
     placesHigh = subst (λ (m : ℕ). m ≤ 16384) (sym p) (s .hasLengths .placesHigh);
+    multiplicities = m ∙ s .hasLengths .multiplicities ∙ sym p;
     windows = w ∙ s .hasLengths .windows;
     contents = d ∙ s .hasLengths .contents;
   };
@@ -94,7 +96,7 @@ pub setWindow-sound : {c : Card} (mode : Mode) (b end : ℕ) → SoundCard c →
     → SoundCard (change c (setWindow mode b end))
 unfolding change changePublic changeKeys changeContents pointerRight allocated
 setWindow-sound {c} mode b end s a low = record {
-  shaped = shaped-with (s .shaped) refl refl refl refl (length-set (c .public .windows) (windowAt mode b) end) refl (s .shaped .usedHigh) (s .shaped .timeHigh);
+  shaped = shaped-with (s .shaped) refl refl refl refl refl (length-set (c .public .windows) (windowAt mode b) end) refl (s .shaped .usedHigh) (s .shaped .timeHigh);
   isSound = record {
     flagsLow = s .isSound .flagsLow;
     rootsAllocated = s .isSound .rootsAllocated;
@@ -105,6 +107,8 @@ setWindow-sound {c} mode b end s a low = record {
     absentKey = λ m x l e. keyZero-from refl refl (s .isSound .absentKey m x l e);
     ascends = s .isSound .ascends;
     restZero = s .isSound .restZero;
+    timesRight = s .isSound .timesRight;
+    restTimesZero = s .isSound .restTimesZero;
     pointersRight = s .isSound .pointersRight;
     counts = s .isSound .counts;
     pointed = s .isSound .pointed;
@@ -120,7 +124,7 @@ pub setBlock-sound : {c : Card} (b : ℕ) (ys : List ℕ) → SoundCard c → b 
     → SoundCard (change c (setBlock b ys))
 unfolding change changePublic changeKeys changeContents
 setBlock-sound {c} b ys s l whole = record {
-  shaped = shaped-with (s .shaped) refl refl refl refl refl (filled-length b ys (s .shaped) l whole) (s .shaped .usedHigh) (s .shaped .timeHigh);
+  shaped = shaped-with (s .shaped) refl refl refl refl refl refl (filled-length b ys (s .shaped) l whole) (s .shaped .usedHigh) (s .shaped .timeHigh);
   isSound = record {
     flagsLow = s .isSound .flagsLow;
     rootsAllocated = s .isSound .rootsAllocated;
@@ -128,6 +132,8 @@ setBlock-sound {c} b ys s l whole = record {
     absentKey = λ m x l e. keyZero-from refl refl (s .isSound .absentKey m x l e);
     ascends = s .isSound .ascends;
     restZero = s .isSound .restZero;
+    timesRight = s .isSound .timesRight;
+    restTimesZero = s .isSound .restTimesZero;
     pointersRight = s .isSound .pointersRight;
     counts = s .isSound .counts;
     pointed = s .isSound .pointed;
@@ -139,7 +145,7 @@ setBlock-sound {c} b ys s l whole = record {
 pub setTime-sound : {c : Card} (time : ℕ) → SoundCard c → c .public .info .time ≤ time → time < timeLimit → SoundCard (change c (setTime time))
 unfolding change changePublic changeKeys changeContents pointerRight allocated
 setTime-sound {c} time s later low = record {
-  shaped = shaped-with (s .shaped) refl refl refl refl refl refl (s .shaped .usedHigh) low;
+  shaped = shaped-with (s .shaped) refl refl refl refl refl refl refl (s .shaped .usedHigh) low;
   isSound = record {
     flagsLow = s .isSound .flagsLow;
     rootsAllocated = s .isSound .rootsAllocated;
@@ -147,6 +153,8 @@ setTime-sound {c} time s later low = record {
     absentKey = λ m x l e. keyZero-from refl refl (s .isSound .absentKey m x l e);
     ascends = s .isSound .ascends;
     restZero = s .isSound .restZero;
+    timesRight = s .isSound .timesRight;
+    restTimesZero = s .isSound .restTimesZero;
     pointersRight = s .isSound .pointersRight;
     counts = s .isSound .counts;
     pointed = s .isSound .pointed;
@@ -212,7 +220,7 @@ setKey-sound {c} mode b key s a =
     let rest : keyFlag (otherMode mode) v ≡ false → KeyZero d (otherMode mode) b = λ e.
     keysKept (otherMode mode) b (λ q _. other-mode mode q) (s .isSound .absentKey (otherMode mode) b below (sym (keyed-other f mode key) ∙ e)) in
     record {
-      shaped = shaped-with (s .shaped) (length-set (p .flags) b v) (replaceKey-length (c .keys) mode b key) refl refl refl refl (s .shaped .usedHigh) (s .shaped .timeHigh);
+      shaped = shaped-with (s .shaped) (length-set (p .flags) b v) (replaceKey-length (c .keys) mode b key) refl refl refl refl refl (s .shaped .usedHigh) (s .shaped .timeHigh);
       isSound = record {
         flagsLow = λ x l. getD-set-either (λ (f : ℕ). f < 8) (p .flags) b v x (keyed-low f mode key) (s .isSound .flagsLow x l);
         rootsAllocated = λ x l r. getD-set-either (λ (f : ℕ). allocatedFlag f ≡ true) (p .flags) b v x odd (s .isSound .rootsAllocated x l r);
@@ -235,6 +243,8 @@ setKey-sound {c} mode b key s a =
             (λ other e. keysKept m x (λ _ q. other q) (s .isSound .absentKey m x l e));
         ascends = s .isSound .ascends;
         restZero = s .isSound .restZero;
+        timesRight = s .isSound .timesRight;
+        restTimesZero = s .isSound .restTimesZero;
         pointersRight = set-flag-pointers p b v odd (inUse p) (s .isSound .pointersRight);
         counts = s .isSound .counts;
         pointed = λ x l.

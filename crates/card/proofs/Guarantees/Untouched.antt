@@ -12,11 +12,11 @@ use Rattle.card.specs.Lists.{all}
 use Rattle.card.specs.ListsLaws.{absurd-test, or-false-left, same-or-other, all-head, all-tail}
 use Rattle.card.specs.Contents.{zeros}
 use Rattle.card.specs.ContentsLaws.{fill-length, part-fill-same, part-fill-other}
-use Rattle.card.specs.Card.{Public, Card, allocatedFlag, allocated, freeBlocks, count, block}
+use Rattle.card.specs.Card.{Public, Card, allocatedFlag, allocated, count, multiplicity, pointsTo, block}
 use Rattle.card.specs.SoundCard.{SoundCard}
 use Rattle.card.specs.SoundnessLaws.{allocated-below, flag-allocated}
-use Rattle.card.specs.Plan.{NoneHolds, setWindow, setBlock, takeBlock, freeBlock, addPointer, dropPointer, withFlags, changePublic, changeContents, change, changes, Buffers}
-use Rattle.card.specs.Calls.{windowAfter, opensWindow, wanted, picks, takeAll, readPlan, writePlan, allocPlan, allocContigPlan, createPlan, deletePlan, keyPlan, renewPlan, forcePlan, freePlan, tickPlan, auditPlan}
+use Rattle.card.specs.Plan.{NoneHolds, setWindow, setBlock, takeBlock, freeBlock, addPointer, raisePointer, lowerPointer, dropPointer, withFlags, changePublic, changeContents, change, changes, Buffers}
+use Rattle.card.specs.Calls.{windowAfter, opensWindow, wanted, takeAll, readPlan, writePlan, allocPlan, allocContigPlan, createPlan, deletePlan, keyPlan, renewPlan, forcePlan, freePlan, tickPlan, auditPlan}
 use Rattle.card.specs.Session.{Request, plan, perform}
 use Rattle.card.specs.declared.Port.{Port}
 use Rattle.card.specs.declared.Port.the-variants.{Host, Service}
@@ -24,7 +24,6 @@ use Rattle.card.specs.declared.Mode.{Mode}
 use Rattle.card.specs.declared.Mode.the-variants.{Reading, Writing}
 use Rattle.card.specs.declared.WriteOperands.{WriteOperands}
 use Rattle.card.specs.declared.DeleteOperands.{DeleteOperands}
-use Rattle.card.specs.declared.AllocOperands.{AllocOperands}
 use Rattle.card.specs.declared.KeyOperands.{KeyOperands}
 use Rattle.card.specs.declared.Call.{Call}
 use Rattle.card.specs.declared.Call.the-variants.{Read, Write, Alloc, AllocContig, Create, Delete, KeyRead, KeyWrite, Renew, Force, Free, Tick, Audit}
@@ -88,14 +87,22 @@ write-left port c opened o input b free s h =
 delete-left : (port : Port) (c : Card) (opened : Bool) (o : DeleteOperands) (b : ℕ) → allocated (c .public) b ≡ false
     → NoneHolds (deletePlan port (c .public) opened o .checks) → LeftAlone c (changes c (deletePlan port (c .public) opened o .steps)) b
 unfolding deletePlan changes change changePublic changeContents allocated
-delete-left port c opened o b free h = go (eqb (count (c .public) (o .destination)) 1)
+delete-left port c opened o b free h = go (eqb (multiplicity (c .public) (o .source) (o .destination)) 1) (eqb (count (c .public) (o .destination)) 1)
   where
-    go : (t : Bool) → LeftAlone c (changes (change c (dropPointer (o .source) (o .destination))) (cond t (freeBlock (o .destination) ∷ []) [])) b
-    go true = record {
-      notAllocated = allocated-other (c .public) (o .destination) 0 b (other-block (c .public) free (not-missing (c .public) (o .destination) (h .1 .0))) ∙ free;
-      same = refl;
-    }
-    go false = record { notAllocated = free; same = refl }
+    freed : allocated (withFlags (c .public) (set (c .public .flags) (o .destination) 0)) b ≡ false
+    freed = allocated-other (c .public) (o .destination) 0 b (other-block (c .public) free (not-missing (c .public) (o .destination) (h .1 .0))) ∙ free
+
+    go : (once last : Bool)
+        → LeftAlone c (changes c (cond once (dropPointer (o .source) (o .destination)) (lowerPointer (o .source) (o .destination)) ∷ cond last (freeBlock (o .destination) ∷ []) [])) b
+    go true true = record { notAllocated = freed; same = refl }
+    go true false = record { notAllocated = free; same = refl }
+    go false true = record { notAllocated = freed; same = refl }
+    go false false = record { notAllocated = free; same = refl }
+
+create-left : (c : Card) (a d b : ℕ) (t : Bool) → allocated (c .public) b ≡ false → LeftAlone c (changes c (cond t (raisePointer a d) (addPointer a d) ∷ [])) b
+unfolding changes change changePublic changeContents allocated
+create-left c a d b true free = record { notAllocated = free; same = refl }
+create-left c a d b false free = record { notAllocated = free; same = refl }
 
 key-left : (port : Port) (c : Card) (opened : Bool) (mode : Mode) (o : KeyOperands) (b : ℕ) → allocated (c .public) b ≡ false
     → NoneHolds (keyPlan port (c .public) opened mode o .checks) → LeftAlone c (changes c (keyPlan port (c .public) opened mode o .steps)) b
@@ -201,7 +208,7 @@ call-untouched port c (Read o) lent b free s h = inl (opensWindow-left port c (c
 call-untouched port c (Write o) lent b free s h = inl (write-left port c _ o (lent .input) b free s h)
 call-untouched port c (Alloc o) lent b free s h = allotted-untouched c (o .reference) _ b free s (picks-takeable (c .public) (wanted (o .hint)) (o .count))
 call-untouched port c (AllocContig o) lent b free s h = allotted-untouched c (o .reference) _ b free s (run-takeable (c .public) (o .count) (wanted (o .hint)))
-call-untouched port c (Create o) lent b free s h = inl (record { notAllocated = free; same = refl })
+call-untouched port c (Create o) lent b free s h = inl (create-left c (o .source) (o .destination) b (pointsTo (c .public) (o .source) (o .destination)) free)
 call-untouched port c (Delete o) lent b free s h = inl (delete-left port c _ o b free h)
 call-untouched port c (KeyRead o) lent b free s h = inl (key-left port c _ Reading o b free h)
 call-untouched port c (KeyWrite o) lent b free s h = inl (key-left port c _ Writing o b free h)

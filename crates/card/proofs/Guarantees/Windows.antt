@@ -12,10 +12,10 @@ use lib.ListN.{length, getD, set}
 use lib.Seq.{getD-set-same}
 use borrow.Author.Tests.{eq-eqb, ne-eqb}
 use Rattle.card.specs.ListsLaws.{and-false-right, or-false-left, or-false-right, absurd-test, same-or-other}
-use Rattle.card.specs.Card.{Public, Card, allocatedFlag, allocated, freeBlocks, longestInterval, windowAt, windowEnd, count}
+use Rattle.card.specs.Card.{Public, Card, allocatedFlag, allocated, freeBlocks, longestInterval, windowAt, windowEnd, count, multiplicity, pointsTo}
 use Rattle.card.specs.SoundCard.{SoundCard}
 use Rattle.card.specs.SoundnessLaws.{allocated-below}
-use Rattle.card.specs.Plan.{NoneHolds, setWindow, setBlock, takeBlock, freeBlock, addPointer, dropPointer, changePublic, change, changes, Buffers, Result, done, settle}
+use Rattle.card.specs.Plan.{NoneHolds, setWindow, setBlock, takeBlock, freeBlock, addPointer, raisePointer, lowerPointer, dropPointer, changePublic, change, changes, Buffers, Result, done, settle}
 use Rattle.card.specs.ChangesLaws.{getD-set-raised, getD-set-changed, windowAt-block, windowAt-mode, windowAt-within}
 use Rattle.card.specs.Calls.{isDone, windowAfter, opensWindow, wanted, picks, takeAll, modeOf, readPlan, writePlan, allocPlan, runStarts, nearestRun, allocContigPlan, createPlan, deletePlan, keyPlan, renewPlan, forcePlan, freePlan, tickPlan, auditPlan}
 use Rattle.card.specs.Session.{Request, plan, portOf, perform}
@@ -101,17 +101,25 @@ plan-left port c (Write o) lent s h =
 plan-left port c (Alloc o) lent s h = same (takes-left c (o .reference) (picks (wanted (o .hint)) (o .count) (freeBlocks (c .public))))
 plan-left port c (AllocContig o) lent s h =
     same (takes-left c (o .reference) (nearestRun (wanted (o .hint)) (o .count) (runStarts (c .public) (o .count))))
-plan-left port c (Create o) lent s h = same refl
-plan-left port c (Delete o) lent s h = go (eqb (count (c .public) (o .destination)) 1)
+plan-left port c (Create o) lent s h = go (pointsTo (c .public) (o .source) (o .destination))
+  where
+    go : (t : Bool) → WindowsLeft port c (change c (cond t (raisePointer (o .source) (o .destination)) (addPointer (o .source) (o .destination)))) (Create o)
+    go true = same refl
+    go false = same refl
+plan-left port c (Delete o) lent s h = go (eqb (multiplicity (c .public) (o .source) (o .destination)) 1) (eqb (count (c .public) (o .destination)) 1)
   where
     held : allocated (c .public) (o .destination) ≡ true
     held = not-missing (c .public) (o .destination) (h .1 .0)
 
-    go : (t : Bool) → WindowsLeft port c (changes (change c (dropPointer (o .source) (o .destination))) (cond t (freeBlock (o .destination) ∷ []) [])) (Delete o)
-    go true =
-        let inFlags : o .destination < length (c .public .flags) = omega (arith, allocated-below (c .public) (o .destination) held, s .shaped .hasLengths .flags) in
-        bothClosed (o .destination) (byFreeing held (freed c (c .public .flags) (o .destination) inFlags)) refl
-    go false = same refl
+    gone : ltb (o .destination) (c .public .info .blocks) && allocatedFlag (getD (set (c .public .flags) (o .destination) 0) (o .destination) 0) ≡ false
+    gone = freed c (c .public .flags) (o .destination) (omega (arith, allocated-below (c .public) (o .destination) held, s .shaped .hasLengths .flags))
+
+    go : (once last : Bool)
+        → WindowsLeft port c (changes (change c (cond once (dropPointer (o .source) (o .destination)) (lowerPointer (o .source) (o .destination)))) (cond last (freeBlock (o .destination) ∷ []) [])) (Delete o)
+    go true true = bothClosed (o .destination) (byFreeing held gone) refl
+    go true false = same refl
+    go false true = bothClosed (o .destination) (byFreeing held gone) refl
+    go false false = same refl
 plan-left port c (KeyRead o) lent s h = bothClosed (o .block) (byKeyRead o refl) refl
 plan-left port c (KeyWrite o) lent s h = bothClosed (o .block) (byKeyWrite o refl) refl
 plan-left port c (Renew o) lent s h = oneSet refl (byRenew o) refl

@@ -1,5 +1,5 @@
 -- A set of blocks that is closed under the four rules of reach, and how it stays closed under each change of a card.
-use Prim.Native.Nat.{ℕ, _+_, _-_, _*_, _≤_, _<_}
+use Prim.Native.Nat.{ℕ, _-_, _*_, _≤_, _<_}
 use mathlib.Core.Path.{_≡_, refl, sym, ap, _∙_, subst}
 use mathlib.Core.Logic.{_⊎_, inl, inr, ⊎-elim}
 use mathlib.Core.Bool.{Bool, true, false, not, false≢true}
@@ -13,11 +13,11 @@ use Rattle.card.specs.Lists.{all}
 use Rattle.card.specs.ListsLaws.{and-right, absurd-test, same-or-other, below-or-not}
 use Rattle.card.specs.Pointers.{pointer, source, destination, contains, insert, remove}
 use Rattle.card.specs.PointersLaws.{source-pointer, destination-pointer, contains-insert, contains-remove, contains-all}
-use Rattle.card.specs.Contents.{part, zeros}
+use Rattle.card.specs.Contents.{zeros}
 use Rattle.card.specs.ContentsLaws.{fill-length, block-fits}
 use Rattle.card.specs.Card.{Public, Card, flag, allocated, hasKey, isRoot, windowAt, windowEnd, windowOpen, inUse, pointsTo, keyHigh, keyLow}
 use Rattle.card.specs.SoundnessLaws.{allocated-below}
-use Rattle.card.specs.Plan.{Change, setWindow, setBlock, setKey, takeBlock, freeBlock, addPointer, dropPointer, setTime, changePublic, changeKeys, changeContents, change}
+use Rattle.card.specs.Plan.{Change, setWindow, setBlock, setKey, takeBlock, freeBlock, addPointer, raisePointer, lowerPointer, dropPointer, setTime, changePublic, changeKeys, changeContents, change}
 use Rattle.card.specs.ChangesLaws.{windowAt-block, kept-high, kept-low, uncleared-high, uncleared-low, inserted-long, inserted-take, removed-take, removed-length}
 use Rattle.card.specs.Reach.{keyPresented, sealed}
 use Rattle.card.specs.declared.Mode.{Mode}
@@ -46,6 +46,8 @@ Allowed G p (setKey mode b key) = G b
 Allowed G p (takeBlock b) = (b < p .info .blocks) × (allocated p b ≡ false) × (all (λ w. not (eqb (source w) b)) (inUse p) ≡ true)
 Allowed G p (freeBlock b) = b < p .info .blocks
 Allowed G p (addPointer a b) = G b × (b < p .info .blocks)
+Allowed G p (raisePointer a b) = Unit {0}
+Allowed G p (lowerPointer a b) = Unit {0}
 Allowed G p (dropPointer a b) = contains (pointer a b) (inUse p) ≡ true
 Allowed G p (setTime t) = p .info .time ≤ t
 
@@ -57,6 +59,8 @@ TakenBy (setKey mode b key) x = ⊥
 TakenBy (takeBlock b) x = x ≡ b
 TakenBy (freeBlock b) x = ⊥
 TakenBy (addPointer a b) x = ⊥
+TakenBy (raisePointer a b) x = ⊥
+TakenBy (lowerPointer a b) x = ⊥
 TakenBy (dropPointer a b) x = ⊥
 TakenBy (setTime t) x = ⊥
 
@@ -118,6 +122,8 @@ regular-change G c (addPointer a b) r h = record {
   contents = r .contents;
   usedHigh = used-added (c .public) a b (r .usedHigh);
 }
+regular-change G c (raisePointer a b) r h = record { blocksHigh = r .blocksHigh; flags = r .flags; contents = r .contents; usedHigh = r .usedHigh }
+regular-change G c (lowerPointer a b) r h = record { blocksHigh = r .blocksHigh; flags = r .flags; contents = r .contents; usedHigh = r .usedHigh }
 regular-change G c (dropPointer a b) r h = record {
   blocksHigh = r .blocksHigh;
   flags = r .flags;
@@ -335,6 +341,31 @@ module _ (K : ℕ → ℕ → Bool) (G : ℕ → Type 0) (c : Card) (r : Regular
         );
       }
 
+  -- Another multiplicity of a pointer that is there, and another count of its destination: the same blocks are pointed to.
+  unmoved : (step : Change) → ((x : ℕ) → Grown G step x → G x) → changePublic step (c .public) .info ≡ c .public .info → changePublic step (c .public) .flags ≡ c .public .flags
+      → changePublic step (c .public) .pointers ≡ c .public .pointers → changePublic step (c .public) .windows ≡ c .public .windows → changeKeys step (c .keys) ≡ c .keys
+      → Closed K (Grown G step) (change c step)
+  unfolding change allocated sealed keyPresented hasKey windowOpen pointsTo
+  unmoved step same i f p w k =
+      frame K G (Grown G step) c (change c step) closed (rw i) (λ x g. inl g)
+      (λ x al.
+      inr
+      (record {
+        wasAllocated = rw (i, f) at al;
+        wasUnsealed = λ s. rw (f, k) at s;
+        wasPresented = λ m h. rw (f, k) at h;
+        wasOpen = λ m o. rw (i, w) at o;
+        wasPointed = λ y g h. (same y g, rw (i, p) at h);
+      }))
+
+  closed-raisePointer : (a b : ℕ) → Closed K (Grown G (raisePointer a b)) (change c (raisePointer a b))
+  unfolding changePublic changeKeys
+  closed-raisePointer a b = unmoved (raisePointer a b) (same-set G) refl refl refl refl refl
+
+  closed-lowerPointer : (a b : ℕ) → Closed K (Grown G (lowerPointer a b)) (change c (lowerPointer a b))
+  unfolding changePublic changeKeys
+  closed-lowerPointer a b = unmoved (lowerPointer a b) (same-set G) refl refl refl refl refl
+
   closed-dropPointer : (a b : ℕ) → Allowed G (c .public) (dropPointer a b) → Closed K (Grown G (dropPointer a b)) (change c (dropPointer a b))
   unfolding change changePublic changeKeys changeContents allocated sealed keyPresented hasKey windowOpen pointsTo
   closed-dropPointer a b h =
@@ -375,5 +406,7 @@ module _ (K : ℕ → ℕ → Bool) (G : ℕ → Type 0) (c : Card) (r : Regular
   closed-change (takeBlock b) h = closed-takeBlock b h
   closed-change (freeBlock b) h = closed-freeBlock b h
   closed-change (addPointer a b) h = closed-addPointer a b h
+  closed-change (raisePointer a b) h = closed-raisePointer a b
+  closed-change (lowerPointer a b) h = closed-lowerPointer a b
   closed-change (dropPointer a b) h = closed-dropPointer a b h
   closed-change (setTime t) h = closed-setTime t h

@@ -6,20 +6,20 @@ use mathlib.Core.Bool.{Bool, true, false, not, cond}
 use mathlib.Core.List.{List, [], _∷_}
 use native.Mathlib.Omega.{arith}
 use lib.Dec.{eqb, ltb}
-use lib.ListN.{length, set}
+use lib.ListN.{length}
 use lib.Seq.{getD-set-other}
 use borrow.Author.Tests.{eqb-true, eqb-false, ltb-true, not-false, not-true, ne-eqb}
 use Rattle.card.specs.Lists.{all}
 use Rattle.card.specs.ListsLaws.{or-right, or-false-left, all-head, all-tail, all-map, absurd-test}
 use Rattle.card.specs.Pointers.{pointer, source}
 use Rattle.card.specs.PointersLaws.{all-insert, source-pointer}
-use Rattle.card.specs.Card.{Public, Card, allocated, inUse, pointsTo, hasKey, freeBlocks, count}
+use Rattle.card.specs.Card.{Public, Card, allocated, inUse, pointsTo, hasKey, count, multiplicity}
 use Rattle.card.specs.Soundness.{pointerRight}
 use Rattle.card.specs.SoundCard.{SoundCard}
 use Rattle.card.specs.SoundnessLaws.{pointerRight-true, allocated-below}
-use Rattle.card.specs.Access.{opens, admits}
-use Rattle.card.specs.Plan.{NoneHolds, setWindow, setBlock, setKey, takeBlock, freeBlock, addPointer, dropPointer, changePublic, change, Shown, nothing, blockPart, numbers, Plan, Buffers}
-use Rattle.card.specs.Calls.{windowAfter, opensWindow, closeWindows, modeOf, wanted, picks, takeAll, readPlan, writePlan, allocPlan, runStarts, nearestRun, allocContigPlan, createPlan, deletePlan, keyPlan, renewPlan, forcePlan, freePlan, tickPlan, auditPlan}
+use Rattle.card.specs.Access.{admits}
+use Rattle.card.specs.Plan.{NoneHolds, setWindow, setBlock, setKey, takeBlock, freeBlock, addPointer, raisePointer, lowerPointer, dropPointer, changePublic, Shown, nothing, blockPart, numbers, Plan, Buffers}
+use Rattle.card.specs.Calls.{windowAfter, opensWindow, closeWindows, modeOf, wanted, takeAll, readPlan, writePlan, allocPlan, allocContigPlan, createPlan, deletePlan, keyPlan, renewPlan, forcePlan, freePlan, tickPlan, auditPlan}
 use Rattle.card.specs.Session.{keyCall, plan, traits}
 use Rattle.card.specs.Reach.{shows, presents, someShows}
 use Rattle.card.specs.declared.Port.the-variants.{Host}
@@ -202,18 +202,27 @@ module _ (K : ℕ → ℕ → Bool) (G : ℕ → Type 0) (c : Card) (s : SoundCa
   unfolding plan createPlan presents someShows traits
   safe-create o lent k n = record {
     shownIn = tt;
-    allowed =
-        ((within Writing (o .destination) (o .second) (n .1 .0) (n .1 .1 .1 .1 .0) (λ high low h. k high low (or-right (shows (o .credential) high low) _ h)), below (o .destination) (n .1 .0)), tt);
+    allowed = go (pointsTo (c .public) (o .source) (o .destination));
   }
+    where
+      go : (t : Bool) → AllowedAll G (c .public) (cond t (raisePointer (o .source) (o .destination)) (addPointer (o .source) (o .destination)) ∷ [])
+      go true = (tt, tt)
+      go false =
+          ((within Writing (o .destination) (o .second) (n .1 .0) (n .1 .1 .1 .1 .0) (λ high low h. k high low (or-right (shows (o .credential) high low) _ h)), below (o .destination) (n .1 .0)), tt)
 
   safe-delete : (o : DeleteOperands) (lent : Buffers) → NoneHolds (plan Host c (Delete o) lent .checks) → Safe G c (plan Host c (Delete o) lent)
   unfolding plan deletePlan pointsTo changePublic
-  safe-delete o lent n = record { shownIn = tt; allowed = (not-false _ (n .1 .1 .1 .1 .0), go (eqb (count (c .public) (o .destination)) 1)) }
+  safe-delete o lent n = record { shownIn = tt; allowed = go (eqb (multiplicity (c .public) (o .source) (o .destination)) 1) (eqb (count (c .public) (o .destination)) 1) }
     where
-      go : (t : Bool)
-          → AllowedAll (Grown G (dropPointer (o .source) (o .destination))) (changePublic (dropPointer (o .source) (o .destination)) (c .public)) (cond t (freeBlock (o .destination) ∷ []) [])
-      go true = (below (o .destination) (n .1 .0), tt)
-      go false = tt
+      there : pointsTo (c .public) (o .source) (o .destination) ≡ true
+      there = not-false _ (n .1 .1 .1 .1 .0)
+
+      go : (once last : Bool)
+          → AllowedAll G (c .public) (cond once (dropPointer (o .source) (o .destination)) (lowerPointer (o .source) (o .destination)) ∷ cond last (freeBlock (o .destination) ∷ []) [])
+      go true true = (there, (below (o .destination) (n .1 .0), tt))
+      go true false = (there, tt)
+      go false true = (tt, (below (o .destination) (n .1 .0), tt))
+      go false false = (tt, tt)
 
   closing-allowed : (H : ℕ → Type 0) (p : Public) (b : ℕ) → AllowedAll H p (closeWindows b)
   closing-allowed H p b = (inr (omega arith), (inr (omega arith), tt))

@@ -2,21 +2,21 @@
 use Prim.Native.Nat.{ℕ}
 use mathlib.Core.Path.{_≡_, refl, sym, ap, ap₂, _∙_}
 use mathlib.Core.Logic.{_⊎_, inl, inr, ⊎-elim}
-use mathlib.Core.Bool.{Bool, true, false, _&&_, not, cond}
+use mathlib.Core.Bool.{Bool, true, false, _&&_, cond}
 use mathlib.Core.List.{List, [], _∷_}
 use mathlib.Core.Option.{Option, none, some}
 use lib.Dec.{eqb}
 use lib.ListN.{length}
 use borrow.Author.Tests.{eq-eqb}
 use Rattle.card.specs.ListsLaws.{and-true, or-left, or-right, or-false-left, or-false-right, absurd-test}
-use Rattle.card.specs.Card.{Public, Card, allocated, freeBlocks, block, count}
+use Rattle.card.specs.Card.{Public, Card, allocated, freeBlocks, block, count, multiplicity, pointsTo}
 use Rattle.card.specs.SoundCard.{SoundCard}
 use Rattle.card.specs.Access.{opens, admits}
-use Rattle.card.specs.Plan.{setWindow, freeBlock, first, Shown, nothing, blockPart, numbers, Plan, Buffers, Result, refused, done, outAfter, settle, judgeSound}
+use Rattle.card.specs.Plan.{setWindow, freeBlock, addPointer, raisePointer, lowerPointer, dropPointer, first, Shown, nothing, blockPart, numbers, Plan, Buffers, Result, refused, done, outAfter, settle, judgeSound}
 use Rattle.card.specs.PlanLaws.{first-none, judge-sound}
 use Rattle.card.specs.Calls.{opensWindow, windowAfter, modeOf, wanted, picks, takeAll, readPlan, writePlan, allocPlan, runStarts, nearestRun, allocContigPlan, createPlan, deletePlan, keyPlan, renewPlan, forcePlan, freePlan, tickPlan, auditPlan}
 use Rattle.card.specs.Session.{Request, plan, perform, reply, replies, afterAll, hostSession, traits}
-use Rattle.card.specs.Reach.{shows, presents, someShows, presented, takesLast, isOne, lastTaken}
+use Rattle.card.specs.Reach.{shows, presents, someShows, takesLast, isOne, lastTaken}
 use Rattle.card.specs.declared.Port.the-variants.{Host}
 use Rattle.card.specs.declared.Mode.{Mode}
 use Rattle.card.specs.declared.Mode.the-variants.{Reading, Writing}
@@ -26,7 +26,7 @@ use Rattle.card.specs.declared.Refusal.{Refusal}
 use Rattle.card.specs.declared.Call.{Call}
 use Rattle.card.specs.declared.Call.the-variants.{Read, Write, Alloc, AllocContig, Create, Delete, KeyRead, KeyWrite, Renew, Force, Free, Tick, Audit}
 use Rattle.card.proofs.Secrecy.Closed.{Closed}
-use Rattle.card.proofs.Secrecy.StepsAlike.{Alike, Kept, GrownAll, grows, closed-changes, alike-changes, covered, FreesNone, KeptApart, apart-changes}
+use Rattle.card.proofs.Secrecy.StepsAlike.{Alike, Kept, GrownAll, grows, closed-changes, alike-changes, covered, Frees, FreesNone, KeptApart, apart-changes}
 use Rattle.card.proofs.Secrecy.Opened.{AllPresented}
 use Rattle.card.proofs.Secrecy.Plans.{sound-regular, ShownIn, Safe, CallPresents, safe}
 
@@ -184,9 +184,18 @@ frees-none c (Write o) lent x e = (λ f. f, go (eqb (o .interval) 0))
     go false = (λ f. f, tt)
 frees-none c (Alloc o) lent x e = takes-free-none (o .reference) (picks (wanted (o .hint)) (o .count) (freeBlocks (c .public))) x
 frees-none c (AllocContig o) lent x e = takes-free-none (o .reference) (nearestRun (wanted (o .hint)) (o .count) (runStarts (c .public) (o .count))) x
-frees-none c (Create o) lent x e = (λ f. f, tt)
-frees-none c (Delete o) lent x e = (λ f. f, go (eqb (count (c .public) (o .destination)) 1) e)
+frees-none c (Create o) lent x e = (first (pointsTo (c .public) (o .source) (o .destination)), tt)
   where
+    first : (t : Bool) → Frees (cond t (raisePointer (o .source) (o .destination)) (addPointer (o .source) (o .destination))) x → ⊥
+    first true f = f
+    first false f = f
+frees-none c (Delete o) lent x e =
+    (first (eqb (multiplicity (c .public) (o .source) (o .destination)) 1), go (eqb (count (c .public) (o .destination)) 1) e)
+  where
+    first : (t : Bool) → Frees (cond t (dropPointer (o .source) (o .destination)) (lowerPointer (o .source) (o .destination))) x → ⊥
+    first true f = f
+    first false f = f
+
     go : (t : Bool) → eqb (o .destination) x && eqb (cond t 1 0) 1 ≡ false → FreesNone (cond t (freeBlock (o .destination) ∷ []) []) x
     go true h = (λ f. absurd-test (and-true _ _ (eq-eqb (o .destination) x (sym f)) refl) h, tt)
     go false h = tt

@@ -12,7 +12,7 @@ use Rattle.card.specs.ListsLaws.{and-right, absurd-test, same-or-other}
 use Rattle.card.specs.Contents.{zeros}
 use Rattle.card.specs.ContentsLaws.{part-fill-same, part-fill-other, block-fits}
 use Rattle.card.specs.Card.{Public, Card, allocated, block}
-use Rattle.card.specs.Plan.{Change, setWindow, setBlock, setKey, takeBlock, freeBlock, addPointer, dropPointer, setTime, changePublic, changeKeys, changeContents, change, changes}
+use Rattle.card.specs.Plan.{Change, setWindow, setBlock, setKey, takeBlock, freeBlock, addPointer, raisePointer, lowerPointer, dropPointer, setTime, changePublic, changeKeys, changeContents, change, changes}
 use Rattle.card.proofs.Secrecy.Closed.{Closed, Regular, Allowed, Grown, regular-change, closed-change}
 
 -- ---- the contents of a block after one change
@@ -25,6 +25,8 @@ WrittenBy (setKey mode b key) x = ⊥
 WrittenBy (takeBlock b) x = x ≡ b
 WrittenBy (freeBlock b) x = ⊥
 WrittenBy (addPointer a b) x = ⊥
+WrittenBy (raisePointer a b) x = ⊥
+WrittenBy (lowerPointer a b) x = ⊥
 WrittenBy (dropPointer a b) x = ⊥
 WrittenBy (setTime t) x = ⊥
 
@@ -42,6 +44,8 @@ block-kept G c (takeBlock b) r h x n =
     part-fill-other (c .public .info .bytes) (c .contents) b (zeros (c .public .info .bytes)) (fits c b r (h .0)) (length-replicate _ 0) x n
 block-kept G c (freeBlock b) r h x n = refl
 block-kept G c (addPointer a b) r h x n = refl
+block-kept G c (raisePointer a b) r h x n = refl
+block-kept G c (lowerPointer a b) r h x n = refl
 block-kept G c (dropPointer a b) r h x n = refl
 block-kept G c (setTime t) r h x n = refl
 
@@ -76,6 +80,8 @@ module _ (L : Public → List ℕ → List ℕ → Type 0) (kept : Kept L) (G : 
       ∙ sym (part-fill-same (d .public .info .bytes) (d .contents) b (zeros (d .public .info .bytes)) (fits d b rd (h′ .0)) (length-replicate _ 0)))
   same-written (freeBlock b) h x w = absurd w
   same-written (addPointer a b) h x w = absurd w
+  same-written (raisePointer a b) h x w = absurd w
+  same-written (lowerPointer a b) h x w = absurd w
   same-written (dropPointer a b) h x w = absurd w
   same-written (setTime t) h x w = absurd w
 
@@ -87,6 +93,8 @@ module _ (L : Public → List ℕ → List ℕ → Type 0) (kept : Kept L) (G : 
   joins (takeBlock b) x g = g
   joins (freeBlock b) x g = g
   joins (addPointer a b) x g = g
+  joins (raisePointer a b) x g = g
+  joins (lowerPointer a b) x g = g
   joins (dropPointer a b) x g = g
   joins (setTime t) x g = g
 
@@ -97,6 +105,8 @@ module _ (L : Public → List ℕ → List ℕ → Type 0) (kept : Kept L) (G : 
   written-or-not (takeBlock b) x = same-or-other x b
   written-or-not (freeBlock b) x = inr (λ w. w)
   written-or-not (addPointer a b) x = inr (λ w. w)
+  written-or-not (raisePointer a b) x = inr (λ w. w)
+  written-or-not (lowerPointer a b) x = inr (λ w. w)
   written-or-not (dropPointer a b) x = inr (λ w. w)
   written-or-not (setTime t) x = inr (λ w. w)
 
@@ -170,6 +180,8 @@ allocated-before c (freeBlock b) G r h x a =
     (λ (n : x ≡ b → ⊥). inr (rw (getD-set-other (c .public .flags) b x 0 0 n) at a))
     (same-or-other x b)
 allocated-before c (addPointer y b) G r h x a = inr a
+allocated-before c (raisePointer y b) G r h x a = inr a
+allocated-before c (lowerPointer y b) G r h x a = inr a
 allocated-before c (dropPointer y b) G r h x a = inr a
 allocated-before c (setTime t) G r h x a = inr a
 
@@ -191,6 +203,8 @@ Frees (setKey mode b key) x = ⊥
 Frees (takeBlock b) x = ⊥
 Frees (freeBlock b) x = x ≡ b
 Frees (addPointer a b) x = ⊥
+Frees (raisePointer a b) x = ⊥
+Frees (lowerPointer a b) x = ⊥
 Frees (dropPointer a b) x = ⊥
 Frees (setTime t) x = ⊥
 
@@ -213,6 +227,8 @@ module _ (G : ℕ → Type 0) (c : Card) (r : Regular c) (x : ℕ) (a : allocate
   unwritten (takeBlock b) h w = absurd-test a (subst (λ (k : ℕ). allocated (c .public) k ≡ false) (sym w) (h .1))
   unwritten (freeBlock b) h w = w
   unwritten (addPointer y b) h w = w
+  unwritten (raisePointer y b) h w = w
+  unwritten (lowerPointer y b) h w = w
   unwritten (dropPointer y b) h w = w
   unwritten (setTime t) h w = w
 
@@ -223,6 +239,8 @@ module _ (G : ℕ → Type 0) (c : Card) (r : Regular c) (x : ℕ) (a : allocate
   still-outside (takeBlock b) h g = ⊎-elim out (λ k. unwritten (takeBlock b) h k) g
   still-outside (freeBlock b) h g = ⊎-elim out (λ k. k) g
   still-outside (addPointer y b) h g = ⊎-elim out (λ k. k) g
+  still-outside (raisePointer y b) h g = ⊎-elim out (λ k. k) g
+  still-outside (lowerPointer y b) h g = ⊎-elim out (λ k. k) g
   still-outside (dropPointer y b) h g = ⊎-elim out (λ k. k) g
   still-outside (setTime t) h g = ⊎-elim out (λ k. k) g
 
@@ -234,6 +252,8 @@ module _ (G : ℕ → Type 0) (c : Card) (r : Regular c) (x : ℕ) (a : allocate
   still-allocated (takeBlock b) h n = rw (getD-set-other (c .public .flags) b x 1 0 (λ e. unwritten (takeBlock b) h e)) a
   still-allocated (freeBlock b) h n = rw (getD-set-other (c .public .flags) b x 0 0 n) a
   still-allocated (addPointer y b) h n = a
+  still-allocated (raisePointer y b) h n = a
+  still-allocated (lowerPointer y b) h n = a
   still-allocated (dropPointer y b) h n = a
   still-allocated (setTime t) h n = a
 

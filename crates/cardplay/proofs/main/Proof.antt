@@ -22,6 +22,9 @@ slice-aggregate-play-fresh-5 c = search needs
 slice-aggregate-play-fresh-6 : tie.Need-slice-aggregate-play-fresh-6
 slice-aggregate-play-fresh-6 c = search needs
 
+slice-aggregate-play-fresh-7 : tie.Need-slice-aggregate-play-fresh-7
+slice-aggregate-play-fresh-7 c = search needs
+
 -- The tables, as they are made, compute to those of `blankCard`.
 play-fresh-requires : tie.Need-play-fresh-requires
 play-fresh-requires c κs = refl
@@ -42,6 +45,7 @@ main-spec =
     slice-aggregate-play-fresh-4
     slice-aggregate-play-fresh-5
     slice-aggregate-play-fresh-6
+    slice-aggregate-play-fresh-7
     play-fresh-requires
     write-end-requires
     returns)

@@ -12,16 +12,16 @@ use Rattle.cardplay.proofs.play_all.Statement.{statement}
 use Rattle.cardplay.proofs.play_all.Tie as tie
 
 abbrev Inv-loop : tie.InvT-loop
-Inv-loop flags₀ keys₀ counts₀ pointers₀ windows₀ contents₀ buffer₀ output₀ progress₀ turns₀ flags keys counts pointers windows contents buffer output progress turns =
-    PiecesLoop (card (progress₀ .info) flags₀ keys₀ counts₀ pointers₀ windows₀ contents₀) flags₀ keys₀ counts₀ pointers₀ windows₀ contents₀ flags keys counts pointers windows contents buffer output (progress .stop) (progress .info) (progress .records) (progress .filled) (progress .wrote) (progress .on)
+Inv-loop flags₀ keys₀ counts₀ pointers₀ multiplicities₀ windows₀ contents₀ buffer₀ output₀ progress₀ turns₀ flags keys counts pointers multiplicities windows contents buffer output progress turns =
+    PiecesLoop (card (progress₀ .info) flags₀ keys₀ counts₀ pointers₀ multiplicities₀ windows₀ contents₀) flags₀ keys₀ counts₀ pointers₀ multiplicities₀ windows₀ contents₀ flags keys counts pointers multiplicities windows contents buffer output (progress .stop) (progress .info) (progress .records) (progress .filled) (progress .wrote) (progress .on)
 
 abbrev μ-loop : tie.MeasureT-loop
-μ-loop flags₀ keys₀ counts₀ pointers₀ windows₀ contents₀ buffer₀ output₀ progress₀ turns₀ flags keys counts pointers windows contents buffer output progress turns =
+μ-loop flags₀ keys₀ counts₀ pointers₀ multiplicities₀ windows₀ contents₀ buffer₀ output₀ progress₀ turns₀ flags keys counts pointers multiplicities windows contents buffer output progress turns =
     turns
 
 loop-holds : tie.Need-loop-holds Inv-loop μ-loop
 loop-holds c =
-    record { tables = same-tables _ _ _ _ _ _; sizeBuffer = length-replicate {A = ℕ} 65536 0; sizeOutput = length-replicate {A = ℕ} 65536 0; within = omega arith; pieces = pieces-none _; halts = λ on wrote. absurd (true≢false on) }
+    record { tables = same-tables _ _ _ _ _ _ _; sizeBuffer = length-replicate {A = ℕ} 65536 0; sizeOutput = length-replicate {A = ℕ} 65536 0; within = omega arith; pieces = pieces-none _; halts = λ on wrote. absurd (true≢false on) }
 
 slice-aggregate-play-on : tie.Need-slice-aggregate-play-on Inv-loop μ-loop
 slice-aggregate-play-on c = search sym
@@ -57,11 +57,12 @@ loop-again c =
         sameKeys = at-play-on .play-on .kept .1 .1 .0 ∙ at-loop .loop .inv .tables .sameKeys;
         sameCounts = at-play-on .play-on .kept .1 .1 .1 .0 ∙ at-loop .loop .inv .tables .sameCounts;
         samePointers = at-play-on .play-on .kept .1 .1 .1 .1 .0 ∙ at-loop .loop .inv .tables .samePointers;
-        sameWindows = at-play-on .play-on .kept .1 .1 .1 .1 .1 .0 ∙ at-loop .loop .inv .tables .sameWindows;
-        sameContents = at-play-on .play-on .kept .1 .1 .1 .1 .1 .1 .0 ∙ at-loop .loop .inv .tables .sameContents;
+        sameMultiplicities = at-play-on .play-on .kept .1 .1 .1 .1 .1 .0 ∙ at-loop .loop .inv .tables .sameMultiplicities;
+        sameWindows = at-play-on .play-on .kept .1 .1 .1 .1 .1 .1 .0 ∙ at-loop .loop .inv .tables .sameWindows;
+        sameContents = at-play-on .play-on .kept .1 .1 .1 .1 .1 .1 .1 .0 ∙ at-loop .loop .inv .tables .sameContents;
       };
-      sizeBuffer = at-play-on .play-on .kept .1 .1 .1 .1 .1 .1 .1 .1 .0 ∙ at-loop .loop .inv .sizeBuffer;
-      sizeOutput = at-play-on .play-on .kept .1 .1 .1 .1 .1 .1 .1 .1 .1 .1 .0 ∙ at-loop .loop .inv .sizeOutput;
+      sizeBuffer = at-play-on .play-on .kept .1 .1 .1 .1 .1 .1 .1 .1 .1 .0 ∙ at-loop .loop .inv .sizeBuffer;
+      sizeOutput = at-play-on .play-on .kept .1 .1 .1 .1 .1 .1 .1 .1 .1 .1 .1 .0 ∙ at-loop .loop .inv .sizeOutput;
       within = at-play-on .play-on .ensures .within;
       pieces = pieces-more _ _ _ _ (at-play-on .play-on .ensures) (at-loop .loop .inv .pieces);
       halts = pieces-halt _ _ _ _ (at-play-on .play-on .ensures);
@@ -85,6 +86,9 @@ same-length-5 c = search
 same-length-6 : tie.Need-same-length-6 Inv-loop μ-loop
 same-length-6 c = search
 
+same-length-7 : tie.Need-same-length-7 Inv-loop μ-loop
+same-length-7 c = search
+
 returns : tie.Need-returns Inv-loop μ-loop
 returns c = search played-in-pieces
 
@@ -107,4 +111,5 @@ play-all-spec =
     same-length-4
     same-length-5
     same-length-6
+    same-length-7
     returns)

@@ -1,4 +1,5 @@
 -- `cardplay::play_fresh` meets its contract.
+use mathlib.Core.Path.{_∙_}
 use borrow.Author.Needs.{needs}
 use Rattle.cardplay.proofs.FreshLaws.{fresh-left}
 use Rattle.cardplay.proofs.PiecesLaws.{pieces-from}
@@ -7,8 +8,8 @@ use Rattle.cardplay.proofs.play_fresh.Tie as tie
 
 -- ---- places of the code
 
-abbrev format-from-slice-known10 : tie.After-slice-known10 → tie.After-format
-format-from-slice-known10 c = search
+abbrev format-from-play-all : tie.After-play-all → tie.After-format
+format-from-play-all c = search
 
 abbrev start-from-format : tie.After-format → tie.Start
 start-from-format c = search
@@ -23,28 +24,51 @@ play-all-requires : tie.Need-play-all-requires
 play-all-requires c κs = search needs
 
 same-length : tie.Need-same-length
-same-length c = search needs
+same-length c =
+    let at-play-all : tie.After-play-all = search in
+    let at-format = format-from-play-all at-play-all in
+    at-play-all .play-all .kept .1 .0 ∙ at-format .format .kept .1 .1 .1 .1 .0
 
 same-length-2 : tie.Need-same-length-2
-same-length-2 c = search needs
+same-length-2 c =
+    let at-play-all : tie.After-play-all = search in
+    let at-format = format-from-play-all at-play-all in
+    at-play-all .play-all .kept .1 .1 .0 ∙ at-format .format .kept .1 .1 .1 .1 .1 .0
 
 same-length-3 : tie.Need-same-length-3
-same-length-3 c = search needs
+same-length-3 c =
+    let at-play-all : tie.After-play-all = search in
+    let at-format = format-from-play-all at-play-all in
+    at-play-all .play-all .kept .1 .1 .1 .0 ∙ at-format .format .kept .1 .1 .1 .1 .1 .1 .0
 
 same-length-4 : tie.Need-same-length-4
-same-length-4 c = search needs
+same-length-4 c =
+    let at-play-all : tie.After-play-all = search in
+    let at-format = format-from-play-all at-play-all in
+    at-play-all .play-all .kept .1 .1 .1 .1 .0 ∙ at-format .format .kept .1 .1 .1 .1 .1 .1 .1 .0
 
 same-length-5 : tie.Need-same-length-5
-same-length-5 c = search needs
+same-length-5 c =
+    let at-play-all : tie.After-play-all = search in
+    let at-format = format-from-play-all at-play-all in
+    at-play-all .play-all .kept .1 .1 .1 .1 .1 .0 ∙ at-format .format .kept .1 .1 .1 .1 .1 .1 .1 .1 .0
 
 same-length-6 : tie.Need-same-length-6
-same-length-6 c = search needs
+same-length-6 c =
+    let at-play-all : tie.After-play-all = search in
+    let at-format = format-from-play-all at-play-all in
+    at-play-all .play-all .kept .1 .1 .1 .1 .1 .1 .0 ∙ at-format .format .kept .1 .1 .1 .1 .1 .1 .1 .1 .1 .0
+
+same-length-7 : tie.Need-same-length-7
+same-length-7 c =
+    let at-play-all : tie.After-play-all = search in
+    let at-format = format-from-play-all at-play-all in
+    at-play-all .play-all .kept .1 .1 .1 .1 .1 .1 .1 .0 ∙ at-format .format .kept .1 .1 .1 .1 .1 .1 .1 .1 .1 .1 .0
 
 returns : tie.Need-returns
 returns c =
     let at-play-all : tie.After-play-all = search in
-    let at-slice-known10 : tie.After-slice-known10 = search in
-    let at-format = format-from-slice-known10 at-slice-known10 in
+    let at-format = format-from-play-all at-play-all in
     let start = start-from-format at-format in
     pieces-from (fresh-left _ (start .pre) (at-format .format .ensures .leaves)) (at-play-all .play-all .ensures)
 
@@ -61,4 +85,5 @@ play-fresh-spec =
     same-length-4
     same-length-5
     same-length-6
+    same-length-7
     returns)

@@ -37,7 +37,7 @@ read-on-requires c κs =
     let at-play-some : tie.After-play-some = search in
     let at-slice-known8 : tie.After-slice-known8 = search in
     let start = start-from-slice-known8 at-slice-known8 in
-    (at-play-some .play-some .ensures .within, room-left (at-play-some .play-some .ensures) (play-awaits _ _ _ _) (c .before .before .write-all .result) (c .before .needs-input .ensures) (start .pre .1 .1) (at-play-some .play-some .kept .1 .1 .1 .1 .1 .1 .1 .1 .0))
+    (at-play-some .play-some .ensures .within, room-left (at-play-some .play-some .ensures) (play-awaits _ _ _ _) (c .before .before .write-all .result) (c .before .needs-input .ensures) (start .pre .1 .1) (at-play-some .play-some .kept .1 .1 .1 .1 .1 .1 .1 .1 .1 .0))
 
 is-full-requires : tie.Need-is-full-requires
 is-full-requires c κs = search needs
@@ -66,11 +66,17 @@ same-length-7 c = search needs
 same-length-8 : tie.Need-same-length-8
 same-length-8 c = search needs
 
+same-length-9 : tie.Need-same-length-9
+same-length-9 c = search needs
+
 returns : tie.Need-returns
 returns c =
     let at-write-all : tie.After-write-all = search in
     let at-play-some : tie.After-play-some = search in
-    search (progress-is (at-play-some .play-some .ensures) (at-write-all .write-all .result))
+    let at-needs-input : tie.After-needs-input = search in
+    let at-read-on : tie.After-read-on = search in
+    let at-is-full : tie.After-is-full = search in
+    progress-is (at-play-some .play-some .ensures) (at-write-all .write-all .result) (at-needs-input .needs-input .ensures) (at-is-full .is-full .ensures) (at-read-on .read-on .ensures)
 
 pub play-on-spec : {M : Type 1} → statement M
 play-on-spec =
@@ -91,4 +97,5 @@ play-on-spec =
     same-length-6
     same-length-7
     same-length-8
+    same-length-9
     returns)

@@ -51,6 +51,9 @@ same-length-7 c = search needs
 same-length-8 : tie.Need-same-length-8
 same-length-8 c = search needs
 
+same-length-9 : tie.Need-same-length-9
+same-length-9 c = search needs
+
 returns : tie.Need-returns
 returns c =
     let at-play : tie.After-play = search in
@@ -74,4 +77,5 @@ play-some-spec =
     same-length-6
     same-length-7
     same-length-8
+    same-length-9
     returns)

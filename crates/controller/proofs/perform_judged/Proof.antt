@@ -56,6 +56,9 @@ same-length-7 c = search needs
 same-length-8 : tie.Need-same-length-8
 same-length-8 c = search needs
 
+same-length-9 : tie.Need-same-length-9
+same-length-9 c = search needs
+
 returns-3 : tie.Need-returns-3
 returns-3 c =
     let at-perform-sound : tie.After-perform-sound = search in
@@ -81,4 +84,5 @@ perform-judged-spec =
     same-length-6
     same-length-7
     same-length-8
+    same-length-9
     returns-3)

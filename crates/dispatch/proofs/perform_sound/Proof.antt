@@ -5,6 +5,14 @@ use borrow.Author.Needs.{needs}
 use Rattle.dispatch.proofs.perform_sound.Statement.{statement}
 use Rattle.dispatch.proofs.perform_sound.Tie as tie
 
+-- ---- places of the code
+
+abbrev start-from-call7 : tie.After-call7 → tie.Start
+start-from-call7 c = search
+
+abbrev start-from-call8 : tie.After-call8 → tie.Start
+start-from-call8 c = search
+
 enum-known-call : tie.Need-enum-known-call
 enum-known-call c = search needs
 
@@ -101,11 +109,11 @@ same-length-6 c = search needs
 same-length-7 : tie.Need-same-length-7
 same-length-7 c = search needs
 
-returns : tie.Need-returns
-returns c = search with-read
-
 same-length-8 : tie.Need-same-length-8
 same-length-8 c = search needs
+
+returns : tie.Need-returns
+returns c = search with-read
 
 same-length-9 : tie.Need-same-length-9
 same-length-9 c = search needs
@@ -122,14 +130,14 @@ same-length-12 c = search needs
 same-length-13 : tie.Need-same-length-13
 same-length-13 c = search needs
 
-returns-2 : tie.Need-returns-2
-returns-2 c = search with-write
-
 same-length-14 : tie.Need-same-length-14
 same-length-14 c = search needs
 
 same-length-15 : tie.Need-same-length-15
 same-length-15 c = search needs
+
+returns-2 : tie.Need-returns-2
+returns-2 c = search with-write
 
 same-length-16 : tie.Need-same-length-16
 same-length-16 c = search needs
@@ -146,9 +154,6 @@ same-length-19 c = search needs
 same-length-20 : tie.Need-same-length-20
 same-length-20 c = search needs
 
-returns-3 : tie.Need-returns-3
-returns-3 c = search with-alloc
-
 same-length-21 : tie.Need-same-length-21
 same-length-21 c = search needs
 
@@ -157,6 +162,9 @@ same-length-22 c = search needs
 
 same-length-23 : tie.Need-same-length-23
 same-length-23 c = search needs
+
+returns-3 : tie.Need-returns-3
+returns-3 c = search with-alloc
 
 same-length-24 : tie.Need-same-length-24
 same-length-24 c = search needs
@@ -170,9 +178,6 @@ same-length-26 c = search needs
 same-length-27 : tie.Need-same-length-27
 same-length-27 c = search needs
 
-returns-4 : tie.Need-returns-4
-returns-4 c = search with-alloc-contig
-
 same-length-28 : tie.Need-same-length-28
 same-length-28 c = search needs
 
@@ -185,14 +190,14 @@ same-length-30 c = search needs
 same-length-31 : tie.Need-same-length-31
 same-length-31 c = search needs
 
+returns-4 : tie.Need-returns-4
+returns-4 c = search with-alloc-contig
+
 same-length-32 : tie.Need-same-length-32
 same-length-32 c = search needs
 
 same-length-33 : tie.Need-same-length-33
 same-length-33 c = search needs
-
-returns-5 : tie.Need-returns-5
-returns-5 c = search with-create
 
 same-length-34 : tie.Need-same-length-34
 same-length-34 c = search needs
@@ -209,11 +214,11 @@ same-length-37 c = search needs
 same-length-38 : tie.Need-same-length-38
 same-length-38 c = search needs
 
+returns-5 : tie.Need-returns-5
+returns-5 c = search with-create
+
 same-length-39 : tie.Need-same-length-39
 same-length-39 c = search needs
-
-returns-6 : tie.Need-returns-6
-returns-6 c = search with-delete
 
 same-length-40 : tie.Need-same-length-40
 same-length-40 c = search needs
@@ -233,13 +238,8 @@ same-length-44 c = search needs
 same-length-45 : tie.Need-same-length-45
 same-length-45 c = search needs
 
-returns-7 : tie.Need-returns-7
-returns-7 c =
-    let at-key-sound : tie.After-key-sound = search in
-    let at-call7 : tie.After-call7 = search in
-    let start : tie.Start = search in
-    with-key (start .args .port) _ (start .args .input .now) (start .args .out .now) (start .args .places .now) (start .args .call) Reading _ (at-call7 .call7 .given .1)
-    (at-key-sound .key-sound .ensures)
+returns-6 : tie.Need-returns-6
+returns-6 c = search with-delete
 
 same-length-46 : tie.Need-same-length-46
 same-length-46 c = search needs
@@ -259,16 +259,16 @@ same-length-50 c = search needs
 same-length-51 : tie.Need-same-length-51
 same-length-51 c = search needs
 
-returns-8 : tie.Need-returns-8
-returns-8 c =
-    let at-key-sound2 : tie.After-key-sound2 = search in
-    let at-call8 : tie.After-call8 = search in
-    let start : tie.Start = search in
-    with-key (start .args .port) _ (start .args .input .now) (start .args .out .now) (start .args .places .now) (start .args .call) Writing _ (at-call8 .call8 .given .1)
-    (at-key-sound2 .key-sound2 .ensures)
-
 same-length-52 : tie.Need-same-length-52
 same-length-52 c = search needs
+
+returns-7 : tie.Need-returns-7
+returns-7 c =
+    let at-key-sound : tie.After-key-sound = search in
+    let at-call7 : tie.After-call7 = search in
+    let start = start-from-call7 at-call7 in
+    with-key (start .args .port) _ (start .args .input .now) (start .args .out .now) (start .args .places .now) (start .args .call) Reading _ (at-call7 .call7 .given .1)
+    (at-key-sound .key-sound .ensures)
 
 same-length-53 : tie.Need-same-length-53
 same-length-53 c = search needs
@@ -285,18 +285,19 @@ same-length-56 c = search needs
 same-length-57 : tie.Need-same-length-57
 same-length-57 c = search needs
 
-returns-9 : tie.Need-returns-9
-returns-9 c =
-    let at-call9 : tie.After-call9 = search in
-    let start : tie.Start = search in
-    with-renew (start .args .port) _ (start .args .input .now) (start .args .out .now) (start .args .places .now) (start .args .call) (at-call9 .call9 .given .1)
-    (c .before .before .renew-sound .ensures (start .args .port))
-
 same-length-58 : tie.Need-same-length-58
 same-length-58 c = search needs
 
 same-length-59 : tie.Need-same-length-59
 same-length-59 c = search needs
+
+returns-8 : tie.Need-returns-8
+returns-8 c =
+    let at-key-sound2 : tie.After-key-sound2 = search in
+    let at-call8 : tie.After-call8 = search in
+    let start = start-from-call8 at-call8 in
+    with-key (start .args .port) _ (start .args .input .now) (start .args .out .now) (start .args .places .now) (start .args .call) Writing _ (at-call8 .call8 .given .1)
+    (at-key-sound2 .key-sound2 .ensures)
 
 same-length-60 : tie.Need-same-length-60
 same-length-60 c = search needs
@@ -310,13 +311,6 @@ same-length-62 c = search needs
 same-length-63 : tie.Need-same-length-63
 same-length-63 c = search needs
 
-returns-10 : tie.Need-returns-10
-returns-10 c =
-    let at-call10 : tie.After-call10 = search in
-    let start : tie.Start = search in
-    with-force (start .args .port) _ (start .args .input .now) (start .args .out .now) (start .args .places .now) (start .args .call) (at-call10 .call10 .given .1)
-    (c .before .before .force-sound .ensures (start .args .port))
-
 same-length-64 : tie.Need-same-length-64
 same-length-64 c = search needs
 
@@ -326,6 +320,13 @@ same-length-65 c = search needs
 same-length-66 : tie.Need-same-length-66
 same-length-66 c = search needs
 
+returns-9 : tie.Need-returns-9
+returns-9 c =
+    let at-call9 : tie.After-call9 = search in
+    let start : tie.Start = search in
+    with-renew (start .args .port) _ (start .args .input .now) (start .args .out .now) (start .args .places .now) (start .args .call) (at-call9 .call9 .given .1)
+    (c .before .before .renew-sound .ensures (start .args .port))
+
 same-length-67 : tie.Need-same-length-67
 same-length-67 c = search needs
 
@@ -334,13 +335,6 @@ same-length-68 c = search needs
 
 same-length-69 : tie.Need-same-length-69
 same-length-69 c = search needs
-
-returns-11 : tie.Need-returns-11
-returns-11 c =
-    let at-enum-told : tie.After-enum-told = search in
-    let start : tie.Start = search in
-    with-free (start .args .port) _ (start .args .input .now) (start .args .out .now) (start .args .places .now) (start .args .call) (at-enum-told .enum-told .given .1)
-    (c .free-sound .ensures (start .args .port))
 
 same-length-70 : tie.Need-same-length-70
 same-length-70 c = search needs
@@ -354,11 +348,61 @@ same-length-72 c = search needs
 same-length-73 : tie.Need-same-length-73
 same-length-73 c = search needs
 
+returns-10 : tie.Need-returns-10
+returns-10 c =
+    let at-call10 : tie.After-call10 = search in
+    let start : tie.Start = search in
+    with-force (start .args .port) _ (start .args .input .now) (start .args .out .now) (start .args .places .now) (start .args .call) (at-call10 .call10 .given .1)
+    (c .before .before .force-sound .ensures (start .args .port))
+
 same-length-74 : tie.Need-same-length-74
 same-length-74 c = search needs
 
 same-length-75 : tie.Need-same-length-75
 same-length-75 c = search needs
+
+same-length-76 : tie.Need-same-length-76
+same-length-76 c = search needs
+
+same-length-77 : tie.Need-same-length-77
+same-length-77 c = search needs
+
+same-length-78 : tie.Need-same-length-78
+same-length-78 c = search needs
+
+same-length-79 : tie.Need-same-length-79
+same-length-79 c = search needs
+
+same-length-80 : tie.Need-same-length-80
+same-length-80 c = search needs
+
+returns-11 : tie.Need-returns-11
+returns-11 c =
+    let at-enum-told : tie.After-enum-told = search in
+    let start : tie.Start = search in
+    with-free (start .args .port) _ (start .args .input .now) (start .args .out .now) (start .args .places .now) (start .args .call) (at-enum-told .enum-told .given .1)
+    (c .free-sound .ensures (start .args .port))
+
+same-length-81 : tie.Need-same-length-81
+same-length-81 c = search needs
+
+same-length-82 : tie.Need-same-length-82
+same-length-82 c = search needs
+
+same-length-83 : tie.Need-same-length-83
+same-length-83 c = search needs
+
+same-length-84 : tie.Need-same-length-84
+same-length-84 c = search needs
+
+same-length-85 : tie.Need-same-length-85
+same-length-85 c = search needs
+
+same-length-86 : tie.Need-same-length-86
+same-length-86 c = search needs
+
+same-length-87 : tie.Need-same-length-87
+same-length-87 c = search needs
 
 returns-12 : tie.Need-returns-12
 returns-12 c =
@@ -406,84 +450,96 @@ perform-sound-spec =
     same-length-5
     same-length-6
     same-length-7
-    returns
     same-length-8
+    returns
     same-length-9
     same-length-10
     same-length-11
     same-length-12
     same-length-13
-    returns-2
     same-length-14
     same-length-15
+    returns-2
     same-length-16
     same-length-17
     same-length-18
     same-length-19
     same-length-20
-    returns-3
     same-length-21
     same-length-22
     same-length-23
+    returns-3
     same-length-24
     same-length-25
     same-length-26
     same-length-27
-    returns-4
     same-length-28
     same-length-29
     same-length-30
     same-length-31
+    returns-4
     same-length-32
     same-length-33
-    returns-5
     same-length-34
     same-length-35
     same-length-36
     same-length-37
     same-length-38
+    returns-5
     same-length-39
-    returns-6
     same-length-40
     same-length-41
     same-length-42
     same-length-43
     same-length-44
     same-length-45
-    returns-7
+    returns-6
     same-length-46
     same-length-47
     same-length-48
     same-length-49
     same-length-50
     same-length-51
-    returns-8
     same-length-52
+    returns-7
     same-length-53
     same-length-54
     same-length-55
     same-length-56
     same-length-57
-    returns-9
     same-length-58
     same-length-59
+    returns-8
     same-length-60
     same-length-61
     same-length-62
     same-length-63
-    returns-10
     same-length-64
     same-length-65
     same-length-66
+    returns-9
     same-length-67
     same-length-68
     same-length-69
-    returns-11
     same-length-70
     same-length-71
     same-length-72
     same-length-73
+    returns-10
     same-length-74
     same-length-75
+    same-length-76
+    same-length-77
+    same-length-78
+    same-length-79
+    same-length-80
+    returns-11
+    same-length-81
+    same-length-82
+    same-length-83
+    same-length-84
+    same-length-85
+    same-length-86
+    same-length-87
     returns-12
     returns-13)

@@ -30,11 +30,14 @@ mark-roots-requires c κs =
 clear-words-requires : tie.Need-clear-words-requires
 clear-words-requires c κs = search needs
 
-clear-counts-requires : tie.Need-clear-counts-requires
-clear-counts-requires c κs = search needs
+clear-numbers-requires : tie.Need-clear-numbers-requires
+clear-numbers-requires c κs = search needs
 
-clear-places-requires : tie.Need-clear-places-requires
-clear-places-requires c κs = search needs
+clear-numbers-requires-2 : tie.Need-clear-numbers-requires-2
+clear-numbers-requires-2 c κs = search needs
+
+clear-multiplicities-requires : tie.Need-clear-multiplicities-requires
+clear-multiplicities-requires c κs = search needs
 
 clear-words-requires-2 : tie.Need-clear-words-requires-2
 clear-words-requires-2 c κs = search needs
@@ -84,24 +87,25 @@ same-length-5 c = search needs
 same-length-6 : tie.Need-same-length-6
 same-length-6 c = search needs
 
+same-length-7 : tie.Need-same-length-7
+same-length-7 c = search needs
+
 returns : tie.Need-returns
 returns c =
     let at-clear-words2 : tie.After-clear-words2 = search in
-    let at-clear-places : tie.After-clear-places = search in
-    let at-clear-counts : tie.After-clear-counts = search in
+    let at-clear-multiplicities : tie.After-clear-multiplicities = search in
+    let at-clear-numbers2 : tie.After-clear-numbers2 = search in
+    let at-clear-numbers : tie.After-clear-numbers = search in
     let at-clear-words : tie.After-clear-words = search in
     let at-mark-roots : tie.After-mark-roots = search in
     let at-if1 : tie.Then1 = search in
     let at-shaped : tie.After-shaped = search in
     let at-fresh = fresh-from-shaped at-shaped in
     let start = start-from-fresh at-fresh in
-    let a = start .args in format-done _ _ _ _ (at-fresh .fresh .ensures) (at-shaped .shaped .ensures) (at-if1 .if1 .taken) (c .done .ensures) (at-mark-roots .mark-roots .ensures) (at-clear-words .clear-words .ensures) (at-clear-counts .clear-counts .ensures) (at-clear-places .clear-places .ensures) (at-clear-words2 .clear-words2 .ensures) (front-cleared (a .contents .now) (a .roots * a .bytes) (c .before .before .before .clear .ensures) (size-within _ (at-fresh .fresh .ensures) (at-shaped .shaped .ensures) (at-if1 .if1 .taken)))
+    let a = start .args in format-done _ _ _ _ (at-fresh .fresh .ensures) (at-shaped .shaped .ensures) (at-if1 .if1 .taken) (c .done .ensures) (at-mark-roots .mark-roots .ensures) (at-clear-words .clear-words .ensures) (at-clear-numbers .clear-numbers .ensures) (at-clear-numbers2 .clear-numbers2 .ensures) (at-clear-multiplicities .clear-multiplicities .ensures) (at-clear-words2 .clear-words2 .ensures) (front-cleared (a .contents .now) (a .roots * a .bytes) (c .before .before .before .clear .ensures) (size-within _ (at-fresh .fresh .ensures) (at-shaped .shaped .ensures) (at-if1 .if1 .taken)))
 
 refused-requires : tie.Need-refused-requires
 refused-requires c κs = search needs
-
-same-length-7 : tie.Need-same-length-7
-same-length-7 c = search needs
 
 same-length-8 : tie.Need-same-length-8
 same-length-8 c = search needs
@@ -118,8 +122,44 @@ same-length-11 c = search needs
 same-length-12 : tie.Need-same-length-12
 same-length-12 c = search needs
 
+same-length-13 : tie.Need-same-length-13
+same-length-13 c = search needs
+
+same-length-14 : tie.Need-same-length-14
+same-length-14 c = search needs
+
 returns-2 : tie.Need-returns-2
 returns-2 c = search format-refused
 
 pub format-spec : {M : Type 1} → statement M
-format-spec = tie.close (tie.spec fresh-requires shaped-requires mark-roots-requires clear-words-requires clear-counts-requires clear-places-requires clear-words-requires-2 mul-size slice-relend-prefix-clear slice-aggregate-clear clear-requires done-requires same-length same-length-2 same-length-3 same-length-4 same-length-5 same-length-6 returns refused-requires same-length-7 same-length-8 same-length-9 same-length-10 same-length-11 same-length-12 returns-2)
+format-spec = tie.close (tie.spec
+    fresh-requires
+    shaped-requires
+    mark-roots-requires
+    clear-words-requires
+    clear-numbers-requires
+    clear-numbers-requires-2
+    clear-multiplicities-requires
+    clear-words-requires-2
+    mul-size
+    slice-relend-prefix-clear
+    slice-aggregate-clear
+    clear-requires
+    done-requires
+    same-length
+    same-length-2
+    same-length-3
+    same-length-4
+    same-length-5
+    same-length-6
+    same-length-7
+    returns
+    refused-requires
+    same-length-8
+    same-length-9
+    same-length-10
+    same-length-11
+    same-length-12
+    same-length-13
+    same-length-14
+    returns-2)

@@ -6,16 +6,16 @@ use Rattle.interface.proofs.negvask_alloc_contig.Tie as tie
 
 -- ---- places of the code
 
-abbrev at-perform : tie.After-slice-known16 → tie.After-perform
-at-perform c = c .before .before .before .before .before .before .before .before .before .before .before .before .before .before .before .before .before
+abbrev at-perform : tie.After-slice-known18 → tie.After-perform
+at-perform c = c .before .before .before .before .before .before .before .before .before .before .before .before .before .before .before .before .before .before .before
 
-abbrev at-arrival : tie.After-slice-known16 → tie.After-at-port
-at-arrival c = at-perform c .before .before .before .before .before .before .before .before .before .before .before .before
+abbrev at-arrival : tie.After-slice-known18 → tie.After-at-port
+at-arrival c = at-perform c .before .before .before .before .before .before .before .before .before .before .before .before .before
 
-abbrev at-made : tie.After-slice-known16 → tie.After-alloc-contig-with
+abbrev at-made : tie.After-slice-known18 → tie.After-alloc-contig-with
 at-made c = at-arrival c .before
 
-abbrev at-credential : tie.After-slice-known16 → tie.After-credential-of
+abbrev at-credential : tie.After-slice-known18 → tie.After-credential-of
 at-credential c = at-made c .before
 
 -- ---- answers
@@ -60,10 +60,13 @@ same-length-7 : tie.Need-same-length-7
 same-length-7 c = at-perform c .perform .kept .1 .1 .1 .1 .1 .1 .0
 
 same-length-8 : tie.Need-same-length-8
-same-length-8 c = at-perform c .perform .kept .1 .1 .1 .1 .1 .1 .1 .1 .1 .1 .0
+same-length-8 c = at-perform c .perform .kept .1 .1 .1 .1 .1 .1 .1 .0
+
+same-length-9 : tie.Need-same-length-9
+same-length-9 c = at-perform c .perform .kept .1 .1 .1 .1 .1 .1 .1 .1 .1 .1 .1 .0
 
 returns : tie.Need-returns
-returns c = rw (← at-credential c .credential-of .ensures, ← at-made c .alloc-contig-with .ensures, ← at-arrival c .at-port .ensures) ((no-out (at-perform c .perform .ensures) (at-perform c .perform .kept .1 .1 .1 .1 .1 .1 .1 .1 .1 .0)) .does)
+returns c = rw (← at-credential c .credential-of .ensures, ← at-made c .alloc-contig-with .ensures, ← at-arrival c .at-port .ensures) ((no-out (at-perform c .perform .ensures) (at-perform c .perform .kept .1 .1 .1 .1 .1 .1 .1 .1 .1 .1 .0)) .does)
 
 pub negvask-alloc-contig-spec : {M : Type 1} → statement M
 negvask-alloc-contig-spec =
@@ -83,4 +86,5 @@ negvask-alloc-contig-spec =
     same-length-6
     same-length-7
     same-length-8
+    same-length-9
     returns)

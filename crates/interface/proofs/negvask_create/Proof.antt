@@ -5,19 +5,19 @@ use Rattle.interface.proofs.negvask_create.Tie as tie
 
 -- ---- places of the code
 
-abbrev at-perform : tie.After-slice-known14 → tie.After-perform-without-buffers
-at-perform c = c .before .before .before .before .before .before .before .before .before .before .before .before .before .before
+abbrev at-perform : tie.After-slice-known16 → tie.After-perform-without-buffers
+at-perform c = c .before .before .before .before .before .before .before .before .before .before .before .before .before .before .before .before
 
-abbrev at-arrival : tie.After-slice-known14 → tie.After-at-port
-at-arrival c = at-perform c .before .before .before .before .before .before .before .before .before .before
+abbrev at-arrival : tie.After-slice-known16 → tie.After-at-port
+at-arrival c = at-perform c .before .before .before .before .before .before .before .before .before .before .before
 
-abbrev at-made : tie.After-slice-known14 → tie.After-create-with
+abbrev at-made : tie.After-slice-known16 → tie.After-create-with
 at-made c = at-arrival c .before
 
-abbrev at-second : tie.After-slice-known14 → tie.After-credential-of2
+abbrev at-second : tie.After-slice-known16 → tie.After-credential-of2
 at-second c = at-made c .before
 
-abbrev at-credential : tie.After-slice-known14 → tie.After-credential-of
+abbrev at-credential : tie.After-slice-known16 → tie.After-credential-of
 at-credential c = at-second c .before
 
 -- ---- answers
@@ -61,6 +61,9 @@ same-length-6 c = at-perform c .perform-without-buffers .kept .1 .1 .1 .1 .1 .0
 same-length-7 : tie.Need-same-length-7
 same-length-7 c = at-perform c .perform-without-buffers .kept .1 .1 .1 .1 .1 .1 .0
 
+same-length-8 : tie.Need-same-length-8
+same-length-8 c = at-perform c .perform-without-buffers .kept .1 .1 .1 .1 .1 .1 .1 .0
+
 returns : tie.Need-returns
 returns c = rw (← at-credential c .credential-of .ensures, ← at-second c .credential-of2 .ensures, ← at-made c .create-with .ensures, ← at-arrival c .at-port .ensures) (at-perform c .perform-without-buffers .ensures .does)
 
@@ -81,4 +84,5 @@ negvask-create-spec =
     same-length-5
     same-length-6
     same-length-7
+    same-length-8
     returns)

@@ -5,8 +5,8 @@ use Rattle.interface.proofs.negvask_force.Tie as tie
 
 -- ---- places of the code
 
-abbrev at-perform : tie.After-slice-known14 → tie.After-perform-without-buffers
-at-perform c = c .before .before .before .before .before .before .before .before .before .before .before .before .before .before
+abbrev at-perform : tie.After-slice-known16 → tie.After-perform-without-buffers
+at-perform c = c .before .before .before .before .before .before .before .before .before .before .before .before .before .before .before .before
 
 -- ---- answers
 
@@ -37,6 +37,9 @@ same-length-6 c = at-perform c .perform-without-buffers .kept .1 .1 .1 .1 .1 .0
 same-length-7 : tie.Need-same-length-7
 same-length-7 c = at-perform c .perform-without-buffers .kept .1 .1 .1 .1 .1 .1 .0
 
+same-length-8 : tie.Need-same-length-8
+same-length-8 c = at-perform c .perform-without-buffers .kept .1 .1 .1 .1 .1 .1 .1 .0
+
 returns : tie.Need-returns
 returns c = at-perform c .perform-without-buffers .ensures .does
 
@@ -53,4 +56,5 @@ negvask-force-spec =
     same-length-5
     same-length-6
     same-length-7
+    same-length-8
     returns)

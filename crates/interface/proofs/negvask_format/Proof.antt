@@ -9,20 +9,20 @@ use Rattle.interface.proofs.negvask_format.Tie as tie
 
 -- ---- places of the code
 
-abbrev at-settle : tie.After-slice-known14 → tie.After-settle
+abbrev at-settle : tie.After-slice-known16 → tie.After-settle
 at-settle c = c .before .before
 
-abbrev at-format : tie.After-slice-known14 → tie.After-format
-at-format c = at-settle c .before .before .before .before .before .before .before .before .before .before .before .before .before .before .before
+abbrev at-format : tie.After-slice-known16 → tie.After-format
+at-format c = at-settle c .before .before .before .before .before .before .before .before .before .before .before .before .before .before .before .before .before
 
-abbrev at-load : tie.After-slice-known14 → tie.After-load
-at-load c = at-format c .before .before .before .before .before .before .before
+abbrev at-load : tie.After-slice-known16 → tie.After-load
+at-load c = at-format c .before .before .before .before .before .before .before .before
 
-abbrev at-if1 : tie.After-slice-known14 → tie.Else1
+abbrev at-if1 : tie.After-slice-known16 → tie.Else1
 at-if1 c = at-load c .before .before
 
-abbrev start : tie.After-slice-known14 → tie.Start
-start c = at-if1 c .before .before .before .before .before .before .before .before
+abbrev start : tie.After-slice-known16 → tie.Start
+start c = at-if1 c .before .before .before .before .before .before .before .before .before
 
 -- ---- answers
 
@@ -61,9 +61,12 @@ same-length-6 c = at-format c .format .kept .1 .1 .1 .1 .1 .1 .1 .1 .0
 same-length-7 : tie.Need-same-length-7
 same-length-7 c = at-format c .format .kept .1 .1 .1 .1 .1 .1 .1 .1 .1 .0
 
+same-length-8 : tie.Need-same-length-8
+same-length-8 c = at-format c .format .kept .1 .1 .1 .1 .1 .1 .1 .1 .1 .1 .0
+
 returns-2 : tie.Need-returns-2
 returns-2 c =
-    rule-done (format (start c .args .blocks) (start c .args .roots) (start c .args .bytes)) [] 0 (start c .args .info .now) _ _ _ _ _ _ _ _ _ _ _ _ _
+    rule-done (format (start c .args .blocks) (start c .args .roots) (start c .args .bytes)) [] 0 (start c .args .info .now) _ _ _ _ _ _ _ _ _ _ _ _ _ _ _
     (at-if1 c .if1 .left) (at-load c .load .ensures) (at-format c .format .ensures) (at-settle c .settle .ensures .0) (at-settle c .settle .ensures .1 .0) refl
     .does
 
@@ -82,4 +85,5 @@ negvask-format-spec =
     same-length-5
     same-length-6
     same-length-7
+    same-length-8
     returns-2)

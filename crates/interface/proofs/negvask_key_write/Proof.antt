@@ -5,11 +5,11 @@ use Rattle.interface.proofs.negvask_key_write.Tie as tie
 
 -- ---- places of the code
 
-abbrev at-perform : tie.After-slice-known14 → tie.After-perform-without-buffers
-at-perform c = c .before .before .before .before .before .before .before .before .before .before .before .before .before .before
+abbrev at-perform : tie.After-slice-known16 → tie.After-perform-without-buffers
+at-perform c = c .before .before .before .before .before .before .before .before .before .before .before .before .before .before .before .before
 
-abbrev at-made : tie.After-slice-known14 → tie.After-key-call-at
-at-made c = at-perform c .before .before .before .before .before .before .before .before .before .before
+abbrev at-made : tie.After-slice-known16 → tie.After-key-call-at
+at-made c = at-perform c .before .before .before .before .before .before .before .before .before .before .before
 
 -- ---- answers
 
@@ -43,6 +43,9 @@ same-length-6 c = at-perform c .perform-without-buffers .kept .1 .1 .1 .1 .1 .0
 same-length-7 : tie.Need-same-length-7
 same-length-7 c = at-perform c .perform-without-buffers .kept .1 .1 .1 .1 .1 .1 .0
 
+same-length-8 : tie.Need-same-length-8
+same-length-8 c = at-perform c .perform-without-buffers .kept .1 .1 .1 .1 .1 .1 .1 .0
+
 returns : tie.Need-returns
 returns c = rw (← at-made c .key-call-at .ensures) (at-perform c .perform-without-buffers .ensures .does)
 
@@ -60,4 +63,5 @@ negvask-key-write-spec =
     same-length-5
     same-length-6
     same-length-7
+    same-length-8
     returns)

@@ -28,7 +28,7 @@ returns-2 c =
     let at-if1 : tie.Else1 = search in
     let at-load : tie.After-load = search in
     let at-reach : tie.After-reach = search in
-    rule-listed (reachReport (start .args .given .now) (start .args .places .now)) _ _ (start .args .info .now) _ _ _ _ _ _
+    rule-listed (reachReport (start .args .given .now) (start .args .places .now)) _ _ (start .args .info .now) _ _ _ _ _ _ _
     (at-if1 .if1 .left) (at-load .load .ensures) (at-reach .reach .ensures) (c .report .ensures .0) (c .report .ensures .1)
 
 pub negvask-reach-spec : {M : Type 1} → statement M

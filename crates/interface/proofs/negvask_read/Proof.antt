@@ -6,16 +6,16 @@ use Rattle.interface.proofs.negvask_read.Tie as tie
 
 -- ---- places of the code
 
-abbrev at-perform : tie.After-t39 → tie.After-perform
-at-perform c = c .before .before .before .before .before .before .before .before .before .before .before .before .before .before .before .before .before
+abbrev at-perform : tie.After-t42 → tie.After-perform
+at-perform c = c .before .before .before .before .before .before .before .before .before .before .before .before .before .before .before .before .before .before .before
 
-abbrev at-arrival : tie.After-t39 → tie.After-at-port
-at-arrival c = at-perform c .before .before .before .before .before .before .before .before .before .before .before .before
+abbrev at-arrival : tie.After-t42 → tie.After-at-port
+at-arrival c = at-perform c .before .before .before .before .before .before .before .before .before .before .before .before .before
 
-abbrev at-made : tie.After-t39 → tie.After-read-with
+abbrev at-made : tie.After-t42 → tie.After-read-with
 at-made c = at-arrival c .before
 
-abbrev at-credential : tie.After-t39 → tie.After-credential-of
+abbrev at-credential : tie.After-t42 → tie.After-credential-of
 at-credential c = at-made c .before
 
 -- ---- answers
@@ -60,10 +60,13 @@ same-length-7 : tie.Need-same-length-7
 same-length-7 c = at-perform c .perform .kept .1 .1 .1 .1 .1 .1 .0
 
 same-length-8 : tie.Need-same-length-8
-same-length-8 c = at-perform c .perform .kept .1 .1 .1 .1 .1 .1 .1 .1 .1 .0
+same-length-8 c = at-perform c .perform .kept .1 .1 .1 .1 .1 .1 .1 .0
+
+same-length-9 : tie.Need-same-length-9
+same-length-9 c = at-perform c .perform .kept .1 .1 .1 .1 .1 .1 .1 .1 .1 .1 .0
 
 returns : tie.Need-returns
-returns c = rw (← at-credential c .credential-of .ensures, ← at-made c .read-with .ensures, ← at-arrival c .at-port .ensures) ((no-places (at-perform c .perform .ensures) (at-perform c .perform .kept .1 .1 .1 .1 .1 .1 .1 .1 .1 .1 .0)) .does)
+returns c = rw (← at-credential c .credential-of .ensures, ← at-made c .read-with .ensures, ← at-arrival c .at-port .ensures) ((no-places (at-perform c .perform .ensures) (at-perform c .perform .kept .1 .1 .1 .1 .1 .1 .1 .1 .1 .1 .1 .0)) .does)
 
 pub negvask-read-spec : {M : Type 1} → statement M
 negvask-read-spec =
@@ -83,4 +86,5 @@ negvask-read-spec =
     same-length-6
     same-length-7
     same-length-8
+    same-length-9
     returns)

@@ -5,13 +5,13 @@ use Rattle.interface.proofs.negvask_renew.Tie as tie
 
 -- ---- places of the code
 
-abbrev at-perform : tie.After-slice-known14 → tie.After-perform-without-buffers
-at-perform c = c .before .before .before .before .before .before .before .before .before .before .before .before .before .before
+abbrev at-perform : tie.After-slice-known16 → tie.After-perform-without-buffers
+at-perform c = c .before .before .before .before .before .before .before .before .before .before .before .before .before .before .before .before
 
-abbrev at-made : tie.After-slice-known14 → tie.After-renew-with
-at-made c = at-perform c .before .before .before .before .before .before .before .before .before .before
+abbrev at-made : tie.After-slice-known16 → tie.After-renew-with
+at-made c = at-perform c .before .before .before .before .before .before .before .before .before .before .before
 
-abbrev at-credential : tie.After-slice-known14 → tie.After-credential-of
+abbrev at-credential : tie.After-slice-known16 → tie.After-credential-of
 at-credential c = at-made c .before
 
 -- ---- answers
@@ -49,6 +49,9 @@ same-length-6 c = at-perform c .perform-without-buffers .kept .1 .1 .1 .1 .1 .0
 same-length-7 : tie.Need-same-length-7
 same-length-7 c = at-perform c .perform-without-buffers .kept .1 .1 .1 .1 .1 .1 .0
 
+same-length-8 : tie.Need-same-length-8
+same-length-8 c = at-perform c .perform-without-buffers .kept .1 .1 .1 .1 .1 .1 .1 .0
+
 returns : tie.Need-returns
 returns c = rw (← at-credential c .credential-of .ensures, ← at-made c .renew-with .ensures) (at-perform c .perform-without-buffers .ensures .does)
 
@@ -67,4 +70,5 @@ negvask-renew-spec =
     same-length-5
     same-length-6
     same-length-7
+    same-length-8
     returns)

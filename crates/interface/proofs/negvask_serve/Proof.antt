@@ -6,14 +6,14 @@ use Rattle.interface.proofs.negvask_serve.Tie as tie
 
 -- ---- places of the code
 
-abbrev at-perform : tie.After-slice-known18 → tie.After-perform
-at-perform c = c .before .before .before .before .before .before .before .before .before .before .before .before .before .before .before .before .before .before
+abbrev at-perform : tie.After-slice-known20 → tie.After-perform
+at-perform c = c .before .before .before .before .before .before .before .before .before .before .before .before .before .before .before .before .before .before .before .before
 
-abbrev at-decode : tie.After-slice-known18 → tie.After-decode-at
-at-decode c = at-perform c .before .before .before .before .before .before .before .before .before .before .before .before
+abbrev at-decode : tie.After-slice-known20 → tie.After-decode-at
+at-decode c = at-perform c .before .before .before .before .before .before .before .before .before .before .before .before .before
 
-abbrev start : tie.After-slice-known18 → tie.Start
-start c = at-decode c .before .before .before .before .before .before .before .before .before .before .before
+abbrev start : tie.After-slice-known20 → tie.Start
+start c = at-decode c .before .before .before .before .before .before .before .before .before .before .before .before
 
 -- ---- answers
 
@@ -54,10 +54,13 @@ same-length-7 : tie.Need-same-length-7
 same-length-7 c = at-perform c .perform .kept .1 .1 .1 .1 .1 .1 .0
 
 same-length-8 : tie.Need-same-length-8
-same-length-8 c = at-perform c .perform .kept .1 .1 .1 .1 .1 .1 .1 .1 .1 .0
+same-length-8 c = at-perform c .perform .kept .1 .1 .1 .1 .1 .1 .1 .0
 
 same-length-9 : tie.Need-same-length-9
 same-length-9 c = at-perform c .perform .kept .1 .1 .1 .1 .1 .1 .1 .1 .1 .1 .0
+
+same-length-10 : tie.Need-same-length-10
+same-length-10 c = at-perform c .perform .kept .1 .1 .1 .1 .1 .1 .1 .1 .1 .1 .1 .0
 
 returns : tie.Need-returns
 returns c = of-record (start c .args .body .now) (start c .args .out .now) (start c .args .places .now) (start c .args .value .now) (start c .args .info .now) _ (at-decode c .decode-at .ensures) (at-perform c .perform .ensures)
@@ -80,4 +83,5 @@ negvask-serve-spec =
     same-length-7
     same-length-8
     same-length-9
+    same-length-10
     returns)

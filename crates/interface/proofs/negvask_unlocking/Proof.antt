@@ -28,7 +28,7 @@ returns-2 c =
     let at-if1 : tie.Else1 = search in
     let at-load : tie.After-load = search in
     let at-unlocking : tie.After-unlocking = search in
-    rule-listed (unlockingReport (start .args .given .now) (start .args .block) (start .args .places .now)) _ _ (start .args .info .now) _ _ _ _ _ _
+    rule-listed (unlockingReport (start .args .given .now) (start .args .block) (start .args .places .now)) _ _ (start .args .info .now) _ _ _ _ _ _ _
     (at-if1 .if1 .left) (at-load .load .ensures) (at-unlocking .unlocking .ensures) (c .report .ensures .0) (c .report .ensures .1)
 
 pub negvask-unlocking-spec : {M : Type 1} → statement M

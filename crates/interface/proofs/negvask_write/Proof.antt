@@ -5,16 +5,16 @@ use Rattle.interface.proofs.negvask_write.Tie as tie
 
 -- ---- places of the code
 
-abbrev at-perform : tie.After-slice-known14 → tie.After-perform-without-buffers
-at-perform c = c .before .before .before .before .before .before .before .before .before .before .before .before .before .before
+abbrev at-perform : tie.After-slice-known16 → tie.After-perform-without-buffers
+at-perform c = c .before .before .before .before .before .before .before .before .before .before .before .before .before .before .before .before
 
-abbrev at-arrival : tie.After-slice-known14 → tie.After-at-port
-at-arrival c = at-perform c .before .before .before .before .before .before .before .before .before
+abbrev at-arrival : tie.After-slice-known16 → tie.After-at-port
+at-arrival c = at-perform c .before .before .before .before .before .before .before .before .before .before
 
-abbrev at-made : tie.After-slice-known14 → tie.After-write-with
+abbrev at-made : tie.After-slice-known16 → tie.After-write-with
 at-made c = at-arrival c .before
 
-abbrev at-credential : tie.After-slice-known14 → tie.After-credential-of
+abbrev at-credential : tie.After-slice-known16 → tie.After-credential-of
 at-credential c = at-made c .before
 
 -- ---- answers
@@ -52,6 +52,9 @@ same-length-6 c = at-perform c .perform-without-buffers .kept .1 .1 .1 .1 .1 .0
 same-length-7 : tie.Need-same-length-7
 same-length-7 c = at-perform c .perform-without-buffers .kept .1 .1 .1 .1 .1 .1 .0
 
+same-length-8 : tie.Need-same-length-8
+same-length-8 c = at-perform c .perform-without-buffers .kept .1 .1 .1 .1 .1 .1 .1 .0
+
 returns : tie.Need-returns
 returns c = rw (← at-credential c .credential-of .ensures, ← at-made c .write-with .ensures, ← at-arrival c .at-port .ensures) (at-perform c .perform-without-buffers .ensures .does)
 
@@ -70,4 +73,5 @@ negvask-write-spec =
     same-length-5
     same-length-6
     same-length-7
+    same-length-8
     returns)

@@ -3,7 +3,7 @@ use native.Mathlib.Omega.{arith}
 use Rattle.card.specs.Card.{card}
 use Rattle.checks.specs.CheckedLaws.{check-refused, check-passed}
 use Rattle.access.proofs.Blocks.{there, access-there}
-use Rattle.tables.specs.InUseLaws.{sound-sorted}
+use Rattle.tables.specs.InUseLaws.{sound-sorted, sound-paired}
 use Rattle.linking.proofs.Deleting.{delete-source-missing, delete-destination-missing, root-source, delete-source-shut, delete-no-pointer, has-pointers, passes-more, passes-last}
 use Rattle.linking.proofs.delete_check.Statement.{statement}
 use Rattle.linking.proofs.delete_check.Tie as tie
@@ -42,13 +42,13 @@ admits-requires c κs =
     let at-if1 : tie.Else1 = search in
     let at-missing : tie.After-missing = search in
     let start : tie.Start = search in
-    let a = start .args in let k = card (a .info) (a .flags .now) (a .keys .now) (a .counts .now) (a .pointers .now) (a .windows .now) (a .contents .now) in access-there {c = k} _ (start .pre) (at-missing .missing .ensures) (at-if1 .if1 .left)
+    let a = start .args in let k = card (a .info) (a .flags .now) (a .keys .now) (a .counts .now) (a .pointers .now) (a .multiplicities .now) (a .windows .now) (a .contents .now) in access-there {c = k} _ (start .pre) (at-missing .missing .ensures) (at-if1 .if1 .left)
 
 returns-4 : tie.Need-returns-4
 returns-4 c = search (check-refused, delete-source-shut)
 
-points-to-requires : tie.Need-points-to-requires
-points-to-requires c κs = search sound-sorted
+multiplicity-requires : tie.Need-multiplicity-requires
+multiplicity-requires c κs = search (sound-sorted, sound-paired)
 
 returns-5 : tie.Need-returns-5
 returns-5 c = search (check-refused, delete-no-pointer)
@@ -58,14 +58,14 @@ mul-if6 c =
     let at-if2 : tie.Else2 = search in
     let at-missing2 : tie.After-missing2 = search in
     let start = start-from-missing2 at-missing2 in
-    let a = start .args in let k = card (a .info) (a .flags .now) (a .keys .now) (a .counts .now) (a .pointers .now) (a .windows .now) (a .contents .now) in omega (arith, there (k .public) _ (at-missing2 .missing2 .ensures) (at-if2 .if2 .left), start .pre .shaped .inRanges .blocksHigh)
+    let a = start .args in let k = card (a .info) (a .flags .now) (a .keys .now) (a .counts .now) (a .pointers .now) (a .multiplicities .now) (a .windows .now) (a .contents .now) in omega (arith, there (k .public) _ (at-missing2 .missing2 .ensures) (at-if2 .if2 .left), start .pre .shaped .inRanges .blocksHigh)
 
 shared-slice-read-if6 : tie.Need-shared-slice-read-if6
 shared-slice-read-if6 c =
     let at-if2 : tie.Else2 = search in
     let at-missing2 : tie.After-missing2 = search in
     let start = start-from-missing2 at-missing2 in
-    let a = start .args in let k = card (a .info) (a .flags .now) (a .keys .now) (a .counts .now) (a .pointers .now) (a .windows .now) (a .contents .now) in omega (arith, there (k .public) _ (at-missing2 .missing2 .ensures) (at-if2 .if2 .left), start .pre .shaped .hasLengths .counts)
+    let a = start .args in let k = card (a .info) (a .flags .now) (a .keys .now) (a .counts .now) (a .pointers .now) (a .multiplicities .now) (a .windows .now) (a .contents .now) in omega (arith, there (k .public) _ (at-missing2 .missing2 .ensures) (at-if2 .if2 .left), start .pre .shaped .hasLengths .counts)
 
 returns-6 : tie.Need-returns-6
 returns-6 c = search (check-passed, passes-more)
@@ -93,7 +93,7 @@ delete-check-spec =
     returns-3
     admits-requires
     returns-4
-    points-to-requires
+    multiplicity-requires
     returns-5
     mul-if6
     shared-slice-read-if6

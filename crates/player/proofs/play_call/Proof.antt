@@ -31,7 +31,7 @@ put-line-requires c κs =
     let at-perform : tie.After-perform = search in
     let at-slice-known7 : tie.After-slice-known7 = search in
     let start = start-from-slice-known7 at-slice-known7 in
-    (record { bytes = omega (arith, at-perform .perform .kept .1 .1 .1 .1 .1 .1 .1 .1 .1 .1 .0); numbers = omega (arith, at-perform .perform .kept .1 .1 .1 .1 .1 .1 .1 .1 .1 .1 .1 .0) }, start .pre)
+    (record { bytes = omega (arith, at-perform .perform .kept .1 .1 .1 .1 .1 .1 .1 .1 .1 .1 .1 .0); numbers = omega (arith, at-perform .perform .kept .1 .1 .1 .1 .1 .1 .1 .1 .1 .1 .1 .1 .0) }, start .pre)
 
 same-length : tie.Need-same-length
 same-length c = search needs
@@ -54,13 +54,16 @@ same-length-6 c = search needs
 same-length-7 : tie.Need-same-length-7
 same-length-7 c = search needs
 
+same-length-8 : tie.Need-same-length-8
+same-length-8 c = search needs
+
 returns : tie.Need-returns
 unfolding played
 returns c =
     let at-perform : tie.After-perform = search in
     let at-slice-known7 : tie.After-slice-known7 = search in
     let start = start-from-slice-known7 at-slice-known7 in
-    call-played (start .args .ordinal) (start .args .kind) (start .args .call) (record { bytes = omega (arith, at-perform .perform .kept .1 .1 .1 .1 .1 .1 .1 .1 .1 .1 .0); numbers = omega (arith, at-perform .perform .kept .1 .1 .1 .1 .1 .1 .1 .1 .1 .1 .1 .0) })
+    call-played (start .args .ordinal) (start .args .kind) (start .args .call) (record { bytes = omega (arith, at-perform .perform .kept .1 .1 .1 .1 .1 .1 .1 .1 .1 .1 .1 .0); numbers = omega (arith, at-perform .perform .kept .1 .1 .1 .1 .1 .1 .1 .1 .1 .1 .1 .1 .0) })
     (at-perform .perform .ensures) (c .before .before .before .put-line .ensures)
 
 pub play-call-spec : {M : Type 1} → statement M
@@ -80,4 +83,5 @@ play-call-spec =
     same-length-5
     same-length-6
     same-length-7
+    same-length-8
     returns)

@@ -68,6 +68,9 @@ same-length-6 c = search needs
 same-length-7 : tie.Need-same-length-7
 same-length-7 c = search needs
 
+same-length-8 : tie.Need-same-length-8
+same-length-8 c = search needs
+
 returns-2 : tie.Need-returns-2
 returns-2 c =
     let at-play-call : tie.After-play-call = search in
@@ -96,4 +99,5 @@ play-turn-spec =
     same-length-5
     same-length-6
     same-length-7
+    same-length-8
     returns-2)

@@ -10,7 +10,7 @@ use Rattle.reach.proofs.begin.Tie as tie
 
 abbrev Inv-loop : tie.InvT-loop
 Inv-loop info flags keys windows words shut₀ marks₀ queue₀ tail₀ block₀ shut marks queue tail block =
-    Beginning words (card info flags keys [] [] windows []) (info .blocks) block shut marks queue tail
+    Beginning words (card info flags keys [] [] [] windows []) (info .blocks) block shut marks queue tail
 
 abbrev μ-loop : tie.MeasureT-loop
 μ-loop info flags keys windows words shut₀ marks₀ queue₀ tail₀ block₀ shut marks queue tail block = info .blocks - block

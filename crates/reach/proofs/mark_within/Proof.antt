@@ -19,7 +19,7 @@ returns c =
     let start : tie.Start = search in
     let at-begin : tie.After-begin = search in
     walked-within (start .args .words .now) (start .args .info) (start .args .flags .now) (start .args .keys .now) (start .args .counts .now) (start .args .pointers .now)
-    (start .args .windows .now) (start .args .contents .now) (start .pre .0) (at-begin .begin .ensures) (c .walk .ensures)
+    (start .args .multiplicities .now) (start .args .windows .now) (start .args .contents .now) (start .pre .0) (at-begin .begin .ensures) (c .walk .ensures)
 
 pub mark-within-spec : {M : Type 1} → statement M
 mark-within-spec = tie.close (tie.spec begin-requires walk-requires returns)

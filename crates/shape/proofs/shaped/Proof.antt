@@ -19,7 +19,7 @@ returns c = search needs
 returns-2 : tie.Need-returns-2
 returns-2 c =
     let start : tie.Start = search in
-    let a = start .args in out-of-ranges (card (a .info) (a .flags .now) (a .keys .now) (a .counts .now) (a .pointers .now) (a .windows .now) (a .contents .now)) (sym (c .if1 .left) ∙ c .before .in-ranges .ensures)
+    let a = start .args in out-of-ranges (card (a .info) (a .flags .now) (a .keys .now) (a .counts .now) (a .pointers .now) (a .multiplicities .now) (a .windows .now) (a .contents .now)) (sym (c .if1 .left) ∙ c .before .in-ranges .ensures)
 
 pub shaped-spec : {M : Type 1} → statement M
 shaped-spec = tie.close (tie.spec in-ranges-requires has-lengths-requires returns returns-2)

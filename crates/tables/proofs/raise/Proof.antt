@@ -1,18 +1,14 @@
--- `tables::raise` meets its contract: the pointers in use from `i` on stand so many places higher. The measure is `i`.
+-- `tables::raise` meets its contract: the pointers from `i` on stand so many places higher. The measure is `i`.
 use native.Mathlib.Omega.{arith}
 use Rattle.tables.proofs.Shift.{Raised, raised-start, raised-more, raised-whole}
-use borrow.Author.Needs.{needs}
 use Rattle.tables.proofs.raise.Statement.{statement}
 use Rattle.tables.proofs.raise.Tie as tie
 
 abbrev Inv-loop : tie.InvT-loop
-Inv-loop pointers₀ used by wanted at i₀ pointers i = Raised pointers₀ pointers used by at i
+Inv-loop pointers₀ used by at i₀ pointers i = Raised pointers₀ pointers used by at i
 
 abbrev μ-loop : tie.MeasureT-loop
-μ-loop pointers₀ used by wanted at i₀ pointers i = i
-
-place-requires : tie.Need-place-requires Inv-loop μ-loop
-place-requires c κs = search
+μ-loop pointers₀ used by at i₀ pointers i = i
 
 loop-holds : tie.Need-loop-holds Inv-loop μ-loop
 loop-holds c = search raised-start
@@ -53,7 +49,6 @@ raise-spec =
     (tie.spec
     Inv-loop
     μ-loop
-    place-requires
     loop-holds
     sub-i
     mul-pointers

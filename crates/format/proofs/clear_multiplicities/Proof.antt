@@ -1,12 +1,12 @@
--- `format::clear_places` meets its contract: the list is zeros up to `at`. The measure is what is left.
+-- `format::clear_multiplicities` meets its contract: the list is zeros up to `at`. The measure is what is left.
 use Prim.Native.Nat.{_-_}
 use mathlib.Core.Path.{sym}
 use native.Mathlib.Omega.{arith}
 use lib.ListN.{length, length-replicate, getD-replicate}
 use Rattle.card.specs.Contents.{zeros}
 use Rattle.tables.proofs.Overlay.{Overlaid, overlaid-start, overlaid-more, overlaid-whole}
-use Rattle.format.proofs.clear_places.Statement.{statement}
-use Rattle.format.proofs.clear_places.Tie as tie
+use Rattle.format.proofs.clear_multiplicities.Statement.{statement}
+use Rattle.format.proofs.clear_multiplicities.Tie as tie
 
 abbrev Inv-loop : tie.InvT-loop
 Inv-loop to₀ at₀ to at = Overlaid (zeros (length to₀)) to₀ to at
@@ -38,8 +38,8 @@ same-length c = c .before .loop .inv .same
 returns : tie.Need-returns Inv-loop μ-loop
 returns c = overlaid-whole (c .before .loop .inv) (c .loop-test .left)
 
-pub clear-places-spec : {M : Type 1} → statement M
-clear-places-spec =
+pub clear-multiplicities-spec : {M : Type 1} → statement M
+clear-multiplicities-spec =
     tie.close
     (tie.spec
     Inv-loop

@@ -1,19 +1,16 @@
--- `tables::remove` meets its contract: the pointers behind the removed one, up to `i`, stand one place lower. The measure is what is left.
+-- `tables::lower` meets its contract: the pointers behind the one taken away, up to `i`, stand one place lower. The measure is what is left.
 use Prim.Native.Nat.{_-_}
 use native.Mathlib.Omega.{arith}
 use lib.ListN.{length-set}
-use Rattle.tables.proofs.Shift.{Lowered, lowered-start, lowered-more, removed}
-use Rattle.tables.proofs.remove.Statement.{statement}
-use Rattle.tables.proofs.remove.Tie as tie
+use Rattle.tables.proofs.Shift.{Lowered, lowered-start, lowered-more, removed-at}
+use Rattle.tables.proofs.lower.Statement.{statement}
+use Rattle.tables.proofs.lower.Tie as tie
 
 abbrev Inv-loop : tie.InvT-loop
-Inv-loop pointers₀ used wanted i₀ pointers i = Lowered pointers₀ pointers used i₀ i
+Inv-loop pointers₀ used at i₀ pointers i = Lowered pointers₀ pointers used at i
 
 abbrev μ-loop : tie.MeasureT-loop
-μ-loop pointers₀ used wanted i₀ pointers i = used - i
-
-place-requires : tie.Need-place-requires Inv-loop μ-loop
-place-requires c κs = search
+μ-loop pointers₀ used at i₀ pointers i = used - i
 
 loop-holds : tie.Need-loop-holds Inv-loop μ-loop
 loop-holds c = search lowered-start
@@ -55,15 +52,14 @@ same-length : tie.Need-same-length Inv-loop μ-loop
 same-length c = simp length-set (c .before .loop .inv .same)
 
 returns : tie.Need-returns Inv-loop μ-loop
-returns c = search removed
+returns c = search removed-at
 
-pub remove-spec : {M : Type 1} → statement M
-remove-spec =
+pub lower-spec : {M : Type 1} → statement M
+lower-spec =
     tie.close
     (tie.spec
     Inv-loop
     μ-loop
-    place-requires
     loop-holds
     add-loop
     add-pointers
