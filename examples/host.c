@@ -1,7 +1,7 @@
 /*
  * A short host: formats a card, has a block allotted and keyed by the service port, then writes and reads as a host,
  * by key and by reference within a window, which a shorter poll does not cut, and is refused once the window has ended.
- * It sets the read key of a new season, and takes a run of blocks for an event file.
+ * It sets the read key of a new season, takes a run of blocks for an event file, and points twice to the same block.
  *
  *   cc -I include examples/host.c path/to/libinterface.a -o host && ./host
  *
@@ -43,6 +43,7 @@ int main(void)
 	const struct negvask_new_key read_key = negvask_set_key(READ_HIGH, READ_LOW);
 	const struct negvask_new_key write_key = negvask_set_key(WRITE_HIGH, WRITE_LOW);
 	const struct negvask_new_key next_read_key = negvask_set_key(NEXT_HIGH, NEXT_LOW);
+	struct negvask_credential directory;
 	uint8_t data[BYTES] = { 0 }, out[BYTES] = { 0 };
 	uint64_t value = 0;
 	uint32_t answer;
@@ -119,6 +120,17 @@ int main(void)
 			negvask_alloc(CARD, NEGVASK_HOST, places[0], NEGVASK_BYTES(writer),
 				NEGVASK_NO_HINT, 6, file, 6));
 	printf("  blocks %u to %u and %u\n", (unsigned)file[0], (unsigned)file[4], (unsigned)file[5]);
+
+	/* Two files of a directory, the first block, have their inodes in block 3: it gets a second pointer from there. */
+	directory = negvask_by_reference(places[0]);
+	show("host: open the first for writing, 10 seconds",
+		negvask_renew(CARD, NEGVASK_RENEW_WRITE, places[0], NEGVASK_BYTES(writer), 10));
+	show("host: point to block 3 a second time",
+		negvask_create(CARD, NEGVASK_HOST, places[0], NEGVASK_BYTES(writer), file[0], NEGVASK_BYTES(directory)));
+	/* One of the files goes, and one pointer with it. The block stays for the other. */
+	answer = negvask_delete(CARD, NEGVASK_HOST, places[0], NEGVASK_BYTES(writer), file[0], &value);
+	show("host: delete one of the two pointers", answer);
+	printf("  freed: %lu\n", (unsigned long)value);
 
 	/* The last pointer to a block goes, and the block with it. */
 	answer = negvask_delete(CARD, NEGVASK_SERVICE, 0, NEGVASK_BYTES(nothing), places[1], &value);

@@ -2,9 +2,10 @@
  * negvask.h: the C interface of the type-safe storage card.
  *
  * The card allocates blocks, keeps the pointers between them and frees a
- * block when its last pointer goes. It opens a block to a host by the
- * block's key; without a key, a root is open to every host, and another
- * block by reference to one that points to it and was lately opened.
+ * block when its last pointer goes; a block may point to another several
+ * times. It opens a block to a host by the block's key; without a key, a
+ * root is open to every host, and another block by reference to one that
+ * points to it and was lately opened.
  *
  * docs/FIRMWARE.md says how firmware builds, links and calls it, and
  * docs/RECORDS.md what a host sends.
@@ -15,12 +16,12 @@
  * `rt staticlib interface` makes the archive, for x86-64 Linux alone,
  * since that is what it compiles for. Whoever links it supplies memset(),
  * as any C library does, and nothing else; `nm -u` of the archive says so.
- * The deepest call, negvask_unlocking(), takes 58,160 bytes of stack below
+ * The deepest call, negvask_unlocking(), takes 58,208 bytes of stack below
  * its caller, as `tests/run.sh --benchmark` prints; what a host's bytes
- * lead to takes 9,456.
+ * lead to takes 17,744.
  *
  * All state is in memory provided by the caller: a record of five
- * numbers and six tables. The functions keep nothing between calls,
+ * numbers and seven tables. The functions keep nothing between calls,
  * allocate nothing and use no global state.
  *
  * Lengths are counted in elements, not in bytes. A pointer must be valid
@@ -62,21 +63,29 @@
  *   info[0]   N, the number of blocks, 16 to 4,096
  *   info[1]   R, the number of roots, 1 to 8; blocks 0 to R-1 are roots
  *   info[2]   B, the bytes of a block, a power of two, 512 to 65,536
- *   info[3]   M, the number of pointers in use
+ *   info[3]   M, the number of places in use in the pointer table
  *   info[4]   T, the time in seconds, below 2^40
  *
- * The tables, always all six and in this order:
+ * The tables, always all seven and in this order:
  *
- *   flags     N bytes: 1 allocated, 2 has a read key, 4 has a write key,
- *             added up
- *   keys      4 * N words: read key high, low, write key high, low
- *   counts    N numbers: how many pointers lead to the block
- *   pointers  P numbers, P from 1 to 16,384 as the caller chooses, each
- *             source * 65,536 + destination: the first M strictly
- *             ascending, the rest 0
- *   windows   2 * N numbers: for each block the end of its read window,
- *             then of its write window, in seconds
- *   contents  N * B bytes: block b from b * B on
+ *   flags           N bytes: 1 allocated, 2 has a read key, 4 has a
+ *                   write key, added up
+ *   keys            4 * N words: read key high, low, write key high, low
+ *   counts          N numbers: the multiplicities of all pointers to the
+ *                   block, added up
+ *   pointers        P numbers, P from 1 to 16,384 as the caller chooses,
+ *                   each source * 65,536 + destination: the first M
+ *                   strictly ascending, the rest 0
+ *   multiplicities  P numbers: how often the pointer in the same place of
+ *                   `pointers` is there, 1 to 65,535 for the first M, the
+ *                   rest 0
+ *   windows         2 * N numbers: for each block the end of its read
+ *                   window, then of its write window, in seconds
+ *   contents        N * B bytes: block b from b * B on
+ *
+ * So a block may point to another several times, and all these pointers
+ * take one place. A count says how often pointers to the block were made
+ * and not yet taken away.
  *
  * A window is open while T is less than its end. No call lets it end
  * sooner but negvask_force(), a key change, a negvask_delete() that frees
@@ -99,9 +108,10 @@
  *   card.counts_len = N;
  *   at += card.counts_len * sizeof *card.counts;
  *
- * In the order keys, windows, pointers, counts, flags, contents each is
- * aligned where the first one is aligned for uint64_t. The record is in
- * the struct itself: it is copied there from such memory, and back.
+ * In the order keys, windows, pointers, counts, multiplicities, flags,
+ * contents each is aligned where the first one is aligned for uint64_t.
+ * The record is in the struct itself: it is copied there from such memory,
+ * and back.
  *
  * negvask_format() makes the card, and after that the caller leaves record
  * and tables to these functions. It may store the bytes of each part,
@@ -270,8 +280,8 @@ extern "C" {
 #define NEGVASK_NOT_OPENED       5
 /** The call is not allowed on a root. */
 #define NEGVASK_ROOT             6
-/** The two ends are equal, or the pointer exists. */
-#define NEGVASK_POINTER_EXISTS   7
+/** The two ends are equal, or the pointer's multiplicity is 65,535. */
+#define NEGVASK_CANNOT_POINT     7
 /** There is no such pointer. */
 #define NEGVASK_NO_POINTER       8
 /** The last pointer to a block that has pointers of its own. */
@@ -312,6 +322,8 @@ extern "C" {
 /** P, the places of the pointer table. */
 #define NEGVASK_POINTERS_MIN     1
 #define NEGVASK_POINTERS_MAX 16384
+/** How often a block may point to another. */
+#define NEGVASK_MULTIPLICITY_MAX 65535
 
 /** The number of numbers in the record. */
 #define NEGVASK_INFO_LEN         5
@@ -351,15 +363,16 @@ extern "C" {
 /* The card. */
 
 /*
- * The record and the six tables, as the parameters with which every
+ * The record and the seven tables, as the parameters with which every
  * function begins. They are described at the top of this file.
  */
 #define NEGVASK_TABLES \
 	uint64_t *info, size_t info_len, \
 	uint8_t *flags, size_t flags_len, \
 	uint64_t *keys, size_t keys_len, \
-	uint16_t *counts, size_t counts_len, \
+	uint32_t *counts, size_t counts_len, \
 	uint32_t *pointers, size_t pointers_len, \
+	uint16_t *multiplicities, size_t multiplicities_len, \
 	uint64_t *windows, size_t windows_len, \
 	uint8_t *contents, size_t contents_len
 
@@ -370,8 +383,9 @@ extern "C" {
 	const uint64_t *info, size_t info_len, \
 	const uint8_t *flags, size_t flags_len, \
 	const uint64_t *keys, size_t keys_len, \
-	const uint16_t *counts, size_t counts_len, \
+	const uint32_t *counts, size_t counts_len, \
 	const uint32_t *pointers, size_t pointers_len, \
+	const uint16_t *multiplicities, size_t multiplicities_len, \
 	const uint64_t *windows, size_t windows_len, \
 	const uint8_t *contents, size_t contents_len
 
@@ -383,10 +397,12 @@ struct negvask_card {
 	size_t flags_len;
 	uint64_t *keys;
 	size_t keys_len;
-	uint16_t *counts;
+	uint32_t *counts;
 	size_t counts_len;
 	uint32_t *pointers;
 	size_t pointers_len;
+	uint16_t *multiplicities;
+	size_t multiplicities_len;
 	uint64_t *windows;
 	size_t windows_len;
 	uint8_t *contents;
@@ -401,17 +417,19 @@ struct negvask_card {
 	(card)->keys, (card)->keys_len, \
 	(card)->counts, (card)->counts_len, \
 	(card)->pointers, (card)->pointers_len, \
+	(card)->multiplicities, (card)->multiplicities_len, \
 	(card)->windows, (card)->windows_len, \
 	(card)->contents, (card)->contents_len
 
 /** Declares `name`, a static struct negvask_card, with static tables for
-    `blocks` blocks of `bytes` bytes and `places` pointers, all of them
-    constants. A semicolon follows. The card is not yet formatted. */
+    `blocks` blocks of `bytes` bytes and `places` places for pointers, all
+    of them constants. A semicolon follows. The card is not yet formatted. */
 #define NEGVASK_STORAGE(name, blocks, bytes, places) \
 	static uint8_t name##_flags[blocks]; \
 	static uint64_t name##_keys[4 * (blocks)]; \
-	static uint16_t name##_counts[blocks]; \
+	static uint32_t name##_counts[blocks]; \
 	static uint32_t name##_pointers[places]; \
+	static uint16_t name##_multiplicities[places]; \
 	static uint64_t name##_windows[2 * (blocks)]; \
 	static uint8_t name##_contents[(size_t)(blocks) * (bytes)]; \
 	static struct negvask_card name = { \
@@ -420,12 +438,13 @@ struct negvask_card {
 		name##_keys, 4 * (blocks), \
 		name##_counts, (blocks), \
 		name##_pointers, (places), \
+		name##_multiplicities, (places), \
 		name##_windows, 2 * (blocks), \
 		name##_contents, (size_t)(blocks) * (bytes) \
 	}
 
 /** The parts of a card that are stored: the record and the tables. */
-#define NEGVASK_PARTS            7
+#define NEGVASK_PARTS            8
 
 /** A part of a card: its bytes in memory and how many they are. */
 struct negvask_part {
@@ -443,6 +462,8 @@ static inline struct negvask_part negvask_part_of(struct negvask_card *card,
 		{ card->keys, card->keys_len * sizeof *card->keys },
 		{ card->counts, card->counts_len * sizeof *card->counts },
 		{ card->pointers, card->pointers_len * sizeof *card->pointers },
+		{ card->multiplicities,
+			card->multiplicities_len * sizeof *card->multiplicities },
 		{ card->windows, card->windows_len * sizeof *card->windows },
 		{ card->contents, card->contents_len * sizeof *card->contents }
 	};
@@ -551,8 +572,8 @@ static inline void negvask_key_words(uint64_t *to, const uint8_t *key)
  * No record carries it, and nothing that a host sends may lead to it.
  *
  * Time and M become 0; roots are allocated, all other blocks are not;
- * keys, counts, pointers and windows become 0, and so do the contents of
- * the roots. Unmodified: the contents of the other blocks.
+ * keys, counts, pointers, multiplicities and windows become 0, and so do
+ * the contents of the roots. Unmodified: the contents of the other blocks.
  *
  * The caller provides the record and the tables with any values in them;
  * the table lengths must fit `blocks` and `bytes`. What the record and
@@ -560,7 +581,8 @@ static inline void negvask_key_words(uint64_t *to, const uint8_t *key)
  *
  * Refusals:
  *   1   the record has not five numbers; `blocks`, `roots` or `bytes` is
- *       out of its range, or P is; a table's length does not fit
+ *       out of its range, or P is; a table's length does not fit, or
+ *       `multiplicities` is not as long as `pointers`
  *
  * \param blocks  N, 16 to 4,096.
  * \param roots   R, 1 to 8.
@@ -652,9 +674,10 @@ uint32_t negvask_write(NEGVASK_TABLES,
  *
  * Takes `count` blocks one by one, each the unallocated block nearest
  * the hint, the lower on a tie; without a hint the lowest. Each is
- * filled with zeros, and the reference block points to it. Its number is
- * put in the next place of `places`. Unmodified: the places after the
- * first `count`, keys, windows, and the contents of all other blocks.
+ * filled with zeros, and the reference block points to it, once. Its
+ * number is put in the next place of `places`. Unmodified: the places
+ * after the first `count`, keys, windows, and the contents of all other
+ * blocks.
  *
  * The caller provides `places` with at least `count` places and keeps it.
  *
@@ -691,7 +714,7 @@ uint32_t negvask_alloc(NEGVASK_TABLES,
  * longer stretch: the one whose first block is nearest the hint, the
  * lower on a tie; without a hint the lowest. A run that exists is always
  * found. Each of its blocks is filled with zeros, and the reference block
- * points to it. Its numbers are put in the first `count` places of
+ * points to it, once. Its numbers are put in the first `count` places of
  * `places`, ascending. Unmodified: the places after the first `count`,
  * keys, windows, and the contents of all other blocks.
  *
@@ -725,10 +748,14 @@ uint32_t negvask_alloc_contig(NEGVASK_TABLES,
 	uint16_t hint, uint8_t count, uint16_t *places, size_t places_len);
 
 /**
- * \brief Make a pointer from one block to another.
+ * \brief Make a pointer from one block to another, or one more where there
+ * is one.
  *
- * The pointer is added, M and the destination's count grow by 1.
- * Unmodified: flags, keys, windows, contents, and the record but for M.
+ * The pointer's multiplicity and the destination's count grow by 1. A
+ * pointer that is not there is added with multiplicity 1, and M grows by
+ * 1; one that is there takes no further place, so that this is done in a
+ * full table too. Unmodified: flags, keys, windows, contents, and the
+ * record but for M; for a pointer that is there, `pointers` and M too.
  *
  * Refusals, in order:
  *   13  `port` is neither 0 nor 1; a credential is ill formed
@@ -739,8 +766,9 @@ uint32_t negvask_alloc_contig(NEGVASK_TABLES,
  *       host's
  *   5   a host's credential does not open `source` for writing, then
  *       `destination` for writing
- *   7   `source` equals `destination`, or the pointer exists
- *   11  M equals P
+ *   7   `source` equals `destination`, or the pointer's multiplicity is
+ *       65,535
+ *   11  the pointer is not there, and M equals P
  *
  * \param port            NEGVASK_HOST or NEGVASK_SERVICE.
  * \param source          the block that is to point.
@@ -756,13 +784,15 @@ uint32_t negvask_create(NEGVASK_TABLES,
 	uint16_t destination, const uint8_t *second, size_t second_len);
 
 /**
- * \brief Take a pointer away, and free the block it led to if it was the
- * last one.
+ * \brief Take one pointer from a block to another away, and free the block
+ * it led to if it was the last one.
  *
- * M and the destination's count shrink by 1. At count 0 the destination
- * is freed: its flags, keys and windows become 0. `*value` is set to 1 if
- * it was freed, else to 0. Unmodified: contents, those of a freed block
- * too, and the rows of all other blocks.
+ * The pointer's multiplicity and the destination's count shrink by 1. At
+ * multiplicity 0 the pointer gives up its place, and M shrinks by 1. At
+ * count 0 the destination is freed: its flags, keys and windows become 0.
+ * `*value` is set to 1 if it was freed, else to 0. Unmodified: contents,
+ * those of a freed block too, and the rows of all other blocks; where the
+ * multiplicity does not become 0, `pointers` and M too.
  *
  * Refusals, in order:
  *   13  `port` is neither 0 nor 1; the credential is ill formed
@@ -792,7 +822,7 @@ uint32_t negvask_delete(NEGVASK_TABLES,
  * The block's read key is set to the new key, or taken away if there is
  * none. Both windows of the block become 0, also where the new key is the
  * one that it had, or none. Unmodified: the write key, counts, pointers,
- * contents, the record, and the rows of all other blocks.
+ * multiplicities, contents, the record, and the rows of all other blocks.
  *
  * A host needs what opens the block for writing: its write key or, without
  * one, a reference whose write window is open. The read key does not do.
@@ -824,7 +854,7 @@ uint32_t negvask_key_read(NEGVASK_TABLES,
  * The block's write key is set to the new key, or taken away if there is
  * none. Both windows of the block become 0, also where the new key is the
  * one that it had, or none. Unmodified: the read key, counts, pointers,
- * contents, the record, and the rows of all other blocks.
+ * multiplicities, contents, the record, and the rows of all other blocks.
  *
  * A host needs what opens the block for writing: its present write key
  * or, without one, a reference whose write window is open. The read key

@@ -342,7 +342,7 @@ REFUSALS = {
     4: "operand out of range",
     5: "not opened",
     6: "root",
-    7: "ends equal or pointer exists",
+    7: "ends equal or multiplicity at 65,535",
     8: "no such pointer",
     9: "destination has pointers of its own",
     10: "too few unallocated blocks",

@@ -15,8 +15,8 @@ mod model;
 
 use library::{credential_bytes, new_key_bytes, Direct, Lent, LentBatch, LentBuffers, Tables, HOST};
 use model::{
-    ends, key_words, word, Buffers, Call, Card, Credential, Key, Operation, Port, Progress, ALLOCATED, DAY, READ_KEY,
-    TIME_END, WRITE_KEY,
+    key_words, word, Buffers, Call, Card, Credential, Key, Operation, Port, Progress, ALLOCATED, DAY,
+    HIGHEST_MULTIPLICITY, READ_KEY, TIME_END, WRITE_KEY,
 };
 use std::cell::RefCell;
 use std::collections::BTreeSet;
@@ -44,6 +44,7 @@ mod plain {
             || card.counts.len() != n
             || places < 1
             || places > 16_384
+            || card.multiplicities.len() != places
             || card.windows.len() != 2 * n
             || card.contents.len() != n * b as usize
             || m > places
@@ -51,17 +52,18 @@ mod plain {
             return 1;
         }
         let flags = &card.flags[..n];
-        let mut found = [0u16; 4_096];
+        let mut found = [0u32; 4_096];
         let mut last = 0;
-        for &p in &card.pointers[..m] {
+        for (&p, &times) in card.pointers[..m].iter().zip(&card.multiplicities[..m]) {
             let (s, d) = ((p >> 16) as usize, (p & 65_535) as usize);
-            if p <= last || s >= n || d >= n || d < r || s == d || flags[s] & 1 == 0 || flags[d] & 1 == 0 {
+            if p <= last || s >= n || d >= n || d < r || s == d || flags[s] & 1 == 0 || flags[d] & 1 == 0 || times == 0
+            {
                 return 2;
             }
-            found[d] += 1;
+            found[d] += times as u32;
             last = p;
         }
-        if card.pointers[m..].iter().any(|&p| p != 0) {
+        if card.pointers[m..].iter().any(|&p| p != 0) || card.multiplicities[m..].iter().any(|&times| times != 0) {
             return 2;
         }
         let latest = t + DAY;
@@ -168,11 +170,13 @@ mod plain {
         0
     }
 
-    fn insert(card: &mut Card, pointer: u32) {
+    /// A new pointer at its place.
+    fn insert(card: &mut Card, at: usize, pointer: u32) {
         let m = card.info[3] as usize;
-        let at = card.pointers[..m].binary_search(&pointer).unwrap_or_else(|at| at);
         card.pointers.copy_within(at..m, at + 1);
         card.pointers[at] = pointer;
+        card.multiplicities.copy_within(at..m, at + 1);
+        card.multiplicities[at] = 1;
         card.info[3] += 1;
         card.counts[(pointer & 65_535) as usize] += 1;
     }
@@ -223,7 +227,9 @@ mod plain {
             let b = if lower { below as usize } else { above };
             card.flags[b] = ALLOCATED;
             card.contents[b * bytes..][..bytes].fill(0);
-            insert(card, word(r as usize, b));
+            let (m, pointer) = (card.info[3] as usize, word(r as usize, b));
+            let at = card.pointers[..m].partition_point(|&p| p < pointer);
+            insert(card, at, pointer);
             *place = b as u16;
         }
         0
@@ -262,9 +268,11 @@ mod plain {
         if m + count > card.pointers.len() {
             return 11;
         }
-        // The pointers to the run adjoin too, so the table moves once.
+        // The pointers to the run adjoin too, so the tables move once.
         let at = card.pointers[..m].partition_point(|&p| p < word(r as usize, first));
         card.pointers.copy_within(at..m, at + count);
+        card.multiplicities.copy_within(at..m, at + count);
+        card.multiplicities[at..at + count].fill(1);
         for (i, place) in places[..count].iter_mut().enumerate() {
             card.pointers[at + i] = word(r as usize, first + i);
             *place = (first + i) as u16;
@@ -292,15 +300,20 @@ mod plain {
                 return 5;
             }
         }
-        let m = card.info[3] as usize;
-        let pointer = word(s as usize, d as usize);
-        if s == d || card.pointers[..m].binary_search(&pointer).is_ok() {
+        if s == d {
             return 7;
         }
-        if m == card.pointers.len() {
-            return 11;
+        let m = card.info[3] as usize;
+        let pointer = word(s as usize, d as usize);
+        match card.pointers[..m].binary_search(&pointer) {
+            Ok(at) if card.multiplicities[at] == HIGHEST_MULTIPLICITY => return 7,
+            Ok(at) => {
+                card.multiplicities[at] += 1;
+                card.counts[d as usize] += 1;
+            }
+            Err(_) if m == card.pointers.len() => return 11,
+            Err(at) => insert(card, at, pointer),
         }
-        insert(card, pointer);
         0
     }
 
@@ -324,9 +337,14 @@ mod plain {
         if card.counts[d as usize] == 1 && own < m && card.pointers[own] >> 16 == d as u32 {
             return 9;
         }
-        card.pointers.copy_within(at + 1..m, at);
-        card.pointers[m - 1] = 0;
-        card.info[3] -= 1;
+        card.multiplicities[at] -= 1;
+        if card.multiplicities[at] == 0 {
+            card.pointers.copy_within(at + 1..m, at);
+            card.pointers[m - 1] = 0;
+            card.multiplicities.copy_within(at + 1..m, at);
+            card.multiplicities[m - 1] = 0;
+            card.info[3] -= 1;
+        }
         let d = d as usize;
         card.counts[d] -= 1;
         *value = (card.counts[d] == 0) as u64;
@@ -526,9 +544,10 @@ mod plain {
     pub fn pass(card: &Card) -> u64 {
         let wide = card.keys.iter().chain(&card.windows).fold(0u64, |a, &w| a.wrapping_add(w));
         let pointers = card.pointers.iter().fold(0u32, |a, &p| a.wrapping_add(p));
-        let counts = card.counts.iter().fold(0u16, |a, &c| a.wrapping_add(c));
+        let narrow = card.counts.iter().fold(pointers, |a, &c| a.wrapping_add(c));
+        let times = card.multiplicities.iter().fold(0u16, |a, &t| a.wrapping_add(t));
         let flags = card.flags.iter().fold(0u8, |a, &f| a.wrapping_add(f));
-        wide.wrapping_add(pointers as u64).wrapping_add(counts as u64).wrapping_add(flags as u64)
+        wide.wrapping_add(narrow as u64).wrapping_add(times as u64).wrapping_add(flags as u64)
     }
 }
 
@@ -574,6 +593,7 @@ fn card(size: Size, taken: &[usize], spare: usize) -> Card {
         keys: vec![0; 4 * n],
         counts: vec![0; n],
         pointers: vec![0; size.places],
+        multiplicities: vec![0; size.places],
         windows: vec![0; 2 * n],
         contents: vec![1; n * 512],
     };
@@ -593,13 +613,14 @@ fn card(size: Size, taken: &[usize], spare: usize) -> Card {
             pointers.insert(word(s, d));
         }
     }
-    card.info[3] = pointers.len() as u64;
-    for (i, p) in pointers.into_iter().enumerate() {
-        card.pointers[i] = p;
-        card.counts[ends(p).1] += 1;
-    }
+    card.draw_pointers(often(pointers));
     assert_eq!(plain::audit(&card), 0);
     card
+}
+
+/// The pointers with multiplicities 1 to 3 in turn.
+fn often(pointers: BTreeSet<u32>) -> Vec<(u32, u16)> {
+    pointers.into_iter().zip((1..=3).cycle()).collect()
 }
 
 // ---- Measuring ----
@@ -886,11 +907,12 @@ fn filled_up(
 fn list_card(size: Size, pointers: BTreeSet<u32>, flags: impl Fn(usize) -> u8) -> Card {
     let n = size.blocks;
     let mut card = Card {
-        info: vec![n as u64, 1, 512, pointers.len() as u64, 1_000],
+        info: vec![n as u64, 1, 512, 0, 1_000],
         flags: (0..n).map(|b| ALLOCATED | flags(b)).collect(),
         keys: vec![0; 4 * n],
         counts: vec![0; n],
         pointers: vec![0; size.places],
+        multiplicities: vec![0; size.places],
         windows: vec![0; 2 * n],
         contents: vec![1; n * 512],
     };
@@ -901,10 +923,7 @@ fn list_card(size: Size, pointers: BTreeSet<u32>, flags: impl Fn(usize) -> u8) -
             }
         }
     }
-    for (i, p) in pointers.into_iter().enumerate() {
-        card.pointers[i] = p;
-        card.counts[ends(p).1] += 1;
-    }
+    card.draw_pointers(often(pointers));
     assert_eq!(plain::audit(&card), 0);
     card
 }
@@ -1081,17 +1100,10 @@ fn deepest() -> (&'static str, usize) {
         ("WRITE", Direct::Write { port: 0, block: 2, credential: key.clone(), interval: 10, data: vec![3; 512] }),
         ("ALLOC 63", Direct::Alloc { port: 0, reference: 1, credential: key.clone(), hint: 2_048, count: 63 }),
         ("CONTIG 64", Direct::AllocContig { port: 0, reference: 1, credential: key.clone(), hint: 2_048, count: 64 }),
-        (
-            "CREATE",
-            Direct::Create {
-                port: 0,
-                source: 1,
-                source_credential: key.clone(),
-                destination: 2,
-                destination_credential: key.clone(),
-            },
-        ),
-        ("DELETE", Direct::Delete { port: 0, source: 1, credential: key.clone(), destination: 2 }),
+        ("CREATE", create_call(2)),
+        (CREATE_AGAIN, create_call(2)),
+        (DELETE_ONE, delete_call(2)),
+        ("DELETE", delete_call(2)),
         ("KEY_READ", Direct::KeyRead { port: 0, block: 2, credential: key.clone(), key: new.clone() }),
         ("KEY_WRITE", Direct::KeyWrite { port: 0, block: 2, credential: key.clone(), key: new }),
         ("RENEW", Direct::Renew { mode: 1, block: 2, key: credential_bytes(Credential::Key(WRITER)), interval: 10 }),
@@ -1135,6 +1147,70 @@ struct Row {
 /// ALLOC or ALLOC_CONTIG by the plain version.
 type PlainAlloc = fn(&mut Card, u16, Key, u16, u8, &mut [u16]) -> u32;
 
+/// CREATE and DELETE of a pointer that is there already, and stays.
+const CREATE_AGAIN: &str = "CREATE again";
+const DELETE_ONE: &str = "DELETE one of 2";
+
+/// A pointer from block 1, which is near the front, so that most of the table moves where it comes or goes.
+fn create_call(destination: u16) -> Direct {
+    let key = credential_bytes(Credential::Key(WRITER));
+    Direct::Create { port: 0, source: 1, source_credential: key.clone(), destination, destination_credential: key }
+}
+
+fn delete_call(destination: u16) -> Direct {
+    Direct::Delete { port: 0, source: 1, credential: credential_bytes(Credential::Key(WRITER)), destination }
+}
+
+fn library_all(side: &mut Side, calls: &[Direct]) -> Duration {
+    timed(|| calls.iter().for_each(|call| done(side.tables.call(call, &mut side.buffers))))
+}
+
+fn plain_create_all(side: &mut Side, destinations: &[u16]) -> Duration {
+    timed(|| destinations.iter().for_each(|&d| done(plain::create(&mut side.plain, 1, d, WRITER))))
+}
+
+fn plain_delete_all(side: &mut Side, destinations: &[u16]) -> Duration {
+    let mut value = 0;
+    timed(|| destinations.iter().for_each(|&d| done(plain::delete(&mut side.plain, 1, d, WRITER, &mut value))))
+}
+
+/// CREATE from block 1 to a batch of blocks, CREATE of the same once more, and DELETE that undoes both.
+fn pointer_rows(size: Size, pass: f64) -> Vec<Row> {
+    let spare = card(size, &scattered(size), size.batch);
+    let mut s = side(spare.clone());
+    let destinations: Vec<u16> =
+        (2..size.blocks).filter(|&b| spare.flags[b] != 0).take(size.batch).map(|b| b as u16).collect();
+    let (d, creates): (&[u16], Vec<Direct>) = (&destinations, destinations.iter().map(|&d| create_call(d)).collect());
+    let deletes: Vec<Direct> = destinations.iter().map(|&d| delete_call(d)).collect();
+    let [create, plain_create, again, plain_again, one, plain_one, delete, plain_delete] = in_turns(
+        &mut s,
+        size.batch,
+        [
+            &|s| library_all(s, &creates),
+            &|s| plain_create_all(s, d),
+            &|s| library_all(s, &creates),
+            &|s| plain_create_all(s, d),
+            &|s| library_all(s, &deletes),
+            &|s| plain_delete_all(s, d),
+            &|s| library_all(s, &deletes),
+            &|s| plain_delete_all(s, d),
+        ],
+    );
+    assert_eq!(s.tables.difference(&spare), None, "the calls have changed the card");
+    assert_eq!(s.tables.difference(&s.plain), None, "library and plain version differ");
+    let (make, take) = (&creates[0], &deletes[0]);
+    let row = |call, library, plain, before: &[&Direct], timed| {
+        let model = model_time(&spare, before, timed);
+        Row { call, size, library, plain, model, floor: pass, against: plain, target: Some(1.5) }
+    };
+    vec![
+        row("CREATE", create, plain_create, &[], make),
+        row(CREATE_AGAIN, again, plain_again, &[make], make),
+        row("DELETE", delete, plain_delete, &[make], take),
+        row(DELETE_ONE, one, plain_one, &[make, make], take),
+    ]
+}
+
 fn rows(size: Size) -> Vec<Row> {
     let key = |k: Key| credential_bytes(Credential::Key(k));
     let calls = if size.blocks == 16 { 64 } else { 4 };
@@ -1172,42 +1248,6 @@ fn rows(size: Size) -> Vec<Row> {
     let tick_call = Direct::Tick { seconds: 0 };
     let tick = repeated(s, calls, &tick_call, |c, _| done(plain::tick(c, 0, black_box(&mut 0))));
     let full_model = |call: &Direct| model_time(&full, &[], call);
-    assert_eq!(s.tables.difference(&s.plain), None, "library and plain version differ");
-
-    // CREATE from block 1 to a batch of blocks, then DELETE: pointers near the front, so that most of the table moves.
-    let batch = size.batch;
-    let spare = card(size, &scattered(size), batch);
-    let mut side_spare = side(spare.clone());
-    let s = &mut side_spare;
-    let destinations: Vec<u16> =
-        (2..size.blocks).filter(|&b| s.plain.flags[b] != 0).take(batch).map(|b| b as u16).collect();
-    let creates: Vec<Direct> = destinations
-        .iter()
-        .map(|&d| Direct::Create {
-            port: 0,
-            source: 1,
-            source_credential: key(WRITER),
-            destination: d,
-            destination_credential: key(WRITER),
-        })
-        .collect();
-    let deletes: Vec<Direct> = destinations
-        .iter()
-        .map(|&d| Direct::Delete { port: 0, source: 1, credential: key(WRITER), destination: d })
-        .collect();
-    let library_all =
-        |s: &mut Side, calls: &[Direct]| timed(|| calls.iter().for_each(|c| done(s.tables.call(c, &mut s.buffers))));
-    let plain_create =
-        |s: &mut Side| timed(|| destinations.iter().for_each(|&d| done(plain::create(&mut s.plain, 1, d, WRITER))));
-    let plain_delete = |s: &mut Side| {
-        let mut value = 0;
-        timed(|| destinations.iter().for_each(|&d| done(plain::delete(&mut s.plain, 1, d, WRITER, &mut value))))
-    };
-    let [create, plain_create, delete, plain_delete] = in_turns(
-        s,
-        batch,
-        [&|s| library_all(s, &creates), &|s| plain_create(s), &|s| library_all(s, &deletes), &|s| plain_delete(s)],
-    );
     assert_eq!(s.tables.difference(&s.plain), None, "library and plain version differ");
 
     // ALLOC and ALLOC_CONTIG from block 1 by a hint in the middle; the blocks are freed again outside the time.
@@ -1256,9 +1296,6 @@ fn rows(size: Size) -> Vec<Row> {
         allot(&one_run(size, count as usize), count, &request, plain::alloc_contig)
     };
 
-    let create_model = model_time(&spare, &[], &creates[0]);
-    let delete_model = model_time(&spare, &[&creates[0]], &deletes[0]);
-
     let row = |call, library, plain, model, floor, against, target| Row {
         call,
         size,
@@ -1270,8 +1307,9 @@ fn rows(size: Size) -> Vec<Row> {
         target,
     };
     let transfer = Some(if size.blocks == SIZES[0].blocks { 1.25 } else { 1.1 });
+    let auditing = Some(if size.blocks == SIZES[2].blocks { 1.1 } else { 1.5 });
     let mut rows = vec![
-        row("AUDIT", audit[0], audit[1], full_model(&Direct::Audit), pass, audit[1], Some(1.5)),
+        row("AUDIT", audit[0], audit[1], full_model(&Direct::Audit), pass, audit[1], auditing),
         row("READ", read[0], read[1], full_model(&read_call), pass + copy, read[2], transfer),
         row("WRITE", write[0], write[1], full_model(&write_call), pass + copy, write[2], transfer),
     ];
@@ -1286,8 +1324,7 @@ fn rows(size: Size) -> Vec<Row> {
         let ([run, plain_run], model_run) = contig(3);
         rows.push(row("CONTIG 3", run, plain_run, model_run, pass + 3.0 * copy, plain_run, None));
     }
-    rows.push(row("CREATE", create, plain_create, create_model, pass, plain_create, Some(1.5)));
-    rows.push(row("DELETE", delete, plain_delete, delete_model, pass, plain_delete, Some(1.5)));
+    rows.extend(pointer_rows(size, pass));
     let (read_model, write_model) = (full_model(&read_key_call), full_model(&write_key_call));
     rows.push(row("KEY_READ", read_key[0], read_key[1], read_model, pass, read_key[1], Some(1.5)));
     rows.push(row("KEY_WRITE", write_key[0], write_key[1], write_model, pass, write_key[1], Some(1.5)));
@@ -1329,8 +1366,8 @@ fn main() {
     }
     println!();
     println!("Targets: AUDIT against the plain audit; READ and WRITE against the library's own audit plus a copy of");
-    println!("B bytes; ALLOC 64, CONTIG 64, CREATE, DELETE, KEY_READ, KEY_WRITE and RENEW against the plain call,");
-    println!("audit included.");
+    println!("B bytes; ALLOC 64, CONTIG 64, CREATE, CREATE again, DELETE, DELETE one of 2, KEY_READ, KEY_WRITE and");
+    println!("RENEW against the plain call, audit included.");
     println!();
     println!("| growth of | from | to | N + P grows | library grows | plain grows |");
     println!("| --- | --- | --- | ---: | ---: | ---: |");

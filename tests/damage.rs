@@ -1,10 +1,10 @@
 //! Damage to a sound card, one clause of shape or soundness at a time.
 
-use crate::model::{ends, word, Card, ALLOCATED, DAY, READ_KEY, TIME_END, WRITE_KEY};
+use crate::model::{ends, word, Card, ALLOCATED, DAY, HIGHEST_MULTIPLICITY, READ_KEY, TIME_END, WRITE_KEY};
 use crate::random_card::Random;
 
 /// Ways to damage a sound card, by clause of shape and of soundness.
-pub const DAMAGES: [&str; 54] = [
+pub const DAMAGES: [&str; 62] = [
     "record short",
     "record long",
     "record empty",
@@ -35,6 +35,8 @@ pub const DAMAGES: [&str; 54] = [
     "counts long",
     "no pointers",
     "16385 pointers",
+    "multiplicities short",
+    "multiplicities long",
     "windows short",
     "windows long",
     "contents short",
@@ -49,6 +51,8 @@ pub const DAMAGES: [&str; 54] = [
     "pointers not ascending",
     "pointer twice",
     "pointer past M",
+    "multiplicity 0 within M",
+    "multiplicity past M",
     "M one more",
     "M one less",
     "source past N or free",
@@ -57,12 +61,16 @@ pub const DAMAGES: [&str; 54] = [
     "equal ends",
     "count too high",
     "count too low",
+    "count of the places alone",
+    "multiplicity too high",
+    "multiplicity too low",
+    "multiplicities exchanged",
     "allocated without pointer",
     "window past T + 86400",
 ];
 
 /// The first of them are faults of shape, the others of soundness.
-pub const SHAPE_DAMAGES: usize = 34;
+pub const SHAPE_DAMAGES: usize = 36;
 
 /// Damages the card; false where this card has no place for it.
 pub fn damage(rnd: &mut Random, card: &mut Card, which: usize) -> bool {
@@ -70,16 +78,14 @@ pub fn damage(rnd: &mut Random, card: &mut Card, which: usize) -> bool {
     let all: Vec<usize> = (0..n).collect();
     let allocated: Vec<usize> = all.iter().copied().filter(|&b| card.allocated(b)).collect();
     let free: Vec<usize> = all.iter().copied().filter(|&b| !card.allocated(b)).collect();
-    // Replaces one pointer, keeping order and counts right, so that only the clause in question fails.
-    let replace = |card: &mut Card, at: usize, new: u32| {
-        let old = card.pointers[at];
-        card.counts[ends(old).1] -= 1;
-        if ends(new).1 < n {
-            card.counts[ends(new).1] += 1;
-        }
-        card.pointers[at] = new;
-        card.pointers[..m].sort();
+    let used: Vec<(u32, u16)> = card.in_use().collect();
+    // These change or add one pointer, keeping order and counts right, so that only the clause in question fails.
+    let replace = |card: &mut Card, at: usize, new: (u32, u16)| {
+        let mut used = used.clone();
+        used[at] = new;
+        card.draw_pointers(used);
     };
+    let add = |card: &mut Card, new: (u32, u16)| card.draw_pointers(used.iter().copied().chain([new]).collect());
     // Gives every table the length that the record then asks for, so that only the range fails. Costly, so not always.
     let fit = |rnd: &mut Random, card: &mut Card| {
         let (n, b) = (card.info[0] as usize, card.info[2] as usize);
@@ -140,9 +146,15 @@ pub fn damage(rnd: &mut Random, card: &mut Card, which: usize) -> bool {
         "counts long" => card.counts.push(0),
         "no pointers" => {
             card.pointers.clear();
+            card.multiplicities.clear();
             card.info[3] = 0;
         }
-        "16385 pointers" => card.pointers.resize(16_385, 0),
+        "16385 pointers" => {
+            card.pointers.resize(16_385, 0);
+            card.multiplicities.resize(16_385, 0);
+        }
+        "multiplicities short" => card.multiplicities.truncate(p - 1),
+        "multiplicities long" => card.multiplicities.push(rnd.of(&[0, 1])),
         "windows short" => card.windows.truncate(2 * n - 1),
         "windows long" => card.windows.push(0),
         "contents short" => card.contents.truncate(card.contents.len() - 1),
@@ -163,7 +175,9 @@ pub fn damage(rnd: &mut Random, card: &mut Card, which: usize) -> bool {
         "unallocated with a key word" if !free.is_empty() => {
             card.keys[4 * rnd.of(&free) + rnd.below(4) as usize] = rnd.of(&[1, 1 << 63, u64::MAX]);
         }
-        "unallocated with a count" if !free.is_empty() => card.counts[rnd.of(&free)] = rnd.of(&[1, 256, 65_535]),
+        "unallocated with a count" if !free.is_empty() => {
+            card.counts[rnd.of(&free)] = rnd.of(&[1, 256, 65_536, u32::MAX])
+        }
         "unallocated with a window" if !free.is_empty() => {
             card.windows[2 * rnd.of(&free) + rnd.below(2) as usize] =
                 rnd.of(&[1, card.info[4].max(1), card.info[4] + 1]);
@@ -179,32 +193,41 @@ pub fn damage(rnd: &mut Random, card: &mut Card, which: usize) -> bool {
         "pointers not ascending" if m >= 2 => {
             let i = rnd.below(m as u64 - 1) as usize;
             card.pointers.swap(i, i + 1);
+            card.multiplicities.swap(i, i + 1);
         }
         "pointer twice" if m >= 1 && m < p => {
-            let i = rnd.below(m as u64) as usize;
-            let pointer = card.pointers[i];
-            card.pointers[m] = pointer;
-            card.info[3] += 1;
-            card.pointers[..m + 1].sort();
-            card.counts[ends(pointer).1] += 1;
+            let pointer = rnd.of(&used).0;
+            add(card, (pointer, rnd.of(&[1, 2])));
         }
         "pointer past M" if m < p => {
             let i = rnd.of(&[m as u64, p as u64 - 1]) as usize;
             card.pointers[i] = rnd.of(&[1, 65_536, u32::MAX, word(n - 1, n - 2)]);
         }
+        "multiplicity 0 within M" if m > 0 => {
+            let i = rnd.below(m as u64) as usize;
+            let (pointer, times) = used[i];
+            if card.counts[ends(pointer).1] == times as u32 {
+                return false;
+            }
+            replace(card, i, (pointer, 0));
+        }
+        "multiplicity past M" if m < p => {
+            let i = rnd.of(&[m as u64, p as u64 - 1]) as usize;
+            card.multiplicities[i] = rnd.of(&[1, 256, HIGHEST_MULTIPLICITY]);
+        }
         "M one more" if m < p => card.info[3] += 1,
         "M one less" if m > 0 => card.info[3] -= 1,
         "source past N or free" if m > 0 => {
             let i = rnd.below(m as u64) as usize;
-            let destination = ends(card.pointers[i]).1;
+            let destination = ends(used[i].0).1;
             let source = if free.is_empty() || rnd.percent(50) { rnd.of(&[n, 65_535]) } else { rnd.of(&free) };
-            replace(card, i, word(source, destination));
+            replace(card, i, (word(source, destination), used[i].1));
         }
         "destination past N or free" if m > 0 => {
             let i = rnd.below(m as u64) as usize;
-            let source = ends(card.pointers[i]).0;
+            let source = ends(used[i].0).0;
             let destination = if free.is_empty() || rnd.percent(50) { rnd.of(&[n, 65_535]) } else { rnd.of(&free) };
-            replace(card, i, word(source, destination));
+            replace(card, i, (word(source, destination), used[i].1));
         }
         "destination a root" if m < p => {
             let destination = rnd.below(r as u64) as usize;
@@ -212,31 +235,55 @@ pub fn damage(rnd: &mut Random, card: &mut Card, which: usize) -> bool {
             if source == destination {
                 return false;
             }
-            card.pointers[m] = word(source, destination);
-            card.info[3] += 1;
-            card.pointers[..m + 1].sort();
-            card.counts[destination] += 1;
+            add(card, (word(source, destination), 1));
         }
         "equal ends" if m < p => {
             let b = rnd.of(&allocated);
             if b < r {
                 return false;
             }
-            card.pointers[m] = word(b, b);
-            card.info[3] += 1;
-            card.pointers[..m + 1].sort();
-            card.counts[b] += 1;
+            add(card, (word(b, b), 1));
         }
+        // By 65,536: the same in its low 16 bits.
         "count too high" => {
             let b = rnd.of(&allocated);
-            card.counts[b] = rnd.of(&[card.counts[b] + 1, card.counts[b] + 256, 65_535]);
+            card.counts[b] = rnd.of(&[card.counts[b] + 1, card.counts[b] + 256, card.counts[b] + 65_536, u32::MAX]);
         }
         "count too low" => {
             let b = rnd.of(&allocated);
             if card.counts[b] == 0 {
                 return false;
             }
-            card.counts[b] -= 1;
+            card.counts[b] -= if card.counts[b] > 65_536 { rnd.of(&[1, 65_536]) } else { 1 };
+        }
+        "count of the places alone" if m > 0 => {
+            let b = ends(rnd.of(&used).0).1;
+            let places = used.iter().filter(|(pointer, _)| ends(*pointer).1 == b).count() as u32;
+            if card.counts[b] == places {
+                return false;
+            }
+            card.counts[b] = places;
+        }
+        "multiplicity too high" if m > 0 => {
+            let i = rnd.below(m as u64) as usize;
+            if card.multiplicities[i] == HIGHEST_MULTIPLICITY {
+                return false;
+            }
+            card.multiplicities[i] += 1;
+        }
+        "multiplicity too low" if m > 0 => {
+            let i = rnd.below(m as u64) as usize;
+            if card.multiplicities[i] == 1 {
+                return false;
+            }
+            card.multiplicities[i] -= 1;
+        }
+        "multiplicities exchanged" if m >= 2 => {
+            let i = rnd.below(m as u64 - 1) as usize;
+            if ends(used[i].0).1 == ends(used[i + 1].0).1 || used[i].1 == used[i + 1].1 {
+                return false;
+            }
+            card.multiplicities.swap(i, i + 1);
         }
         "allocated without pointer" if !free.is_empty() => card.flags[rnd.of(&free)] = ALLOCATED,
         "window past T + 86400" => {

@@ -27,7 +27,10 @@ mod wires;
 use batch::{batches, Batches};
 use damage::{damage, DAMAGES, SHAPE_DAMAGES};
 use library::{Direct, LentBuffers, Tables, HOST, SERVICE};
-use model::{number, port_of, Buffers, Call, Card, Operation, Port, HOST_KINDS, READ_KEY, SERVICE_KINDS, WRITE_KEY};
+use model::{
+    number, port_of, word, Buffers, Call, Card, Operation, Port, CANNOT_POINT, HAS_POINTERS, HIGHEST_MULTIPLICITY,
+    HOST_KINDS, NO_PLACE, READ_KEY, SERVICE_KINDS, WRITE_KEY,
+};
 use random_call::{buffers, random_format, spoilt_record, Chooser};
 use random_card::{random_card, random_size, Random, Size, KEYS};
 use reach::Reports;
@@ -152,6 +155,111 @@ fn window_changes() -> Vec<WindowChange> {
     changes
 }
 
+/// How often a pointer is there.
+#[derive(Clone, Copy, Debug, PartialEq, Eq, PartialOrd, Ord)]
+enum Times {
+    Never,
+    Once,
+    Twice,
+    More,
+    JustBelowHighest,
+    Highest,
+}
+
+impl Times {
+    fn of(multiplicity: u16) -> Self {
+        match multiplicity {
+            0 => Times::Never,
+            1 => Times::Once,
+            2 => Times::Twice,
+            HIGHEST_MULTIPLICITY => Times::Highest,
+            _ if multiplicity == HIGHEST_MULTIPLICITY - 1 => Times::JustBelowHighest,
+            _ => Times::More,
+        }
+    }
+}
+
+/// More often than once.
+const REPEATED: [Times; 4] = [Times::Twice, Times::More, Times::JustBelowHighest, Times::Highest];
+
+/// What a CREATE between two blocks finds: its port, how often the pointer is there, and whether the table is full. What
+/// becomes of multiplicity and count shows in the cards.
+type Creation = (Port, Times, bool);
+
+/// The answers of a CREATE that comes to its pointer, if its ends differ.
+const CREATION_ANSWERS: [u32; 3] = [0, CANNOT_POINT, NO_PLACE];
+
+fn creation(card: &Card, port: Port, call: &Call) -> Option<Creation> {
+    let Call::Create { source, destination, .. } = call else { return None };
+    if !card.shaped() || source == destination {
+        return None;
+    }
+    Some((port, Times::of(card.multiplicity(*source as usize, *destination as usize)), card.full()))
+}
+
+/// Every such CREATE with its answer: only a new pointer needs a place.
+fn creations() -> Vec<(Creation, u32)> {
+    let mut all = Vec::new();
+    for port in [Port::Host, Port::Service] {
+        for full in [false, true] {
+            all.push(((port, Times::Never, full), if full { NO_PLACE } else { 0 }));
+            for times in [Times::Once].into_iter().chain(REPEATED) {
+                all.push(((port, times, full), if times == Times::Highest { CANNOT_POINT } else { 0 }));
+            }
+        }
+    }
+    all
+}
+
+/// What a DELETE finds of a pointer: its port, how often the pointer is there, whether another block points to the
+/// destination too, and whether the destination has pointers of its own.
+type Deletion = (Port, Times, bool, bool);
+
+/// The answers of a DELETE of a pointer that is there.
+const DELETION_ANSWERS: [u32; 2] = [0, HAS_POINTERS];
+
+fn deletion(card: &Card, port: Port, call: &Call) -> Option<Deletion> {
+    let Call::Delete { source, destination, .. } = call else { return None };
+    let (s, d) = (*source as usize, *destination as usize);
+    if !card.shaped() || !card.allocated(d) {
+        return None;
+    }
+    let times = card.multiplicity(s, d);
+    Some((port, Times::of(times), card.counts[d] > times as u32, card.has_pointers(d)))
+}
+
+/// Every such DELETE with its answer: 9 is for the last of all pointers to a block.
+fn deletions() -> Vec<(Deletion, u32)> {
+    let mut all = Vec::new();
+    for port in [Port::Host, Port::Service] {
+        for (others, own) in [(false, false), (false, true), (true, false), (true, true)] {
+            all.push(((port, Times::Once, others, own), if own && !others { HAS_POINTERS } else { 0 }));
+            all.extend(REPEATED.map(|times| ((port, times, others, own), 0)));
+        }
+    }
+    all
+}
+
+/// Whether each pointer is there as often as before, with those that the done call made and without the one that it took.
+fn counted(before: &Card, after: &Card, call: &Call, places: &[u16]) -> bool {
+    let mut pointers: BTreeMap<u32, u64> = before.in_use().map(|(pointer, times)| (pointer, times as u64)).collect();
+    let mut make = |source: u16, destination: u16| {
+        *pointers.entry(word(source as usize, destination as usize)).or_default() += 1;
+    };
+    match call {
+        Call::Create { source, destination, .. } => make(*source, *destination),
+        Call::Alloc { reference, count, .. } | Call::AllocContig { reference, count, .. } => {
+            places[..*count as usize].iter().for_each(|&b| make(*reference, b));
+        }
+        Call::Delete { source, destination, .. } => {
+            *pointers.entry(word(*source as usize, *destination as usize)).or_default() -= 1;
+        }
+        _ => {}
+    }
+    pointers.retain(|_, times| *times > 0);
+    after.in_use().map(|(pointer, times)| (pointer, times as u64)).eq(pointers)
+}
+
 /// A block of which a window ends sooner than before, though the call neither shut its windows nor freed it.
 fn cut(before: &Card, after: &Card, call: &Call) -> Option<usize> {
     let shut = match call {
@@ -168,6 +276,8 @@ struct Reached {
     counts: BTreeMap<(usize, usize, u8, u32), u64>,
     key_changes: BTreeMap<KeyChange, u64>,
     window_changes: BTreeMap<WindowChange, u64>,
+    creations: BTreeMap<(Creation, u32), u64>,
+    deletions: BTreeMap<(Deletion, u32), u64>,
     damages: BTreeMap<usize, u64>,
     calls: u64,
 }
@@ -288,6 +398,8 @@ impl Reached {
         missing.extend(self.without_call());
         missing.extend(sorts("key change", &self.key_changes, &key_changes()));
         missing.extend(sorts("window change", &self.window_changes, &window_changes()));
+        missing.extend(sorts("CREATE", &self.creations, &creations()));
+        missing.extend(sorts("DELETE", &self.deletions, &deletions()));
         println!(
             "damage: {} ways, each refused {} times or more",
             self.damages.len(),
@@ -302,17 +414,17 @@ impl Reached {
     }
 }
 
-/// Counts a change, if there is one.
+/// Counts what a call came to, if there is something.
 fn count<T: Ord>(counts: &mut BTreeMap<T, u64>, change: Option<T>) {
     if let Some(change) = change {
         *counts.entry(change).or_default() += 1;
     }
 }
 
-/// Prints how often each sort of change was done; gives those that were not.
-fn sorts<T: Ord + std::fmt::Debug>(name: &str, done: &BTreeMap<T, u64>, all: &[T]) -> Vec<String> {
-    println!("{name}s: {} sorts, each done {} times or more", done.len(), done.values().min().unwrap_or(&0));
-    all.iter().filter(|change| !done.contains_key(change)).map(|change| format!("{name}: {change:?}")).collect()
+/// Prints how often each sort was reached; gives those that were not.
+fn sorts<T: Ord + std::fmt::Debug>(name: &str, reached: &BTreeMap<T, u64>, all: &[T]) -> Vec<String> {
+    println!("{name}s: {} sorts, each {} times or more", reached.len(), reached.values().min().unwrap_or(&0));
+    all.iter().filter(|sort| !reached.contains_key(sort)).map(|sort| format!("{name}: {sort:?}")).collect()
 }
 
 // ---- Library against model ----
@@ -335,7 +447,8 @@ impl Bench {
         self.model = card;
     }
 
-    /// The model's answer. A refusal must have changed nothing, and a done call must have cut no window.
+    /// The model's answer. A refusal must have changed nothing, and a done call must have cut no window and have counted
+    /// each pointer.
     fn expect(&mut self, step: &Step, buffers: &mut Buffers) -> Result<u32, String> {
         let small = self.model.contents.len() <= 1 << 16;
         let before = (small.then(|| self.model.clone()), buffers.clone());
@@ -354,6 +467,9 @@ impl Bench {
             if let Some(b) = cut(before, &self.model, &call) {
                 return Err(format!("the model let a window of block {b} end sooner"));
             }
+            if !counted(before, &self.model, &call, &buffers.places) {
+                return Err("the model has not each pointer as often as it was made".to_string());
+            }
         }
         Ok(answer)
     }
@@ -364,11 +480,16 @@ impl Bench {
         let mut expected = lent.clone();
         let key = step.plain().and_then(|(port, call)| key_change(&self.model, port, &call));
         let window = step.plain().and_then(|(port, call)| window_change(&self.model, port, &call));
+        let creation = step.plain().and_then(|(port, call)| creation(&self.model, port, &call));
+        let deletion = step.plain().and_then(|(port, call)| deletion(&self.model, port, &call));
         let answer = self.expect(step, &mut expected)?;
         if answer == 0 {
             count(&mut reached.key_changes, key);
             count(&mut reached.window_changes, window);
         }
+        let answered = |answers: &[u32]| answers.contains(&answer).then_some(answer);
+        count(&mut reached.creations, creation.zip(answered(&CREATION_ANSWERS)));
+        count(&mut reached.deletions, deletion.zip(answered(&DELETION_ANSWERS)));
         let (by_function, by_record) = step.routes();
         if let Some(call) = &by_function {
             let mut buffers = LentBuffers::new(lent);

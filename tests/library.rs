@@ -6,7 +6,7 @@ use crate::model::{credential_of, new_key_of, port_of, Buffers, Call, Card, Cred
 pub const HOST: u8 = 0;
 pub const SERVICE: u8 = 1;
 
-/// Declares functions that all begin with the record and the six tables.
+/// Declares functions that all begin with the record and the seven tables.
 macro_rules! library {
     ($($name:ident($($operand:ident: $kind:ty),*);)*) => {
         extern "C" {
@@ -14,8 +14,9 @@ macro_rules! library {
                 info: *mut u64, info_len: usize,
                 flags: *mut u8, flags_len: usize,
                 keys: *mut u64, keys_len: usize,
-                counts: *mut u16, counts_len: usize,
+                counts: *mut u32, counts_len: usize,
                 pointers: *mut u32, pointers_len: usize,
+                multiplicities: *mut u16, multiplicities_len: usize,
                 windows: *mut u64, windows_len: usize,
                 contents: *mut u8, contents_len: usize,
                 $($operand: $kind),*
@@ -97,8 +98,9 @@ pub struct Tables {
     pub info: Lent<u64>,
     pub flags: Lent<u8>,
     pub keys: Lent<u64>,
-    pub counts: Lent<u16>,
+    pub counts: Lent<u32>,
     pub pointers: Lent<u32>,
+    pub multiplicities: Lent<u16>,
     pub windows: Lent<u64>,
     pub contents: Lent<u8>,
 }
@@ -113,6 +115,7 @@ macro_rules! with_tables {
                 $t.keys.pointer(), $t.keys.length(),
                 $t.counts.pointer(), $t.counts.length(),
                 $t.pointers.pointer(), $t.pointers.length(),
+                $t.multiplicities.pointer(), $t.multiplicities.length(),
                 $t.windows.pointer(), $t.windows.length(),
                 $t.contents.pointer(), $t.contents.length(),
                 $($operand),*
@@ -231,8 +234,9 @@ impl Tables {
             info: Lent::new(&card.info, 0xA5A5_A5A5_A5A5_A5A5),
             flags: Lent::new(&card.flags, 0xA5),
             keys: Lent::new(&card.keys, 0xA5A5_A5A5_A5A5_A5A5),
-            counts: Lent::new(&card.counts, 0xA5A5),
+            counts: Lent::new(&card.counts, 0xA5A5_A5A5),
             pointers: Lent::new(&card.pointers, 0xA5A5_A5A5),
+            multiplicities: Lent::new(&card.multiplicities, 0xA5A5),
             windows: Lent::new(&card.windows, 0xA5A5_A5A5_A5A5_A5A5),
             contents: Lent::new(&card.contents, 0xA5),
         }
@@ -244,6 +248,7 @@ impl Tables {
         self.keys.load(&card.keys);
         self.counts.load(&card.counts);
         self.pointers.load(&card.pointers);
+        self.multiplicities.load(&card.multiplicities);
         self.windows.load(&card.windows);
         self.contents.load(&card.contents);
     }
@@ -255,6 +260,7 @@ impl Tables {
             .or_else(|| differs("keys", &self.keys, &model.keys))
             .or_else(|| differs("counts", &self.counts, &model.counts))
             .or_else(|| differs("pointers", &self.pointers, &model.pointers))
+            .or_else(|| differs("multiplicities", &self.multiplicities, &model.multiplicities))
             .or_else(|| differs("windows", &self.windows, &model.windows))
     }
 
@@ -270,6 +276,7 @@ impl Tables {
             keys: self.keys.values().to_vec(),
             counts: self.counts.values().to_vec(),
             pointers: self.pointers.values().to_vec(),
+            multiplicities: self.multiplicities.values().to_vec(),
             windows: self.windows.values().to_vec(),
             contents: self.contents.values().to_vec(),
         }

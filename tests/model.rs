@@ -7,6 +7,7 @@
 pub const DAY: u64 = 86_400;
 pub const TIME_END: u64 = 1 << 40;
 pub const NO_HINT: u16 = 65_535;
+pub const HIGHEST_MULTIPLICITY: u16 = 65_535;
 
 pub const ALLOCATED: u8 = 1;
 pub const READ_KEY: u8 = 2;
@@ -18,7 +19,7 @@ pub const NO_BLOCK: u32 = 3;
 pub const BAD_OPERAND: u32 = 4;
 pub const NOT_OPENED: u32 = 5;
 pub const ROOT: u32 = 6;
-pub const POINTER_EXISTS: u32 = 7;
+pub const CANNOT_POINT: u32 = 7;
 pub const NO_POINTER: u32 = 8;
 pub const HAS_POINTERS: u32 = 9;
 pub const NO_SPACE: u32 = 10;
@@ -34,15 +35,16 @@ pub const NO_ROOM: u32 = 257;
 /// What a call answers: done, or the refusal's number.
 pub type Answer = Result<(), u32>;
 
-/// The record and the six tables that the caller lends.
+/// The record and the seven tables that the caller lends.
 #[derive(Clone, Debug, PartialEq, Default)]
 pub struct Card {
     /// N, R, B, M, T. A record of another length is out of shape.
     pub info: Vec<u64>,
     pub flags: Vec<u8>,
     pub keys: Vec<u64>,
-    pub counts: Vec<u16>,
+    pub counts: Vec<u32>,
     pub pointers: Vec<u32>,
+    pub multiplicities: Vec<u16>,
     pub windows: Vec<u64>,
     pub contents: Vec<u8>,
 }
@@ -155,6 +157,7 @@ impl Card {
             && self.keys.len() == 4 * n
             && self.counts.len() == n
             && (1..=16_384).contains(&self.pointers.len())
+            && self.multiplicities.len() == self.pointers.len()
             && self.windows.len() == 2 * n
             && self.contents.len() == n * bytes as usize
     }
@@ -169,11 +172,13 @@ impl Card {
 
     /// Soundness of a card in shape.
     pub fn sound(&self) -> bool {
-        let used = &self.pointers[..self.used()];
-        let rest = &self.pointers[self.used()..];
+        let (used, rest) = self.pointers.split_at(self.used());
+        let (times, other_times) = self.multiplicities.split_at(self.used());
         (0..self.blocks()).all(|b| self.block_sound(b))
             && used.windows(2).all(|pair| pair[0] < pair[1])
             && rest.iter().all(|&p| p == 0)
+            && times.iter().all(|&t| t >= 1)
+            && other_times.iter().all(|&t| t == 0)
             && used.iter().all(|&p| self.pointer_sound(p))
     }
 
@@ -191,7 +196,7 @@ impl Card {
             && (allocated || unallocated_is_zero)
             && (flags & READ_KEY != 0 || keys[..2] == [0, 0])
             && (flags & WRITE_KEY != 0 || keys[2..] == [0, 0])
-            && self.counts[b] as usize == self.pointers_to(b)
+            && self.counts[b] as u64 == self.pointers_to(b)
             && (!allocated || root || self.counts[b] >= 1)
             && windows.iter().all(|&end| end <= self.time() + DAY)
     }
@@ -218,16 +223,32 @@ impl Card {
         b < self.roots()
     }
 
-    pub fn pointers_to(&self, b: usize) -> usize {
-        self.pointers[..self.used()].iter().filter(|&&p| ends(p).1 == b).count()
+    /// The pointers in use, each with its multiplicity.
+    pub fn in_use(&self) -> impl Iterator<Item = (u32, u16)> + '_ {
+        self.pointers[..self.used()].iter().copied().zip(self.multiplicities.iter().copied())
+    }
+
+    /// How many pointers lead to the block, each as often as it is there.
+    pub fn pointers_to(&self, b: usize) -> u64 {
+        self.in_use().filter(|&(p, _)| ends(p).1 == b).map(|(_, times)| times as u64).sum()
     }
 
     pub fn has_pointers(&self, b: usize) -> bool {
         self.pointers[..self.used()].iter().any(|&p| ends(p).0 == b)
     }
 
+    /// How often one block points to another; 0 where it does not.
+    pub fn multiplicity(&self, source: usize, destination: usize) -> u16 {
+        self.in_use().find(|&(p, _)| ends(p) == (source, destination)).map_or(0, |(_, times)| times)
+    }
+
     pub fn points(&self, source: usize, destination: usize) -> bool {
-        self.pointers[..self.used()].iter().any(|&p| ends(p) == (source, destination))
+        self.multiplicity(source, destination) >= 1
+    }
+
+    /// Whether no place is left for a further pointer.
+    pub fn full(&self) -> bool {
+        self.used() == self.pointers.len()
     }
 
     pub fn free_blocks(&self) -> usize {
@@ -285,24 +306,46 @@ impl Card {
         self.windows[2 * b + operation as usize] = present.max(end);
     }
 
-    fn set_pointers(&mut self, mut used: Vec<u32>) {
+    /// Puts these pointers with their multiplicities, ascending, in place of those that there are.
+    fn set_pointers(&mut self, mut used: Vec<(u32, u16)>) {
         used.sort();
         self.info[3] = used.len() as u64;
         self.pointers.fill(0);
-        self.pointers[..used.len()].copy_from_slice(&used);
+        self.multiplicities.fill(0);
+        for (i, (pointer, times)) in used.into_iter().enumerate() {
+            self.pointers[i] = pointer;
+            self.multiplicities[i] = times;
+        }
+    }
+
+    /// The same for a card that is drawn, with the counts that the pointers make; a damaged one may lead past N.
+    pub fn draw_pointers(&mut self, used: Vec<(u32, u16)>) {
+        self.counts.fill(0);
+        for &(pointer, times) in &used {
+            if let Some(count) = self.counts.get_mut(ends(pointer).1) {
+                *count += times as u32;
+            }
+        }
+        self.set_pointers(used);
+    }
+
+    /// Lets one block point to another so often; a pointer of multiplicity 0 has no place.
+    fn set_multiplicity(&mut self, source: usize, destination: usize, times: u16) {
+        let pointer = word(source, destination);
+        let mut used: Vec<(u32, u16)> = self.in_use().filter(|&(p, _)| p != pointer).collect();
+        if times > 0 {
+            used.push((pointer, times));
+        }
+        self.set_pointers(used);
     }
 
     fn add_pointer(&mut self, source: usize, destination: usize) {
-        let mut used = self.pointers[..self.used()].to_vec();
-        used.push(word(source, destination));
-        self.set_pointers(used);
+        self.set_multiplicity(source, destination, self.multiplicity(source, destination) + 1);
         self.counts[destination] += 1;
     }
 
-    fn drop_pointer(&mut self, source: usize, destination: usize) {
-        let mut used = self.pointers[..self.used()].to_vec();
-        used.retain(|&p| p != word(source, destination));
-        self.set_pointers(used);
+    fn take_pointer(&mut self, source: usize, destination: usize) {
+        self.set_multiplicity(source, destination, self.multiplicity(source, destination) - 1);
         self.counts[destination] -= 1;
     }
 
@@ -336,6 +379,7 @@ impl Card {
         self.keys.fill(0);
         self.counts.fill(0);
         self.pointers.fill(0);
+        self.multiplicities.fill(0);
         self.windows.fill(0);
         self.contents[..(roots * bytes) as usize].fill(0);
         Ok(())
@@ -456,8 +500,8 @@ impl Card {
         refuse_if(self.root(d) || (self.root(s) && port == Port::Host), ROOT)?;
         refuse_if(!self.admitted(port, source_credential, s, Writing), NOT_OPENED)?;
         refuse_if(!self.admitted(port, destination_credential, d, Writing), NOT_OPENED)?;
-        refuse_if(s == d || self.points(s, d), POINTER_EXISTS)?;
-        refuse_if(self.used() == self.pointers.len(), NO_PLACE)?;
+        refuse_if(s == d || self.multiplicity(s, d) == HIGHEST_MULTIPLICITY, CANNOT_POINT)?;
+        refuse_if(!self.points(s, d) && self.full(), NO_PLACE)?;
         self.add_pointer(s, d);
         Ok(())
     }
@@ -478,7 +522,7 @@ impl Card {
         refuse_if(!self.admitted(port, credential, s, Writing), NOT_OPENED)?;
         refuse_if(!self.points(s, d), NO_POINTER)?;
         refuse_if(self.counts[d] == 1 && self.has_pointers(d), HAS_POINTERS)?;
-        self.drop_pointer(s, d);
+        self.take_pointer(s, d);
         let freed = self.counts[d] == 0;
         if freed {
             self.flags[d] = 0;

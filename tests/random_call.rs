@@ -2,8 +2,8 @@
 
 use crate::library::{credential_bytes, new_key_bytes, Direct, Raw};
 use crate::model::{
-    ends, Buffers, Card, Credential, Key, Operation, ALLOCATED, DAY, HOST_KINDS, NO_HINT, READ_KEY, SERVICE_KINDS,
-    TIME_END, WRITE_KEY,
+    ends, Buffers, Card, Credential, Key, Operation, ALLOCATED, DAY, HIGHEST_MULTIPLICITY, HOST_KINDS, NO_HINT,
+    READ_KEY, SERVICE_KINDS, TIME_END, WRITE_KEY,
 };
 use crate::random_card::{Random, KEYS};
 
@@ -258,13 +258,7 @@ impl Chooser {
                 Direct::Alloc { port, reference, credential, hint, count: self.count(rnd, card) }
             }
             47..=59 => {
-                let mut source = self.block(rnd, card);
-                let mut destination = self.block(rnd, card);
-                if rnd.percent(8) {
-                    (source, destination) = self.pointer(rnd, card);
-                } else if rnd.percent(4) {
-                    destination = source;
-                }
+                let (source, destination) = self.ends_to_join(rnd, card);
                 Direct::Create {
                     port,
                     source,
@@ -343,6 +337,28 @@ impl Chooser {
         match self.some(rnd, card, |b| card.windows[2 * b] > time) {
             Some(b) => card.windows[2 * b] - time - rnd.below(2),
             None => 1,
+        }
+    }
+
+    /// The ends of a pointer for CREATE: any blocks, the ends of a pointer that is there, or equal ones.
+    fn ends_to_join(&self, rnd: &mut Random, card: &Card) -> (u16, u16) {
+        let source = self.block(rnd, card);
+        match rnd.below(20) {
+            0..=3 => self.pointer(rnd, card),
+            4..=7 => self.often_made(rnd, card),
+            8 => (source, source),
+            _ => (source, self.block(rnd, card)),
+        }
+    }
+
+    /// A pointer of the highest multiplicity or just below it, if there is one.
+    fn often_made(&self, rnd: &mut Random, card: &Card) -> (u16, u16) {
+        let m = card.used();
+        let start = rnd.below(m.max(1) as u64) as usize;
+        let mut places = (0..m).map(|i| (start + i) % m);
+        match places.find(|&i| card.multiplicities[i] >= HIGHEST_MULTIPLICITY - 1) {
+            Some(i) => (ends(card.pointers[i]).0 as u16, ends(card.pointers[i]).1 as u16),
+            None => self.pointer(rnd, card),
         }
     }
 

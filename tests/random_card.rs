@@ -1,6 +1,6 @@
 //! Random choice from a seed, and random sound cards.
 
-use crate::model::{ends, word, Card, Key, ALLOCATED, DAY, READ_KEY, TIME_END, WRITE_KEY};
+use crate::model::{word, Card, Key, ALLOCATED, DAY, HIGHEST_MULTIPLICITY, READ_KEY, TIME_END, WRITE_KEY};
 use std::collections::BTreeSet;
 
 /// splitmix64
@@ -78,6 +78,20 @@ pub fn random_size(rnd: &mut Random) -> Size {
     Size { blocks, roots: rnd.within(1, 8), bytes, places }
 }
 
+/// How often a pointer is there: once or, in so many of a hundred cases, more often, up to the highest multiplicity.
+fn random_multiplicity(rnd: &mut Random, repeated: u64) -> u16 {
+    if !rnd.percent(repeated) {
+        return 1;
+    }
+    match rnd.below(8) {
+        0..=2 => 2,
+        3 => rnd.within(3, 9) as u16,
+        4 => rnd.within(3, HIGHEST_MULTIPLICITY as u64 - 2) as u16,
+        5 => HIGHEST_MULTIPLICITY - 1,
+        _ => HIGHEST_MULTIPLICITY,
+    }
+}
+
 /// A sound card of that size, anything else by chance.
 pub fn random_card(rnd: &mut Random, size: Size) -> Card {
     let (n, r, b, p) = (size.blocks as usize, size.roots as usize, size.bytes as usize, size.places as usize);
@@ -94,6 +108,7 @@ pub fn random_card(rnd: &mut Random, size: Size) -> Card {
         keys: vec![0; 4 * n],
         counts: vec![0; n],
         pointers: vec![0; p],
+        multiplicities: vec![0; p],
         windows: vec![0; 2 * n],
         contents: vec![0; n * b],
     };
@@ -132,11 +147,8 @@ pub fn random_card(rnd: &mut Random, size: Size) -> Card {
             pointers.insert(word(source, destination));
         }
     }
-    card.info[3] = pointers.len() as u64;
-    for (i, pointer) in pointers.into_iter().enumerate() {
-        card.pointers[i] = pointer;
-        card.counts[ends(pointer).1] += 1;
-    }
+    let repeated = rnd.of(&[0, 20, 60]);
+    card.draw_pointers(pointers.into_iter().map(|pointer| (pointer, random_multiplicity(rnd, repeated))).collect());
 
     let (keyed, windowed) = (rnd.below(90), rnd.below(90));
     for &b in &allocated {

@@ -169,20 +169,20 @@ fn key(low: u64) -> Key {
 /// A card of so many blocks with a root, these pointers, and these keys: block, read key and write key, 0 for none.
 fn card_of(n: usize, pointers: &[(usize, usize)], keys: &[(usize, u64, u64)]) -> Card {
     let mut card = Card {
-        info: vec![n as u64, 1, 512, pointers.len() as u64, 0],
+        info: vec![n as u64, 1, 512, 0, 0],
         flags: vec![0; n],
         keys: vec![0; 4 * n],
         counts: vec![0; n],
         pointers: vec![0; 2 * n],
+        multiplicities: vec![0; 2 * n],
         windows: vec![0; 2 * n],
         contents: vec![0; 512 * n],
     };
     card.flags[0] = ALLOCATED;
-    for (i, &(source, destination)) in pointers.iter().enumerate() {
-        card.pointers[i] = word(source, destination);
-        card.counts[destination] += 1;
-        card.flags[destination] |= ALLOCATED;
-    }
+    pointers.iter().for_each(|&(_, destination)| card.flags[destination] = ALLOCATED);
+    // What is within reach does not depend on how often a block points to another.
+    let often = (1..=3).cycle();
+    card.draw_pointers(pointers.iter().zip(often).map(|(&(s, d), times)| (word(s, d), times)).collect());
     for &(b, read, write) in keys {
         for (flag, at, low) in [(READ_KEY, 4 * b, read), (WRITE_KEY, 4 * b + 2, write)] {
             if low != 0 {
@@ -269,18 +269,13 @@ fn rows_by_hand() -> Result<(), String> {
 /// Allots two blocks that point to each other and to which no way leads from a root, if there is room for them.
 fn lose_two(card: &mut Card) {
     let free: Vec<usize> = (0..card.blocks()).filter(|&b| !card.allocated(b)).collect();
-    let m = card.used();
-    if free.len() < 2 || m + 2 > card.pointers.len() {
+    if free.len() < 2 || card.used() + 2 > card.pointers.len() {
         return;
     }
     let (one, other) = (free[0], free[free.len() - 1]);
-    card.pointers[m..m + 2].copy_from_slice(&[word(one, other), word(other, one)]);
-    card.pointers[..m + 2].sort();
-    card.info[3] += 2;
-    for b in [one, other] {
-        card.flags[b] = ALLOCATED;
-        card.counts[b] = 1;
-    }
+    let lost = [(word(one, other), 1), (word(other, one), 2)];
+    card.draw_pointers(card.in_use().chain(lost).collect());
+    [one, other].into_iter().for_each(|b| card.flags[b] = ALLOCATED);
 }
 
 /// A sound card with windows mostly shut and more sealed blocks than by chance, many by keys of their own.

@@ -32,13 +32,16 @@ pub struct Secrecy {
     runs: u64,
     read_keys: u64,
     write_keys: u64,
+    /// CREATE and DELETE that are done and leave M as it is.
+    raised: u64,
+    lowered: u64,
 }
 
 impl Secrecy {
     pub fn summary(&self) -> String {
         format!(
-            "{} sessions, {} calls ({} done, {} of them READ, {} ALLOC_CONTIG, {} KEY_READ, {} KEY_WRITE), \
-             {} hidden blocks ({} of them freed)",
+            "{} sessions, {} calls ({} done, {} of them READ, {} ALLOC_CONTIG, {} KEY_READ, {} KEY_WRITE, {} CREATE and \
+             {} DELETE of a pointer that stays), {} hidden blocks ({} of them freed)",
             self.sessions,
             self.calls,
             self.done,
@@ -46,6 +49,8 @@ impl Secrecy {
             self.runs,
             self.read_keys,
             self.write_keys,
+            self.raised,
+            self.lowered,
             self.hidden,
             self.freed
         )
@@ -59,6 +64,8 @@ impl Secrecy {
             ("ALLOC_CONTIG done", self.runs),
             ("KEY_READ done", self.read_keys),
             ("KEY_WRITE done", self.write_keys),
+            ("CREATE done on a pointer that is there", self.raised),
+            ("DELETE done of one of several", self.lowered),
         ];
         seen.iter().filter(|(_, count)| *count == 0).map(|(what, _)| format!("secrecy: {what}")).collect()
     }
@@ -202,8 +209,9 @@ impl Pair {
 
 // ---- Sessions of calls ----
 
-/// A host's calls with what is lent to them, chosen along the model's card, of which they see no contents.
-fn random_session(rnd: &mut Random, start: &Card) -> Result<Vec<(Direct, Call, Buffers)>, String> {
+/// A host's calls with what is lent to them, chosen along the model's card, of which they see no contents. Notes the
+/// CREATE and DELETE that leave M there as it is.
+fn random_session(rnd: &mut Random, start: &Card, seen: &mut Secrecy) -> Result<Vec<(Direct, Call, Buffers)>, String> {
     let known: Vec<Key> = (0..rnd.below(5)).map(|_| rnd.of(&KEYS)).collect();
     let chooser = Chooser::any(true, &known);
     let mut guide = start.clone();
@@ -212,7 +220,10 @@ fn random_session(rnd: &mut Random, start: &Card) -> Result<Vec<(Direct, Call, B
         let direct = chooser.call(rnd, &guide);
         let lent = buffers(rnd, &guide, Some(&direct));
         let (port, call) = direct.plain().ok_or("a host call of the session is ill formed")?;
-        let _ = guide.perform(port, &call, &mut lent.clone());
+        let used = guide.used();
+        let stays = guide.perform(port, &call, &mut lent.clone()).is_ok() && guide.used() == used;
+        seen.raised += (stays && matches!(call, Call::Create { .. })) as u64;
+        seen.lowered += (stays && matches!(call, Call::Delete { .. })) as u64;
         session.push((direct, call, lent));
     }
     Ok(session)
@@ -221,7 +232,7 @@ fn random_session(rnd: &mut Random, start: &Card) -> Result<Vec<(Direct, Call, B
 /// One session of calls.
 pub fn secrecy(rnd: &mut Random, seen: &mut Secrecy) -> Result<(), String> {
     let start = starting_card(rnd)?;
-    let session = random_session(rnd, &start)?;
+    let session = random_session(rnd, &start, seen)?;
     let presented: Vec<Key> = session.iter().flat_map(|(_, call, _)| presented_by(call)).collect();
     let mut pair = Pair::new(rnd, start, &presented)?;
     let by_record = rnd.percent(50);
@@ -300,7 +311,7 @@ fn presented_by_records(input: &[u8]) -> Vec<Key> {
 
 /// A host's records, of which one may be spoilt or made one of the service port.
 fn host_bytes(rnd: &mut Random, start: &Card, seen: &mut ByteSecrecy) -> Result<Vec<u8>, String> {
-    let session = random_session(rnd, start)?;
+    let session = random_session(rnd, start, &mut seen.counts)?;
     let records = session.iter().filter_map(|(direct, _, _)| direct.record());
     let mut input: Vec<u8> = records.flat_map(|(kind, body)| [vec![kind], body].concat()).collect();
     match rnd.below(10) {

@@ -1,36 +1,98 @@
-//! The documents' own trials, on library and model: the example of ten records, T1 to T12, and rows of the requests
-//! 2026-01 and 2026-02.
+//! The documents' own trials, on library and model: the example of ten records, T1 to T12, and rows of the requests.
 
 use crate::compare;
 use crate::library::{self, Direct, LentBatch, LentBuffers, Tables};
-use crate::model::{self, number, Buffers, Call, Card, Credential, Key, Port, Progress, MALFORMED, NO_HINT};
+use crate::model::{
+    self, number, word, Buffers, Call, Card, Credential, Key, Port, Progress, ALLOCATED, CANNOT_POINT,
+    HIGHEST_MULTIPLICITY, MALFORMED, NO_HINT, NO_POINTER,
+};
 use crate::random_card::KEYS;
 
 pub const SERVICE: Port = Port::Service;
 pub const HOST: Port = Port::Host;
 
-/// A fresh player's card: N 16, R 1, B 512, P 32, contents zero, formatted by the library.
+/// A row of trials: its name, and each call with its port and its line as the player prints it, without the ordinal.
+type Row = (&'static str, Vec<(Port, Call, &'static str)>);
+
+/// A card on library and model.
 pub struct Player {
     pub model: Card,
     pub tables: Tables,
 }
 
+/// Tables of a card with N blocks of 512 bytes and P places, all zero.
+fn blank(blocks: usize, places: usize) -> Card {
+    Card {
+        info: vec![0; 5],
+        flags: vec![0; blocks],
+        keys: vec![0; 4 * blocks],
+        counts: vec![0; blocks],
+        pointers: vec![0; places],
+        multiplicities: vec![0; places],
+        windows: vec![0; 2 * blocks],
+        contents: vec![0; 512 * blocks],
+    }
+}
+
 impl Player {
+    /// A fresh player's card: N 16, R 1, B 512, P 32, contents zero, formatted by the library.
     pub fn new() -> Self {
-        let mut model = Card {
-            info: vec![0; 5],
-            flags: vec![0; 16],
-            keys: vec![0; 64],
-            counts: vec![0; 16],
-            pointers: vec![0; 32],
-            windows: vec![0; 32],
-            contents: vec![0; 8192],
-        };
-        let mut tables = Tables::new(&model);
+        let mut player = Player::of(blank(16, 32));
         let mut none = LentBuffers::new(&Buffers { out: vec![], places: vec![], value: 0 });
         let format = Direct::Format { blocks: 16, roots: 1, bytes: 512 };
-        assert_eq!((tables.call(&format, &mut none), model.format(16, 1, 512)), (0, Ok(())));
-        Player { model, tables }
+        assert_eq!((player.tables.call(&format, &mut none), player.model.format(16, 1, 512)), (0, Ok(())));
+        player
+    }
+
+    fn of(model: Card) -> Self {
+        Player { tables: Tables::new(&model), model }
+    }
+
+    /// A call by function at the service port, which must come to this answer and this number, 0 if there is none.
+    fn call(&mut self, call: &Call, comes_to: (u32, u64)) -> Result<(), String> {
+        let lent = Buffers { out: vec![], places: vec![], value: 0 };
+        let (mut expected, mut buffers) = (lent.clone(), LentBuffers::new(&lent));
+        let answer = number(self.model.perform(SERVICE, call, &mut expected));
+        let given = self.tables.call(&Direct::from(SERVICE, call), &mut buffers);
+        compare("trial by function", given, answer, &self.tables, &self.model, &buffers, &expected)?;
+        match (given, expected.value) == comes_to {
+            true => Ok(()),
+            false => Err(format!("{call:?} by function: {:?}, not {comes_to:?}", (given, expected.value))),
+        }
+    }
+
+    /// Bytes as a batch at a port: why it stopped, how far it went, and the answers.
+    fn batch(&mut self, port: u8, input: &[u8], room: usize) -> Result<(u32, Progress, Vec<u8>), String> {
+        let (mut answers, mut progress) = (vec![0xEE; room], Progress::default());
+        let mut lent = LentBatch::new(input, &answers, progress);
+        let given = self.tables.batch(port, &mut lent);
+        let stop = model::batch(&mut self.model, port, input, &mut answers, &mut progress);
+        let difference = lent.difference(input, &answers, progress).or(self.tables.difference(&self.model));
+        if given != stop || difference.is_some() {
+            return Err(format!("a batch at port {port}: stop {given}, by the model {stop}, {difference:?}"));
+        }
+        answers.truncate(progress.written as usize);
+        Ok((stop, progress, answers))
+    }
+
+    /// So many records of a call in one batch at the service port: the answers.
+    fn repeat(&mut self, call: &Call, times: usize) -> Result<Vec<u8>, String> {
+        let (kind, body) = Direct::from(SERVICE, call).record().ok_or("no record")?;
+        let input = [vec![kind], body].concat().repeat(times);
+        match self.batch(library::SERVICE, &input, 9 * times)? {
+            (0, _, answers) => Ok(answers),
+            (stop, progress, _) => Err(format!("{times} records of {call:?}: stop {stop}, {progress:?}")),
+        }
+    }
+
+    /// Whether the pointer from 0 to 1 is there so often, and so many pointers lead to block 1. The library has what the
+    /// model has.
+    fn holds(&self, times: u16, count: u32) -> Result<(), String> {
+        let found = (self.model.multiplicity(0, 1), self.model.counts[1]);
+        match found == (times, count) {
+            true => Ok(()),
+            false => Err(format!("multiplicity and count are {found:?}, not {:?}", (times, count))),
+        }
     }
 
     /// Plays a record on library and model, at the service port as the player does; its line as the player prints it,
@@ -64,17 +126,36 @@ fn example_batch(calls: &[(Port, Call, &str)]) -> Result<(), String> {
     let input: Vec<u8> = records.flat_map(|(kind, body)| [vec![kind], body].concat()).collect();
     let whole = Progress { records: 10, read: input.len() as u64, written: 1_070 };
     for (port, stop, progress) in [(library::SERVICE, 0, whole), (library::HOST, MALFORMED, Progress::default())] {
-        let mut player = Player::new();
-        let mut answers = vec![0xEE; 2_000];
-        let mut lent = LentBatch::new(&input, &answers, Progress::default());
-        let given = player.tables.batch(port, &mut lent);
-        model::batch(&mut player.model, port, &input, &mut answers, &mut Progress::default());
-        let difference = lent.difference(&input, &answers, progress).or(player.tables.difference(&player.model));
-        if given != stop || difference.is_some() {
-            return Err(format!("the example as a batch at port {port}: stop {given}, {difference:?}"));
+        let (given, went, _) = Player::new().batch(port, &input, 2_000)?;
+        if (given, went) != (stop, progress) {
+            return Err(format!("the example as a batch at port {port}: stop {given}, {went:?}"));
         }
     }
     Ok(())
+}
+
+/// A host's READ of a block of zeros.
+const ZEROS: &str = "1 0 0 0 0 0 0 0 0 0";
+
+fn alloc(hint: u16, count: u8) -> Call {
+    alloc_at(0, hint, count)
+}
+
+fn alloc_at(reference: u16, hint: u16, count: u8) -> Call {
+    Call::Alloc { reference, credential: Credential::Nothing, hint, count }
+}
+
+fn read(block: u16, credential: Credential, interval: u32) -> Call {
+    Call::Read { block, credential, interval }
+}
+
+fn create(source: u16, destination: u16) -> Call {
+    let (source_credential, destination_credential) = (Credential::Nothing, Credential::Nothing);
+    Call::Create { source, source_credential, destination, destination_credential }
+}
+
+fn delete(source: u16, destination: u16) -> Call {
+    Call::Delete { source, credential: Credential::Nothing, destination }
 }
 
 fn key_read(block: u16, credential: Credential, key: Option<Key>) -> Call {
@@ -92,7 +173,7 @@ fn one_key_alone() -> Result<(), String> {
     let reading = |key| key_read(1, Credential::Nothing, key);
     let writing = |key| key_write(1, Credential::Nothing, key);
     let mut player = Player::new();
-    player.play(SERVICE, Call::Alloc { reference: 0, credential: Credential::Nothing, hint: NO_HINT, count: 1 })?;
+    player.play(SERVICE, alloc(NO_HINT, 1))?;
     let calls = [
         (reading(read), false),
         (writing(write), true),
@@ -112,13 +193,125 @@ fn one_key_alone() -> Result<(), String> {
     Ok(())
 }
 
+/// Request 2026-05: "CREATE on an existing pointer adds one and uses no new place, so 11 doesn't arise then. DELETE takes
+/// one", and 9 is judged on the sum.
+fn multiplicity_rows() -> Vec<Row> {
+    let made_twice = vec![
+        (SERVICE, alloc(NO_HINT, 1), "131 0 1"),
+        (SERVICE, alloc_at(1, NO_HINT, 1), "131 0 2"),
+        (SERVICE, create(0, 1), "132 0"),
+        (SERVICE, delete(0, 1), "133 0 0"),
+        (SERVICE, delete(0, 1), "133 9"),
+        (SERVICE, delete(1, 2), "133 0 1"),
+        (SERVICE, delete(0, 1), "133 0 1"),
+        (SERVICE, delete(0, 1), "133 3"),
+        (HOST, Call::Free, "9 0 15"),
+    ];
+    // The pointer from 2 is there twice, that from 0 once: in whichever order they go, the third one frees.
+    let two_sources = vec![
+        (SERVICE, alloc(NO_HINT, 2), "131 0 1 2"),
+        (SERVICE, create(2, 1), "132 0"),
+        (SERVICE, create(2, 1), "132 0"),
+        (SERVICE, delete(2, 1), "133 0 0"),
+        (SERVICE, delete(0, 1), "133 0 0"),
+        (SERVICE, delete(0, 1), "133 8"),
+        (SERVICE, delete(2, 1), "133 0 1"),
+        (HOST, Call::Free, "9 0 14"),
+    ];
+    // Block 2 keeps block 1, which the root points to twice, once and not at all.
+    let by_reference = vec![
+        (SERVICE, alloc(NO_HINT, 2), "131 0 1 2"),
+        (SERVICE, create(2, 1), "132 0"),
+        (SERVICE, create(0, 1), "132 0"),
+        (HOST, read(0, Credential::Nothing, 10), ZEROS),
+        (HOST, read(1, Credential::Reference(0), 0), ZEROS),
+        (SERVICE, delete(0, 1), "133 0 0"),
+        (HOST, read(1, Credential::Reference(0), 0), ZEROS),
+        (SERVICE, delete(0, 1), "133 0 0"),
+        (HOST, read(1, Credential::Reference(0), 0), "1 5"),
+    ];
+    vec![
+        ("2026-05, made twice and taken twice", made_twice),
+        ("2026-05, two sources", two_sources),
+        ("2026-05, a reference", by_reference),
+        ("2026-05, a full table", full_table()),
+    ]
+}
+
+/// All 32 places: 15 pointers from 0, 14 from 1 and 3 from 2.
+fn full_table() -> Vec<(Port, Call, &'static str)> {
+    let mut calls = vec![(SERVICE, alloc(NO_HINT, 15), "131 0 1 2 3 4 5 6 7 8 9 10 11 12 13 14 15")];
+    calls.extend((2..=15).map(|b| (SERVICE, create(1, b), "132 0")));
+    calls.extend((3..=5).map(|b| (SERVICE, create(2, b), "132 0")));
+    calls.extend([
+        (SERVICE, create(2, 6), "132 11"),
+        (SERVICE, create(2, 5), "132 0"),
+        (SERVICE, create(1, 15), "132 0"),
+        (SERVICE, create(0, 1), "132 0"),
+        (SERVICE, create(2, 2), "132 7"),
+        (SERVICE, delete(2, 5), "133 0 0"),
+        (SERVICE, create(2, 6), "132 11"),
+        (SERVICE, delete(2, 5), "133 0 0"),
+        (SERVICE, create(2, 6), "132 0"),
+    ]);
+    calls
+}
+
+/// One pointer, from 0 to 1, of multiplicity 65,534: it is made once more and not twice, and taken one by one.
+fn highest_multiplicity() -> Result<(), String> {
+    let mut player = Player::new();
+    player.model.flags[1] = ALLOCATED;
+    player.model.draw_pointers(vec![(word(0, 1), HIGHEST_MULTIPLICITY - 1)]);
+    player = Player::of(player.model);
+    let (make, take) = (create(0, 1), delete(0, 1));
+    let calls = [(&make, 0, 65_535), (&make, 7, 65_535), (&take, 0, 65_534), (&take, 0, 65_533), (&make, 0, 65_534)];
+    for (call, answer, times) in calls {
+        player.call(call, (answer, 0))?;
+        player.holds(times, times as u32)?;
+    }
+    Ok(())
+}
+
+/// Calls alone make a pointer so often that the next is refused, beside one from another block, and take all away again.
+fn made_by_calls() -> Result<(), String> {
+    let most = HIGHEST_MULTIPLICITY as usize;
+    let mut player = Player::new();
+    player.play(SERVICE, alloc(NO_HINT, 2))?;
+    player.play(SERVICE, create(2, 1))?;
+    let made = player.repeat(&create(0, 1), most)?;
+    if made != [vec![0; most - 1], vec![CANNOT_POINT as u8]].concat() {
+        return Err("the pointer was not made 65,535 times and then refused".to_string());
+    }
+    player.holds(HIGHEST_MULTIPLICITY, 65_536)?;
+    let taken = player.repeat(&delete(0, 1), most + 1)?;
+    if taken != [vec![0; 9 * most], vec![NO_POINTER as u8]].concat() {
+        return Err("the pointer was not taken 65,535 times, and no more".to_string());
+    }
+    player.holds(0, 1)?;
+    player.call(&delete(2, 1), (0, 1))
+}
+
+/// As many pointers to a block as a card can have: 65,535 from each of 4,095 others. The root points to these.
+fn highest_count() -> Result<(), String> {
+    let most = 4_095 * HIGHEST_MULTIPLICITY as u32;
+    let mut card = blank(4_096, 16_384);
+    card.info = vec![4_096, 1, 512, 0, 0];
+    card.flags.fill(ALLOCATED);
+    let from_root = (2..4_096).map(|b| (word(0, b), 1));
+    let to_one = (0..4_096).filter(|&b| b != 1).map(|b| (word(b, 1), HIGHEST_MULTIPLICITY));
+    card.draw_pointers(from_root.chain(to_one).collect());
+    let mut player = Player::of(card);
+    let (make, take) = (create(4_095, 1), delete(4_095, 1));
+    for (call, answer, count) in [(&make, 7, most), (&take, 0, most - 1), (&make, 0, most)] {
+        player.call(call, (answer, 0))?;
+        player.holds(HIGHEST_MULTIPLICITY, count)?;
+    }
+    Ok(())
+}
+
 pub fn trials() -> Result<usize, String> {
     use Credential::{Nothing, Reference};
-    let alloc = |hint, count| Call::Alloc { reference: 0, credential: Nothing, hint, count };
     let contig = |hint, count| Call::AllocContig { reference: 0, credential: Nothing, hint, count };
-    let alloc_at = |reference, hint, count| Call::Alloc { reference, credential: Nothing, hint, count };
-    let read = |block, credential, interval| Call::Read { block, credential, interval };
-    let delete = |source, destination| Call::Delete { source, credential: Nothing, destination };
     let tick = |seconds| Call::Tick { seconds };
     let write = |block, credential| Call::Write { block, credential, interval: 0, data: vec![0; 512] };
     let fill = |block, interval| Call::Write { block, credential: Nothing, interval, data: vec![0; 512] };
@@ -136,8 +329,7 @@ pub fn trials() -> Result<usize, String> {
     ];
     let closed = [(HOST, read(2, Reference(1), 0), "1 5"), (HOST, write(2, Reference(1)), "2 5")];
     let by = Credential::Key;
-    let zeros = "1 0 0 0 0 0 0 0 0 0";
-    let rows: Vec<(&str, Vec<(Port, Call, &str)>)> = vec![
+    let mut rows: Vec<Row> = vec![
         (
             "the example",
             vec![
@@ -145,8 +337,8 @@ pub fn trials() -> Result<usize, String> {
                 (SERVICE, key_read(1, Nothing, key), "134 0"),
                 (HOST, read(1, Nothing, 0), "1 5"),
                 (HOST, Call::Free, "9 0 13"),
-                (HOST, read(0, Nothing, 10), zeros),
-                (HOST, read(2, Reference(0), 0), zeros),
+                (HOST, read(0, Nothing, 10), ZEROS),
+                (HOST, read(2, Reference(0), 0), ZEROS),
                 (HOST, tick(10), "10 0 10"),
                 (HOST, read(2, Reference(0), 0), "1 5"),
                 (SERVICE, delete(0, 2), "133 0 1"),
@@ -159,34 +351,19 @@ pub fn trials() -> Result<usize, String> {
         ("T4", vec![(SERVICE, alloc(NO_HINT, 15), "131 0 1 2 3 4 5 6 7 8 9 10 11 12 13 14 15")]),
         ("T5", vec![(SERVICE, alloc(NO_HINT, 16), "131 10")]),
         ("T6", vec![(SERVICE, alloc(NO_HINT, 0), "131 4"), (SERVICE, alloc(NO_HINT, 65), "131 4")]),
-        ("T7", vec![(HOST, read(0, Nothing, 86_400), zeros), (HOST, read(0, Nothing, 86_401), "1 4")]),
+        ("T7", vec![(HOST, read(0, Nothing, 86_400), ZEROS), (HOST, read(0, Nothing, 86_401), "1 4")]),
         (
             "T8",
             vec![
                 (SERVICE, alloc(NO_HINT, 1), "131 0 1"),
-                (HOST, read(0, Nothing, 10), zeros),
+                (HOST, read(0, Nothing, 10), ZEROS),
                 (HOST, tick(9), "10 0 9"),
-                (HOST, read(1, Reference(0), 0), zeros),
+                (HOST, read(1, Reference(0), 0), ZEROS),
                 (HOST, tick(1), "10 0 10"),
                 (HOST, read(1, Reference(0), 0), "1 5"),
             ],
         ),
-        (
-            "T9",
-            vec![
-                (SERVICE, alloc(NO_HINT, 1), "131 0 1"),
-                (
-                    SERVICE,
-                    Call::Create {
-                        source: 1,
-                        source_credential: Nothing,
-                        destination: 1,
-                        destination_credential: Nothing,
-                    },
-                    "132 7",
-                ),
-            ],
-        ),
+        ("T9", vec![(SERVICE, alloc(NO_HINT, 1), "131 0 1"), (SERVICE, create(1, 1), "132 7")]),
         (
             "T10",
             vec![
@@ -246,11 +423,11 @@ pub fn trials() -> Result<usize, String> {
             [
                 &both_keys[..],
                 &[(HOST, key_read(1, by(reader), Some(other)), "6 5")],
-                &[(HOST, read(2, Reference(1), 0), zeros), (HOST, write(2, Reference(1)), "2 0")],
+                &[(HOST, read(2, Reference(1), 0), ZEROS), (HOST, write(2, Reference(1)), "2 0")],
                 &[(HOST, key_read(1, by(writer), Some(other)), "6 0")],
                 &closed,
-                &[(HOST, read(1, by(reader), 0), "1 5"), (HOST, read(1, by(other), 0), zeros)],
-                &[(HOST, read(1, by(writer), 0), zeros), (HOST, write(1, by(writer)), "2 0")],
+                &[(HOST, read(1, by(reader), 0), "1 5"), (HOST, read(1, by(other), 0), ZEROS)],
+                &[(HOST, read(1, by(writer), 0), ZEROS), (HOST, write(1, by(writer)), "2 0")],
             ]
             .concat(),
         ),
@@ -259,11 +436,11 @@ pub fn trials() -> Result<usize, String> {
             [
                 &both_keys[..],
                 &[(HOST, key_write(1, by(reader), Some(other)), "13 5")],
-                &[(HOST, read(2, Reference(1), 0), zeros), (HOST, write(2, Reference(1)), "2 0")],
+                &[(HOST, read(2, Reference(1), 0), ZEROS), (HOST, write(2, Reference(1)), "2 0")],
                 &[(HOST, key_write(1, by(writer), Some(other)), "13 0")],
                 &closed,
                 &[(HOST, read(1, by(writer), 0), "1 5"), (HOST, write(1, by(writer)), "2 5")],
-                &[(HOST, read(1, by(reader), 0), zeros), (HOST, write(1, by(other)), "2 0")],
+                &[(HOST, read(1, by(reader), 0), ZEROS), (HOST, write(1, by(other)), "2 0")],
             ]
             .concat(),
         ),
@@ -284,10 +461,10 @@ pub fn trials() -> Result<usize, String> {
             "2026-04, a shorter READ",
             vec![
                 (SERVICE, alloc(NO_HINT, 1), "131 0 1"),
-                (HOST, read(0, Nothing, 10), zeros),
-                (HOST, read(0, Nothing, 5), zeros),
+                (HOST, read(0, Nothing, 10), ZEROS),
+                (HOST, read(0, Nothing, 5), ZEROS),
                 (HOST, tick(9), "10 0 9"),
-                (HOST, read(1, Reference(0), 0), zeros),
+                (HOST, read(1, Reference(0), 0), ZEROS),
                 (HOST, tick(1), "10 0 10"),
                 (HOST, read(1, Reference(0), 0), "1 5"),
             ],
@@ -297,7 +474,7 @@ pub fn trials() -> Result<usize, String> {
             "2026-04, a shorter WRITE",
             vec![
                 (SERVICE, alloc(NO_HINT, 1), "131 0 1"),
-                (HOST, read(0, Nothing, 20), zeros),
+                (HOST, read(0, Nothing, 20), ZEROS),
                 (HOST, fill(0, 10), "2 0"),
                 (HOST, fill(0, 5), "2 0"),
                 (HOST, tick(9), "10 0 9"),
@@ -311,15 +488,19 @@ pub fn trials() -> Result<usize, String> {
             [
                 &both_keys[..],
                 &[(HOST, renew(0, reader, 5), "7 0"), (HOST, renew(1, writer, 5), "7 0"), (HOST, tick(9), "10 0 9")],
-                &[(HOST, read(2, Reference(1), 0), zeros), (HOST, write(2, Reference(1)), "2 0")],
+                &[(HOST, read(2, Reference(1), 0), ZEROS), (HOST, write(2, Reference(1)), "2 0")],
                 &[(HOST, tick(1), "10 0 10")],
                 &closed,
             ]
             .concat(),
         ),
     ];
+    rows.extend(multiplicity_rows());
     example_batch(&rows[0].1)?;
     one_key_alone()?;
+    highest_multiplicity()?;
+    made_by_calls()?;
+    highest_count()?;
     for (name, calls) in &rows {
         let mut player = Player::new();
         for (i, (port, call, expected)) in calls.iter().enumerate() {
