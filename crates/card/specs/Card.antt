@@ -17,6 +17,7 @@ pub record Public : Type 0 where
   pub flags : List ℕ
   pub counts : List ℕ
   pub pointers : List ℕ
+  -- 2026-05, "in a table beside it": the number in a place is the multiplicity of the pointer in the same place.
   pub multiplicities : List ℕ
   pub windows : List ℕ
 
@@ -96,7 +97,7 @@ timesInUse p = take (p .info .used) (p .multiplicities)
 unfoldable pub multiplicity : Public → ℕ → ℕ → ℕ
 multiplicity p a b = beside (pointer a b) (inUse p) (timesInUse p)
 
--- Request 2026-05, "a multiplicity from 1 to 65,535".
+-- 2026-05, "a multiplicity from 1 to 65,535".
 abbrev pub highestMultiplicity : ℕ
 highestMultiplicity = 65535
 

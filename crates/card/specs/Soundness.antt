@@ -94,7 +94,7 @@ module _ (c : Card) (b : ℕ) where
   unfoldable pub absentKeyZero : Mode → Bool
   absentKeyZero mode = keyFlag mode (flag (c .public) b) || keyZero mode
 
-  -- Request 2026-05, "Counts .. equal the sum of multiplicities" of the pointers to that block.
+  -- 2026-05, "Counts .. equal the sum of multiplicities" of the pointers to that block.
   unfoldable pub countRight : Bool
   countRight = eqb (count (c .public) b) (pointersTo b (inUse (c .public)) (timesInUse (c .public)))
 
@@ -118,7 +118,7 @@ pointerRight p w =
     ∷ not (eqb (source w) (destination w))
     ∷ [])
 
--- Request 2026-05, "a multiplicity from 1 to 65,535"
+-- 2026-05, "a multiplicity from 1 to 65,535"
 unfoldable pub multiplicityRight : ℕ → Bool
 multiplicityRight n = leb 1 n && leb n highestMultiplicity
 

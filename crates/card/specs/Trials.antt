@@ -224,7 +224,7 @@ trialTable =
     ∷ read Host 1 (Reference 0) 0
     ∷ []
     yields (0 ∷ 1 ∷ []) ∷ (0 ∷ zeros8) ∷ (0 ∷ zeros8) ∷ (0 ∷ 9 ∷ []) ∷ (0 ∷ zeros8) ∷ (0 ∷ 10 ∷ []) ∷ (5 ∷ []) ∷ [])
-    -- request 2026-05: a pointer made twice is taken away twice, and 9 is judged on the sum
+    -- 2026-05: a pointer made twice is taken away twice, and 9 is judged on the sum
     ∷ (alloc Service 0 65535 1
     ∷ alloc Service 1 65535 1
     ∷ create Service 0 Nothing 1 Nothing
@@ -236,14 +236,14 @@ trialTable =
     ∷ free
     ∷ []
     yields (0 ∷ 1 ∷ []) ∷ (0 ∷ 2 ∷ []) ∷ (0 ∷ []) ∷ (0 ∷ 0 ∷ []) ∷ (9 ∷ []) ∷ (0 ∷ 1 ∷ []) ∷ (0 ∷ 1 ∷ []) ∷ (3 ∷ []) ∷ (0 ∷ 15 ∷ []) ∷ [])
-    -- a block is freed with its last pointer, whichever block it comes from
+    -- 2026-05: a block is freed with its last pointer, whichever block it comes from
     ∷ (alloc Service 0 65535 2
     ∷ create Service 2 Nothing 1 Nothing
     ∷ delete Service 0 1
     ∷ delete Service 2 1
     ∷ []
     yields (0 ∷ 1 ∷ 2 ∷ []) ∷ (0 ∷ []) ∷ (0 ∷ 0 ∷ []) ∷ (0 ∷ 1 ∷ []) ∷ [])
-    -- in a full table CREATE is done on a pointer that is there, and refused 11 for a new one
+    -- 2026-05: in a full table CREATE is done on a pointer that is there, and refused 11 for a new one
     ∷ (alloc Service 0 65535 15
     ∷ (map (λ b. create Service 1 Nothing b Nothing) (2 ∷ 3 ∷ 4 ∷ 5 ∷ 6 ∷ 7 ∷ 8 ∷ 9 ∷ 10 ∷ 11 ∷ 12 ∷ 13 ∷ 14 ∷ 15 ∷ [])
     ++ (create Service 2 Nothing 3 Nothing

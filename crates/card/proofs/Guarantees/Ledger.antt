@@ -1,5 +1,4 @@
 -- Each call changes multiplicities by just the pointers that it made and took away, and so does a list of calls.
--- Assumes nothing.
 use Prim.Native.Nat.{ℕ, zero, suc, _+_, _-_, _≤_, _<_}
 use mathlib.Core.Path.{_≡_, refl, sym, ap, _∙_, subst}
 use mathlib.Core.Logic.{⊎-elim}
