@@ -1,21 +1,20 @@
 -- Laws of a record found in an input: from what the code finds to what the rules decode.
 use Prim.Native.Nat.{ℕ, _+_, _-_, _≤_, _<_}
-use mathlib.Core.Path.{_≡_, refl, sym, ap, ap₂, _∙_, subst}
+use mathlib.Core.Path.{_≡_, sym, ap, ap₂, _∙_, subst}
 use mathlib.Core.Bool.{Bool, cond}
 use mathlib.Core.List.{List, _∷_}
 use native.Mathlib.Omega.{arith}
 use native.Mathlib.Numerals.{add-one}
 use lib.ListN.{length, take, drop, getD, length-drop}
 use lib.Seq.{take-all, drop-cons, drop-drop, drop-length}
-use borrow.Author.Tests.{lt-ltb, le-ltb, lt-leb}
+use borrow.Author.Tests.{lt-ltb, le-ltb}
 use Rattle.card.specs.declared.Port.{Port}
 use Rattle.card.specs.declared.Call.{Call}
-use Rattle.kinds.specs.Kinds.{lengthOf, dataLength, operandsLength, kindOf, kindLength, bodyLength}
-use Rattle.records.specs.Decode.{ended, sent, decodeKnown, decodeBody, nameOf, dataOf, nextOf, decode}
+use Rattle.kinds.specs.Kinds.{lengthOf, dataLength, operandsLength, kindOf, bodyLength}
+use Rattle.records.specs.Decode.{ended, sent, decodeBody, nameOf, dataOf, nextOf, decode}
+use Rattle.records.specs.DecodeLaws.{unknown-kind, short-kind}
 use Rattle.kinds.specs.KindsLaws.{data-right}
 use Rattle.records.specs.Parsed.{ParsedIs}
-use Rattle.kinds.specs.declared.Kind.{Kind}
-use Rattle.kinds.specs.declared.Kind.the-variants.{Known, Unknown}
 use Rattle.kinds.specs.declared.Length.{Length}
 use Rattle.kinds.specs.declared.Length.the-variants.{Bytes, Unknown as UnknownLength}
 use Rattle.records.specs.declared.Decoding.the-variants.{Decoded, Bad}
@@ -34,18 +33,6 @@ unfolding decode
 found-ended wire input from e = rw (e, drop-length input)
 
 -- ---- where a record starts
-
-unknown-kind : (k : Kind) (xs : List ℕ) → kindLength k ≡ UnknownLength → decodeKnown k xs ≡ Bad
-unfolding kindLength decodeKnown
-unknown-kind (Known port name) xs e = let z : _≡_ {A = ℕ} 0 1 = cc in absurd (omega arith)
-unknown-kind Unknown xs e = refl
-
-short-kind : (k : Kind) (xs : List ℕ) (n : ℕ) → kindLength k ≡ Bytes n → length xs < n → decodeKnown k xs ≡ Bad
-unfolding kindLength decodeKnown
-short-kind (Known port name) xs n e h =
-    let same : lengthOf name ≡ n = cc in
-    rw (lt-leb (lengthOf name) (length xs) (omega arith))
-short-kind Unknown xs n e h = refl
 
 module _ (wire : Port) (input : List ℕ) (from : ℕ) (h : from < length input) where
   -- The bytes behind the kind, as the code has them.

@@ -1,10 +1,14 @@
--- Laws of the table of kinds: what the arms of a match on it cite.
-use Prim.Native.Nat.{ℕ, _≤_, _<_}
-use mathlib.Core.Path.{_≡_, sym, ap, _∙_}
+-- Laws of the table of kinds: what the arms of a match on it cite, and what the sums of a body's fields come to.
+use Prim.Native.Nat.{ℕ, _-_, _≤_, _<_}
+use mathlib.Core.Path.{_≡_, refl, sym, ap, _∙_}
+use mathlib.Core.Bool.{Bool, true, false, _||_}
 use mathlib.Core.List.{List, [], _∷_}
+use lib.Dec.{eqb, leb}
 use native.Mathlib.Omega.{arith}
-use borrow.Author.Tests.{ne-eqb}
-use Rattle.kinds.specs.Kinds.{row, names, kindNumber, lengthOf, dataLength, operandsLength, lengthsOf, among, kindOf, kindLength, bodyLength}
+use borrow.Author.Tests.{ne-eqb, lt-ltb, le-ltb}
+use Rattle.kinds.specs.Kinds.{row, names, kindNumber, lengthOf, lengthsOf, among, kindOf, kindLength, bodyLength}
+use Rattle.kinds.specs.Arithmetic.{numberOf, hasCredential, partOf, behindCredential, withoutCredential, operandsAt, lengthsAt}
+use Rattle.kinds.specs.ArithmeticLaws.{known-lengths}
 use Rattle.kinds.specs.declared.Name.{Name}
 use Rattle.kinds.specs.declared.Lengths.{Lengths}
 use Rattle.kinds.specs.declared.Kind.{Kind}
@@ -15,14 +19,11 @@ use Rattle.card.specs.declared.Port.the-variants.{Host, Service}
 
 -- To compute by the table, a proof unfolds this one name.
 unfoldable pub tableRules : Unit {0}
-unfolding row names kindNumber lengthOf dataLength operandsLength lengthsOf among kindOf
+unfolding row names kindNumber lengthOf among kindOf
 tableRules = tt
 
 pub at-kind : (wire : Port) {k n : ℕ} → k ≡ n → kindOf wire n ≡ kindOf wire k
 at-kind wire e = ap (kindOf wire) (sym e)
-
-pub at-name : {a b : Name} → a ≡ b → lengthsOf b ≡ lengthsOf a
-at-name e = ap lengthsOf (sym e)
 
 -- By the port that was found.
 pub at-wire : (k : ℕ) {wire port : Port} {r : Kind} → wire ≡ port → r ≡ kindOf port k → r ≡ kindOf wire k
@@ -97,11 +98,45 @@ unknown-service k l h =
 
 -- ---- the length of a kind's body
 
+pub number-below : (k : ℕ) → k < 128 → k ≡ numberOf k
+unfolding numberOf
+number-below k l = rw (lt-ltb k 128 l)
+
+pub number-above : (k : ℕ) → 128 ≤ k → k - 128 ≡ numberOf k
+unfolding numberOf
+number-above k l = rw (le-ltb k 128 l)
+
+-- What a part adds is at most its size.
+pub part-most : (has : Bool) (size : ℕ) {r : ℕ} → r ≡ partOf has size → r ≤ size
+unfolding partOf
+part-most true size e = omega arith
+part-most false size e = omega arith
+
+pub behind-most : (call : ℕ) {r : ℕ} → r ≡ behindCredential call → r ≤ 45
+unfolding behindCredential
+behind-most call e =
+    omega (
+      arith,
+      part-most (leb call 2) 4 refl,
+      part-most (eqb call 3 || eqb call 12) 3 refl,
+      part-most (eqb call 4) 19 refl,
+      part-most (eqb call 5) 2 refl,
+      part-most (eqb call 6 || eqb call 13) 17 refl,
+    )
+
+pub without-most : (call : ℕ) {r : ℕ} → r ≡ withoutCredential call → r ≤ 33
+unfolding withoutCredential
+without-most call e = omega (arith, part-most (eqb call 7) 23 refl, part-most (eqb call 8) 2 refl, part-most (eqb call 10) 8 refl)
+
+pub operands-most : (call : ℕ) {r : ℕ} → r ≡ operandsAt call → r ≤ 97
+unfolding operandsAt
+operands-most call e = omega (arith, part-most (hasCredential call) 19 refl, behind-most call refl, without-most call refl)
+
 pub known-length : (wire : Port) (k : ℕ) {l : Lengths} {r : Kind} {port : Port} {name : Name}
-    → r ≡ kindOf wire k → r ≡ Known port name → l ≡ lengthsOf name
+    → r ≡ kindOf wire k → r ≡ Known port name → l ≡ lengthsAt k
     → Bytes (l .body) ≡ bodyLength wire k
 unfolding bodyLength kindLength lengthsOf
-known-length wire k e q h = rw (← e, q, h)
+known-length wire k e q h = rw (← e, q, known-lengths wire k e q h)
 
 pub unknown-length : (wire : Port) (k : ℕ) {r : Kind} → r ≡ kindOf wire k → r ≡ Unknown → UnknownLength ≡ bodyLength wire k
 unfolding bodyLength kindLength

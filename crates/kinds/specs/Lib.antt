@@ -1,3 +1,5 @@
 pub mod Kinds
 pub mod KindsLaws
+pub mod Arithmetic
+pub mod ArithmeticLaws
 pub mod AllKinds

@@ -4,7 +4,34 @@ use card::Port;
 ghost use mathlib.Core.Path.{_≡_};
 ghost use Prim.Native.Nat.{_≤_};
 ghost use Rattle.card.specs.declared.Port.the-variants.{Host, Service};
-ghost use Rattle.kinds.specs.Kinds.{lengthsAre, lengthsOf, kindOf, bodyLength};
+ghost use Rattle.kinds.specs.Kinds.{kindOf, bodyLength};
+ghost use Rattle.kinds.specs.Arithmetic.{numberOf, hasCredential, partOf, behindCredential, withoutCredential, operandsAt, lengthsAt};
+
+// ---- the sizes of the fields of a body, in bytes
+
+// A block's number, or a hint.
+const BLOCK: usize = 2;
+
+const INTERVAL: usize = 4;
+
+const COUNT: usize = 1;
+
+const MODE: usize = 1;
+
+const CREDENTIAL: usize = 17;
+
+const NEW_KEY: usize = 17;
+
+// RENEW's key, with no byte before it.
+const BARE_KEY: usize = 16;
+
+// TICK's number.
+const SECONDS: usize = 8;
+
+// What WRITE writes.
+const DATA: usize = 512;
+
+// ---- types
 
 // The calls that a record may hold.
 pub enum Name {
@@ -40,6 +67,8 @@ pub enum Length {
     Bytes(usize),
     Unknown,
 }
+
+// ---- the call of a kind
 
 // A kind that arrives at the host port: a host's, or none.
 fn host_kind_of(kind: u8) -> Kind
@@ -97,30 +126,69 @@ pub fn kind_of(wire: Port, kind: u8) -> Kind
     }
 }
 
-fn both(operands: usize, body: usize) -> Lengths
-    ensures { λ r. ⌜ r ≡ lengthsAre operands body ⌝ }
+// ---- the lengths of a kind
+
+// Each is a sum of sizes of fields, by comparisons of the call's number and not by a match: of a match that yields numbers the compiler may
+// make an array.
+
+// The number of a kind's call: its kind at the host port.
+fn number_of(kind: u8) -> u8
+    ensures { λ r. ⌜ r ≡ numberOf kind ⌝ }
 {
-    Lengths { operands, body }
+    if kind < 128 { kind } else { kind - 128 }
 }
 
-// The length of a call's operands, which come first in its body, and of the body. WRITE's data follow its operands.
-pub fn lengths_of(name: Name) -> Lengths
-    ensures { λ r. ⌜ r ≡ lengthsOf name ⌝ }
+// READ to KEY_READ, ALLOC_CONTIG and KEY_WRITE have one, for the block that they name first.
+fn has_credential(call: u8) -> bool
+    ensures { λ r. ⌜ r ≡ hasCredential call ⌝ }
 {
-    match name {
-        Name::Read => both(23, 23),
-        Name::Write => both(23, 535),
-        Name::Alloc => both(22, 22),
-        Name::Create => both(38, 38),
-        Name::Delete => both(21, 21),
-        Name::KeyRead => both(36, 36),
-        Name::Renew => both(23, 23),
-        Name::Force => both(2, 2),
-        Name::Free => both(0, 0),
-        Name::Tick => both(8, 8),
-        Name::Audit => both(0, 0),
-        Name::AllocContig => both(22, 22),
-        Name::KeyWrite => both(36, 36),
+    (call <= 6) | (12 <= call)
+}
+
+// What some fields add to a length, where a call has them.
+fn part_of(has: bool, size: usize) -> usize
+    ensures { λ r. ⌜ r ≡ partOf has size ⌝ }
+{
+    if has { size } else { 0 }
+}
+
+// What follows the credential: of READ and WRITE, ALLOC and ALLOC_CONTIG, CREATE, DELETE, KEY_READ and KEY_WRITE.
+fn behind_credential(call: u8) -> usize
+    ensures { λ r. ⌜ r ≡ behindCredential call ⌝ }
+{
+    part_of(call <= 2, INTERVAL)
+        + part_of((call == 3) | (call == 12), BLOCK + COUNT)
+        + part_of(call == 4, BLOCK + CREDENTIAL)
+        + part_of(call == 5, BLOCK)
+        + part_of((call == 6) | (call == 13), NEW_KEY)
+}
+
+// The operands of RENEW, of FORCE and of TICK.
+fn without_credential(call: u8) -> usize
+    ensures { λ r. ⌜ r ≡ withoutCredential call ⌝ }
+{
+    part_of(call == 7, MODE + BLOCK + BARE_KEY + INTERVAL)
+        + part_of(call == 8, BLOCK)
+        + part_of(call == 10, SECONDS)
+}
+
+fn operands_length(call: u8) -> usize
+    ensures { λ r. ⌜ r ≡ operandsAt call ⌝ }
+{
+    part_of(has_credential(call), BLOCK + CREDENTIAL)
+        + behind_credential(call)
+        + without_credential(call)
+}
+
+// The lengths of a kind's operands, which come first in its body, and of the body. WRITE's data follow its operands.
+pub fn lengths_at(kind: u8) -> Lengths
+    ensures { λ r. ⌜ r ≡ lengthsAt kind ⌝ }
+{
+    let call = number_of(kind);
+    let operands = operands_length(call);
+    Lengths {
+        operands,
+        body: operands + part_of(call == 2, DATA),
     }
 }
 
@@ -130,7 +198,7 @@ pub fn body_length(wire: Port, kind: u8) -> Length
 {
     let known = kind_of(wire, kind);
     match known {
-        Kind::Known(_, name) => Length::Bytes(lengths_of(name).body),
+        Kind::Known(_, _) => Length::Bytes(lengths_at(kind).body),
         Kind::Unknown => Length::Unknown,
     }
 }

@@ -1,1 +1,3 @@
 pub mod Parsing
+pub mod KindsDecoded
+pub mod Rows

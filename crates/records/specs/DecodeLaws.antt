@@ -20,10 +20,11 @@ use Rattle.card.specs.declared.Credential.the-variants.{Key as KeyCredential}
 use Rattle.card.specs.declared.Call.{Call}
 use Rattle.card.specs.declared.Call.the-variants.{Force, Free, Tick, Audit}
 use Rattle.fields.specs.Bytes.{number}
-use Rattle.kinds.specs.Kinds.{lengthOf, kindOf}
+use Rattle.kinds.specs.Kinds.{lengthOf, kindOf, kindLength}
 use Rattle.kinds.specs.KindsLaws.{host-kinds}
 use Rattle.fields.specs.Fields.{credential, newKey}
 use Rattle.records.specs.Decode.{withCredential, readWith, writeWith, allocWith, allocContigWith, createWith, deleteWith, keyWith, renewWith, decodeKey, decodeCall, decodeKnown, decodeBody, nameOf, sent, nextOf, decode}
+use Rattle.kinds.specs.declared.Length.the-variants.{Bytes, Unknown as UnknownLength}
 use Rattle.kinds.specs.declared.Name.{Name}
 use Rattle.kinds.specs.declared.Name.the-variants.{Read as READ, Write as WRITE, Alloc as ALLOC, Create as CREATE, Delete as DELETE, KeyRead as KEY-READ, Renew as RENEW, Force as FORCE, Free as FREE, Tick as TICK, Audit as AUDIT, AllocContig as ALLOC-CONTIG, KeyWrite as KEY-WRITE}
 use Rattle.kinds.specs.declared.Kind.{Kind}
@@ -127,6 +128,20 @@ module _ (wire : Port) (kind : ℕ) (xs : List ℕ) {known : Kind} (of-kind : kn
   pub other-kind : known ≡ Unknown → Bad ≡ decodeBody wire kind xs
   unfolding decodeBody decodeKnown
   other-kind e = rw (← of-kind, e)
+
+-- By the length of a kind's body: refusal 13 where there is none, or where there are fewer bytes.
+
+pub unknown-kind : (k : Kind) (xs : List ℕ) → kindLength k ≡ UnknownLength → decodeKnown k xs ≡ Bad
+unfolding kindLength decodeKnown
+unknown-kind (Known port name) xs e = let z : _≡_ {A = ℕ} 0 1 = cc in absurd (omega arith)
+unknown-kind Unknown xs e = refl
+
+pub short-kind : (k : Kind) (xs : List ℕ) (n : ℕ) → kindLength k ≡ Bytes n → length xs < n → decodeKnown k xs ≡ Bad
+unfolding kindLength decodeKnown
+short-kind (Known port name) xs n e h =
+    let same : lengthOf name ≡ n = cc in
+    rw (lt-leb (lengthOf name) (length xs) (omega arith))
+short-kind Unknown xs n e h = refl
 
 -- ---- from what is decoded to its kind
 

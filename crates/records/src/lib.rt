@@ -367,7 +367,7 @@ pub fn decode(wire: Port, kind: u8, body: &[u8]) -> Parsed
     let Kind::Known(port, name) = known else {
         return bad();
     };
-    let lengths = kinds::lengths_of(name);
+    let lengths = kinds::lengths_at(kind);
     if body.len() < lengths.body {
         return bad();
     }

@@ -1,4 +1,5 @@
 -- `records::decode` meets its contract: another kind, a body cut short, or the call.
+use Rattle.kinds.specs.ArithmeticLaws.{known-lengths}
 use Rattle.records.specs.DecodeLaws.{cut-short, other-kind}
 use Rattle.records.proofs.Parsing.{body-is, body-room, parsed-bad, parsed-call}
 use borrow.Author.Needs.{needs}
@@ -20,20 +21,20 @@ bad-requires c κs = search needs
 returns : tie.Need-returns
 returns c = search (parsed-bad, other-kind)
 
-lengths-of-requires : tie.Need-lengths-of-requires
-lengths-of-requires c κs = search needs
+lengths-at-requires : tie.Need-lengths-at-requires
+lengths-at-requires c κs = search needs
 
 bad-requires-2 : tie.Need-bad-requires-2
 bad-requires-2 c κs = search needs
 
 returns-2 : tie.Need-returns-2
-returns-2 c = search (parsed-bad, cut-short, body-is)
+returns-2 c = search (parsed-bad, cut-short, body-is, known-lengths)
 
 decode-call-requires : tie.Need-decode-call-requires
-decode-call-requires c κs = search body-room
+decode-call-requires c κs = search (body-room, known-lengths)
 
 returns-3 : tie.Need-returns-3
-returns-3 c = search parsed-call
+returns-3 c = search (parsed-call, known-lengths)
 
 pub decode-spec : {M : Type 1} → statement M
 decode-spec =
@@ -44,7 +45,7 @@ decode-spec =
     enum-told
     bad-requires
     returns
-    lengths-of-requires
+    lengths-at-requires
     bad-requires-2
     returns-2
     decode-call-requires

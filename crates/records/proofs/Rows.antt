@@ -1,0 +1,64 @@
+-- `kinds-decoded` as a test, and a row for each mistake in the rules of records that a must-fail edit makes: the mistake turns it from true to false.
+use Prim.Native.Nat.{ℕ, _<_}
+use mathlib.Core.Path.{_≡_, refl}
+use mathlib.Core.Bool.{Bool, true, false, not, _&&_}
+use mathlib.Core.List.{List, [], _∷_}
+use lib.Dec.{ltb}
+use lib.ListN.{length, drop, getD, replicate}
+use native.Mathlib.Omega.{arith}
+use borrow.Author.Tests.{ltb-true}
+use Rattle.card.specs.ListsLaws.{and-true}
+use Rattle.card.proofs.Computed.Same.{sameList, true-sameList}
+use Rattle.card.specs.declared.Port.{Port}
+use Rattle.card.specs.declared.Port.the-variants.{Host, Service}
+use Rattle.card.specs.declared.Call.{Call}
+use Rattle.fields.specs.Bytes.{number, zeroed}
+use Rattle.fields.specs.Fields.{credential}
+use Rattle.kinds.specs.Kinds.{row, names, kindNumber, lengthOf, dataLength, operandsLength, among, kindOf}
+use Rattle.kinds.specs.AllKinds.{expected}
+use Rattle.kinds.specs.declared.Length.{Length}
+use Rattle.kinds.specs.declared.Length.the-variants.{Bytes, Unknown}
+use Rattle.records.specs.Decode.{Next, ended, refused, sent, withCredential, decodeCall, decodeKnown, decodeBody, nameOf, dataOf, nextOf, decode}
+use Rattle.records.proofs.KindsDecoded.{DecodedBy, kinds-decoded}
+
+-- What is found leaves just the bytes behind a body that is whole, or is refused.
+abbrev fits : Length → List ℕ → Next → Bool
+fits l xs ended = true
+fits l xs refused = true
+fits Unknown xs (sent port call payload rest) = false
+fits (Bytes n) xs (sent port call payload rest) = not (ltb (length xs) n) && sameList rest (drop n xs)
+
+abbrev pub kindsDecodedTest : Port → ℕ → List ℕ → Bool
+kindsDecodedTest wire kind xs = fits (getD (expected wire) kind Unknown) xs (decode wire (kind ∷ xs))
+
+sent-apart : {port : Port} {call : Call} {payload rest : List ℕ} → sent port call payload rest ≡ refused → ⊥
+sent-apart e = let z : _≡_ {A = ℕ} 0 1 = cc in omega arith
+
+fits-decoded : (l : Length) (xs : List ℕ) (next : Next) → DecodedBy l xs next → fits l xs next ≡ true
+fits-decoded Unknown xs ended h = refl
+fits-decoded (Bytes n) xs ended h = refl
+fits-decoded Unknown xs refused h = refl
+fits-decoded (Bytes n) xs refused h = refl
+fits-decoded Unknown xs (sent port call payload rest) h = absurd (sent-apart h)
+fits-decoded (Bytes n) xs (sent port call payload rest) h = and-true _ _ (whole (ltb (length xs) n) refl) (true-sameList (h .1 port call payload rest refl))
+  where
+    whole : (t : Bool) → ltb (length xs) n ≡ t → not t ≡ true
+    whole true e = absurd (sent-apart (h .0 (ltb-true _ _ e)))
+    whole false e = refl
+
+pub kinds-decoded-tested : (wire : Port) (kind : ℕ) → kind < 256 → (xs : List ℕ) → kindsDecodedTest wire kind xs ≡ true
+kinds-decoded-tested wire kind h xs = fits-decoded (getD (expected wire) kind Unknown) xs (decode wire (kind ∷ xs)) (kinds-decoded wire kind h xs)
+
+-- ---- rows
+
+pub unknown-kind-taken-for-audit : kindsDecodedTest Host 14 [] ≡ true
+unfolding row names kindNumber lengthOf dataLength operandsLength among kindOf decodeCall decodeKnown decodeBody nameOf dataOf nextOf decode sameList
+unknown-kind-taken-for-audit = refl
+
+pub body-cut-short-taken : kindsDecodedTest Service 10 (replicate 7 0) ≡ true
+unfolding number row names kindNumber lengthOf dataLength operandsLength among kindOf decodeCall decodeKnown decodeBody nameOf dataOf nextOf decode sameList
+body-cut-short-taken = refl
+
+pub data-left-as-the-next-record : kindsDecodedTest Service 130 (replicate 535 0) ≡ true
+unfolding number zeroed credential row names kindNumber lengthOf dataLength operandsLength among kindOf withCredential decodeCall decodeKnown decodeBody nameOf dataOf nextOf decode sameList
+data-left-as-the-next-record = refl
