@@ -5,7 +5,7 @@
 //! - random calls by the C functions on one card and as records on another, damaged tables among them; after each,
 //!   the answer, the record, every table, every lent buffer and the memory beside them are compared with the model;
 //! - batches of call records, the model with an audit for each record;
-//! - bytes of any sort at the ports, service records at the host port, and numbers that no port has;
+//! - bytes of any sort at the ports, service records at the host port, all 256 kinds, and numbers that no port has;
 //! - the reach report: what is within reach of keys, and which blocks' write keys would open a hidden one;
 //! - secrecy: one host session of calls, and one of bytes, on two cards that differ in hidden and unallocated contents
 //!   only.
@@ -38,7 +38,7 @@ use secrecy::{byte_secrecy, secrecy, ByteSecrecy, Secrecy};
 use std::cmp::Ordering;
 use std::collections::BTreeMap;
 use trials::trials;
-use wires::{bytes, other_ports, service_kinds, Bytes, OtherPorts, ServiceKinds};
+use wires::{all_kinds, bytes, other_ports, service_kinds, AllKinds, Bytes, OtherPorts, ServiceKinds};
 
 const DEFAULT_CALLS: u64 = 300_000;
 const DEFAULT_SEED: u64 = 1;
@@ -702,6 +702,10 @@ fn run_wires(calls: u64, seed: u64, seen: &mut Seen) -> Result<(), String> {
     }
     println!("{}", seen.service.summary());
     for card in 0..(calls / 150_000).max(1) {
+        all_kinds(&mut random(6, card), &mut seen.kinds).map_err(|e| format!("card {card}, {e}"))?;
+    }
+    println!("{}", seen.kinds.summary());
+    for card in 0..(calls / 150_000).max(1) {
         other_ports(&mut random(4, card), &mut seen.ports).map_err(|e| format!("card {card}, {e}"))?;
     }
     println!("{}", seen.ports.summary());
@@ -753,6 +757,7 @@ struct Seen {
     batches: Batches,
     bytes: Bytes,
     service: ServiceKinds,
+    kinds: AllKinds,
     ports: OtherPorts,
     reports: Reports,
     secrecy: Secrecy,
@@ -766,6 +771,7 @@ impl Seen {
         missing.extend(self.batches.missing());
         missing.extend(self.bytes.missing());
         missing.extend(self.service.missing());
+        missing.extend(self.kinds.missing());
         missing.extend(self.ports.missing());
         missing.extend(self.reports.missing());
         missing.extend(self.secrecy.missing());

@@ -1,7 +1,7 @@
 #!/usr/bin/env bash
 # Builds the tests against the library's archive and runs them: what each came to, exit status 1 if one fails.
 #
-#   tests/run.sh [ARCHIVE] [--calls N] [--seed S]   differential test, the examples in C and the picture that one draws
+#   tests/run.sh [ARCHIVE] [--calls N] [--seed S]   differential test, the archive's read-only data, the examples in C and the picture that one draws
 #   tests/run.sh [ARCHIVE] --benchmark              the benchmark's tables instead
 #
 # ARCHIVE: target/staticlib/libinterface.a unless given. Needs rustc, a C compiler and python3, no crates.
@@ -45,10 +45,15 @@ fi
 
 if build differential && "$work/differential" "${options[@]}" > "$work/differential.out"; then
 	echo "differential test: passed"
-	grep -E '^(differential|batch|bytes|service kinds|ports|reach|secrecy|secrecy of bytes):' "$work/differential.out" | sed 's/^/  /'
+	grep -E '^(differential|batch|bytes|service kinds|kinds|ports|reach|secrecy|secrecy of bytes):' "$work/differential.out" | sed 's/^/  /'
 else
 	grep -A3 -E '^(DIFFERENCE|not reached)' "$work/differential.out" 2>/dev/null
 	echo "differential test: FAILED"
+	failed=1
+fi
+
+if ! python3 tests/read_only.py "$archive"; then
+	echo "read-only data: FAILED"
 	failed=1
 fi
 

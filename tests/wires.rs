@@ -3,6 +3,8 @@
 //! - Bytes by chance, and records with something about them spoilt, at ports 0, 1, 2 and 255: library against model.
 //! - A record of the service port in every place among a host's, whole and cut short: at the host port a batch stops
 //!   there with 13, with the records before it performed and nothing of it done; at the service port it is taken.
+//! - Each of the 256 kinds at both ports, those that exist with every number of bytes behind them up to one more than
+//!   the body has: where the batch stops, and why.
 //! - Every number that no port has: 13, and nothing changes.
 
 use crate::batch::{all_served, compare, perhaps_damaged, put, put_records, random_record, random_room};
@@ -13,7 +15,7 @@ use crate::model::{
     NO_ROOM, SERVICE_KINDS, SHAPE,
 };
 use crate::random_card::{random_card, Random, Size};
-use std::collections::BTreeMap;
+use std::collections::{BTreeMap, BTreeSet};
 
 /// A small card, since every step compares the whole of it.
 fn small_card(rnd: &mut Random) -> Card {
@@ -387,6 +389,79 @@ pub fn service_kinds(rnd: &mut Random, seen: &mut ServiceKinds) -> Result<(), St
                     *seen.taken.entry((kind, done)).or_default() += 1;
                 }
                 *seen.refused.entry((place, kind, form)).or_default() += 1;
+            }
+        }
+    }
+    Ok(())
+}
+
+// ---- All kinds ----
+
+/// Behind a kind that does not exist: the lengths of bodies, and those one shorter and one longer.
+const BEHIND_NO_KIND: [usize; 20] = [0, 1, 2, 3, 7, 8, 9, 20, 21, 22, 23, 24, 35, 36, 37, 38, 39, 534, 535, 536];
+
+#[derive(Default)]
+pub struct AllKinds {
+    inputs: u64,
+    /// The kinds that exist, by port.
+    known: BTreeSet<(u8, u8)>,
+    /// By why the batch stopped.
+    stops: BTreeMap<u32, u64>,
+}
+
+impl AllKinds {
+    pub fn summary(&self) -> String {
+        let known = |wire| self.known.iter().filter(|(at, _)| *at == wire).count();
+        let stops: Vec<_> = self.stops.iter().map(|(stop, count)| format!("{count} at {stop}")).collect();
+        format!(
+            "kinds: {} inputs of 256 kinds at each port, of which {} exist at port 0 and {} at port 1, stops: {}, no difference",
+            self.inputs,
+            known(HOST),
+            known(SERVICE),
+            stops.join(", ")
+        )
+    }
+
+    pub fn missing(&self) -> Vec<String> {
+        let stops = [0, MALFORMED, CUT_SHORT].into_iter().filter(|stop| !self.stops.contains_key(stop));
+        stops.map(|stop| format!("kinds: stop {stop}")).collect()
+    }
+}
+
+/// A kind and so many zeros behind it, in a batch and as a record: zeros are a well-formed body, and no kind.
+fn kind_with(rnd: &mut Random, card: &Card, wire: u8, kind: u8, zeros: usize, seen: &mut AllKinds) -> Result<(), String> {
+    let input = [vec![kind], vec![0; zeros]].concat();
+    let (stop, progress) = compare(rnd, &mut card.clone(), wire, &input, 1_024)?;
+    by_serve(rnd, &mut card.clone(), wire, &input)?;
+    let (reason, read) = match port_of(wire).and_then(|wire| body_length(wire, kind)) {
+        None => (MALFORMED, 0),
+        Some(length) if zeros < length => (CUT_SHORT, 0),
+        Some(length) if zeros > length => (MALFORMED, 1 + length),
+        Some(length) => (0, 1 + length),
+    };
+    if (stop, progress.read) != (reason, read as u64) {
+        return Err(format!("stop {stop} with {} bytes read, not {reason} with {read}", progress.read));
+    }
+    seen.inputs += 1;
+    *seen.stops.entry(stop).or_default() += 1;
+    Ok(())
+}
+
+/// All kinds at both ports, on one card.
+pub fn all_kinds(rnd: &mut Random, seen: &mut AllKinds) -> Result<(), String> {
+    let card = small_card(rnd);
+    for wire in [HOST, SERVICE] {
+        for kind in 0..=255 {
+            let behind: Vec<usize> = match port_of(wire).and_then(|wire| body_length(wire, kind)) {
+                Some(length) => {
+                    seen.known.insert((wire, kind));
+                    (0..=length + 1).collect()
+                }
+                None => BEHIND_NO_KIND.to_vec(),
+            };
+            for zeros in behind {
+                kind_with(rnd, &card, wire, kind, zeros, seen)
+                    .map_err(|d| format!("kind {kind} at port {wire} with {zeros} bytes behind it: {d}"))?;
             }
         }
     }
