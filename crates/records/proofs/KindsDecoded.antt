@@ -6,7 +6,8 @@ use mathlib.Core.List.{List, _∷_}
 use lib.ListN.{length, drop, getD}
 use native.Mathlib.Omega.{arith}
 use Rattle.kinds.specs.Kinds.{lengthOf, kindOf, kindLength, bodyLength}
-use Rattle.kinds.specs.AllKinds.{expected, expected-at}
+use Rattle.kinds.specs.AllKinds.{expected}
+use Rattle.kinds.specs.AllKindsLaws.{expected-at}
 use Rattle.kinds.specs.declared.Kind.the-variants.{Known}
 use Rattle.kinds.specs.declared.Length.{Length}
 use Rattle.kinds.specs.declared.Length.the-variants.{Bytes, Unknown}
