@@ -19,7 +19,7 @@ use Rattle.kinds.specs.AllKinds.{expected}
 use Rattle.kinds.specs.declared.Length.{Length}
 use Rattle.kinds.specs.declared.Length.the-variants.{Bytes, Unknown}
 use Rattle.records.specs.Decode.{Next, ended, refused, sent, withCredential, decodeCall, decodeKnown, decodeBody, nameOf, dataOf, nextOf, decode}
-use Rattle.records.proofs.KindsDecoded.{DecodedBy, kinds-decoded}
+use Rattle.records.proofs.KindsDecoded.{Leaves, isCall, DecodedBy, kinds-decoded}
 
 -- What is found leaves just the bytes behind a body that is whole, or is refused.
 abbrev fits : Length → List ℕ → Next → Bool
@@ -28,26 +28,40 @@ fits l xs refused = true
 fits Unknown xs (sent port call payload rest) = false
 fits (Bytes n) xs (sent port call payload rest) = not (ltb (length xs) n) && sameList rest (drop n xs)
 
+-- A body of zeros is taken.
+abbrev taken : Length → (List ℕ → Next) → Bool
+taken Unknown next = true
+taken (Bytes n) next = isCall (next (replicate n 0))
+
+abbrev decodedTest : Length → List ℕ → (List ℕ → Next) → Bool
+decodedTest l xs next = fits l xs (next xs) && taken l next
+
 abbrev pub kindsDecodedTest : Port → ℕ → List ℕ → Bool
-kindsDecodedTest wire kind xs = fits (getD (expected wire) kind Unknown) xs (decode wire (kind ∷ xs))
+kindsDecodedTest wire kind xs = decodedTest (getD (expected wire) kind Unknown) xs (λ ys. decode wire (kind ∷ ys))
 
 sent-apart : {port : Port} {call : Call} {payload rest : List ℕ} → sent port call payload rest ≡ refused → ⊥
 sent-apart e = let z : _≡_ {A = ℕ} 0 1 = cc in omega arith
 
-fits-decoded : (l : Length) (xs : List ℕ) (next : Next) → DecodedBy l xs next → fits l xs next ≡ true
-fits-decoded Unknown xs ended h = refl
-fits-decoded (Bytes n) xs ended h = refl
-fits-decoded Unknown xs refused h = refl
-fits-decoded (Bytes n) xs refused h = refl
-fits-decoded Unknown xs (sent port call payload rest) h = absurd (sent-apart h)
-fits-decoded (Bytes n) xs (sent port call payload rest) h = and-true _ _ (whole (ltb (length xs) n) refl) (true-sameList (h .1 port call payload rest refl))
+fits-unknown : (xs : List ℕ) (next : Next) → next ≡ refused → fits Unknown xs next ≡ true
+fits-unknown xs ended e = refl
+fits-unknown xs refused e = refl
+fits-unknown xs (sent port call payload rest) e = absurd (sent-apart e)
+
+fits-whole : (n : ℕ) (xs : List ℕ) (next : Next) → (length xs < n → next ≡ refused) → Leaves n xs next → fits (Bytes n) xs next ≡ true
+fits-whole n xs ended short leaves = refl
+fits-whole n xs refused short leaves = refl
+fits-whole n xs (sent port call payload rest) short leaves = and-true _ _ (whole (ltb (length xs) n) refl) (true-sameList (leaves port call payload rest refl))
   where
     whole : (t : Bool) → ltb (length xs) n ≡ t → not t ≡ true
-    whole true e = absurd (sent-apart (h .0 (ltb-true _ _ e)))
+    whole true e = absurd (sent-apart (short (ltb-true _ _ e)))
     whole false e = refl
 
+decoded-tested : (l : Length) (xs : List ℕ) (next : List ℕ → Next) → DecodedBy l next → decodedTest l xs next ≡ true
+decoded-tested Unknown xs next h = and-true _ _ (fits-unknown xs (next xs) (h xs)) refl
+decoded-tested (Bytes n) xs next h = and-true _ _ (fits-whole n xs (next xs) (h .short xs) (h .leaves xs)) (h .enough)
+
 pub kinds-decoded-tested : (wire : Port) (kind : ℕ) → kind < 256 → (xs : List ℕ) → kindsDecodedTest wire kind xs ≡ true
-kinds-decoded-tested wire kind h xs = fits-decoded (getD (expected wire) kind Unknown) xs (decode wire (kind ∷ xs)) (kinds-decoded wire kind h xs)
+kinds-decoded-tested wire kind h xs = decoded-tested (getD (expected wire) kind Unknown) xs (λ ys. decode wire (kind ∷ ys)) (kinds-decoded wire kind h)
 
 -- ---- rows
 
@@ -62,3 +76,7 @@ body-cut-short-taken = refl
 pub data-left-as-the-next-record : kindsDecodedTest Service 130 (replicate 535 0) ≡ true
 unfolding number zeroed credential row names kindNumber lengthOf dataLength operandsLength among kindOf withCredential decodeCall decodeKnown decodeBody nameOf dataOf nextOf decode sameList
 data-left-as-the-next-record = refl
+
+pub body-one-byte-longer : kindsDecodedTest Host 8 [] ≡ true
+unfolding number row names kindNumber lengthOf dataLength operandsLength among kindOf decodeCall decodeKnown decodeBody nameOf dataOf nextOf decode sameList
+body-one-byte-longer = refl
