@@ -1,10 +1,10 @@
 #!/usr/bin/env python3
-"""Tells how much read-only data an archive has beside its code, and fails where an array of lengths is among it.
+"""Tells how much read-only data an archive has beside its code, and fails where lengths of bodies are among it.
 
     tests/read_only.py [ARCHIVE]      target/staticlib/libinterface.a unless given
     tests/read_only.py --self-test
 
-The source has no such array, but of a match that yields numbers the compiler may make one. What is looked for: the lengths of five kinds
+The source has no array of them, but of a match that yields numbers the compiler may make one. What is looked for: the lengths of five kinds
 in a row, of their bodies or of their operands, as numbers of any width; and a call's two lengths side by side, as a constant of 16 bytes.
 A table of parts of lengths would not be found. Tables of jumps, and of which call a kind is, are no lengths.
 """
@@ -70,7 +70,7 @@ def main(arguments: list[str]) -> int:
     if not sections:
         print("read-only data: no section of it, so this is no archive of the library")
     elif not found:
-        print(f"read-only data: {sum(map(len, sections))} bytes, no array of lengths")
+        print(f"read-only data: {sum(map(len, sections))} bytes, no lengths found")
     return 1 if found or not sections else 0
 
 

@@ -8,7 +8,7 @@ use native.Mathlib.Omega.{arith}
 use borrow.Author.Tests.{ne-eqb, lt-ltb, le-ltb}
 use Rattle.kinds.specs.Kinds.{row, names, kindNumber, lengthOf, lengthsOf, among, kindOf, kindLength, bodyLength}
 use Rattle.kinds.specs.Arithmetic.{numberOf, hasCredential, partOf, behindCredential, withoutCredential, operandsAt, lengthsAt}
-use Rattle.kinds.specs.ArithmeticLaws.{known-lengths}
+use Rattle.kinds.specs.ArithmeticLaws.{kind-lengths}
 use Rattle.kinds.specs.declared.Name.{Name}
 use Rattle.kinds.specs.declared.Lengths.{Lengths}
 use Rattle.kinds.specs.declared.Kind.{Kind}
@@ -136,7 +136,7 @@ pub known-length : (wire : Port) (k : ℕ) {l : Lengths} {r : Kind} {port : Port
     → r ≡ kindOf wire k → r ≡ Known port name → l ≡ lengthsAt k
     → Bytes (l .body) ≡ bodyLength wire k
 unfolding bodyLength kindLength lengthsOf
-known-length wire k e q h = rw (← e, q, known-lengths wire k e q h)
+known-length wire k e q h = rw (← e, q, kind-lengths wire k e q h)
 
 pub unknown-length : (wire : Port) (k : ℕ) {r : Kind} → r ≡ kindOf wire k → r ≡ Unknown → UnknownLength ≡ bodyLength wire k
 unfolding bodyLength kindLength

@@ -1,5 +1,5 @@
 -- Document 01, "Call records and the player", and the requests: the length of a record's body worked out from its kind, with no table of kinds.
--- `known-lengths` says that it is the length in the table of the calls, and `lengths-worked-out` computes it for all 256 kinds.
+-- `kind-lengths` says that it is the length in the table of the calls, and `lengths-worked-out` computes it for all 256 kinds.
 use Prim.Native.Nat.{ℕ, _+_, _-_}
 use mathlib.Core.Bool.{Bool, cond, _||_}
 use lib.Dec.{eqb, ltb, leb}

@@ -41,7 +41,7 @@ number-lengths Service AUDIT = refl
 number-lengths Service ALLOC-CONTIG = refl
 number-lengths Service KEY-WRITE = refl
 
-pub known-lengths : (wire : Port) (kind : ℕ) {known : Kind} {port : Port} {name : Name} {l : Lengths}
+pub kind-lengths : (wire : Port) (kind : ℕ) {known : Kind} {port : Port} {name : Name} {l : Lengths}
     → known ≡ kindOf wire kind → known ≡ Known port name → l ≡ lengthsAt kind
     → l ≡ lengthsOf name
-known-lengths wire kind {port = port} {name = name} e q h = h ∙ ap lengthsAt (kind-number wire kind (sym e ∙ q)) ∙ number-lengths port name
+kind-lengths wire kind {port = port} {name = name} e q h = h ∙ ap lengthsAt (kind-number wire kind (sym e ∙ q)) ∙ number-lengths port name

@@ -1,5 +1,5 @@
 -- `records::decode` meets its contract: another kind, a body cut short, or the call.
-use Rattle.kinds.specs.ArithmeticLaws.{known-lengths}
+use Rattle.kinds.specs.ArithmeticLaws.{kind-lengths}
 use Rattle.records.specs.DecodeLaws.{cut-short, other-kind}
 use Rattle.records.proofs.Parsing.{body-is, body-room, parsed-bad, parsed-call}
 use borrow.Author.Needs.{needs}
@@ -28,13 +28,13 @@ bad-requires-2 : tie.Need-bad-requires-2
 bad-requires-2 c κs = search needs
 
 returns-2 : tie.Need-returns-2
-returns-2 c = search (parsed-bad, cut-short, body-is, known-lengths)
+returns-2 c = search (parsed-bad, cut-short, body-is, kind-lengths)
 
 decode-call-requires : tie.Need-decode-call-requires
-decode-call-requires c κs = search (body-room, known-lengths)
+decode-call-requires c κs = search (body-room, kind-lengths)
 
 returns-3 : tie.Need-returns-3
-returns-3 c = search (parsed-call, known-lengths)
+returns-3 c = search (parsed-call, kind-lengths)
 
 pub decode-spec : {M : Type 1} → statement M
 decode-spec =
