@@ -1,7 +1,8 @@
 /*
  * A short host: formats a card, has a block allotted and keyed by the service port, then writes and reads as a host,
  * by key and by reference within a window, which a shorter poll does not cut, and is refused once the window has ended.
- * It sets the read key of a new season, takes a run of blocks for an event file, and points twice to the same block.
+ * It sets the read key of a new season, takes a run of blocks for an event file, points twice to the same block, and
+ * clears a directory with all that is in it by one call.
  *
  *   cc -I include examples/host.c path/to/libinterface.a -o host && ./host
  *
@@ -34,7 +35,7 @@ static void show(const char *what, uint32_t answer)
 
 int main(void)
 {
-	uint16_t places[2] = { 0, 0 }, file[6] = { 0 };
+	uint16_t places[2] = { 0, 0 }, file[6] = { 0 }, days[2] = { 0, 0 };
 	const struct negvask_credential nothing = negvask_by_nothing();
 	const struct negvask_credential root = negvask_by_reference(0);
 	const struct negvask_credential reader = negvask_by_key(READ_HIGH, READ_LOW);
@@ -131,6 +132,20 @@ int main(void)
 	answer = negvask_delete(CARD, NEGVASK_HOST, places[0], NEGVASK_BYTES(writer), file[0], &value);
 	show("host: delete one of the two pointers", answer);
 	printf("  freed: %lu\n", (unsigned long)value);
+
+	/* Block 3 is a season's directory now, with a block for each of two days. One call clears it whole. */
+	show("host: allot 2 blocks below block 3",
+		negvask_alloc(CARD, NEGVASK_HOST, file[0], NEGVASK_BYTES(directory), NEGVASK_NO_HINT, 2, days, 2));
+	printf("  blocks %u and %u\n", (unsigned)days[0], (unsigned)days[1]);
+	answer = negvask_delete(CARD, NEGVASK_HOST, places[0], NEGVASK_BYTES(writer), file[0], &value);
+	show("host: delete the pointer to block 3", answer);
+	if (answer == NEGVASK_HAS_POINTERS)
+		answer = negvask_delete_tree(CARD, NEGVASK_HOST, places[0], NEGVASK_BYTES(writer), file[0], &value);
+	show("host: delete it with all that is below", answer);
+	printf("  freed: %lu\n", (unsigned long)value);
+	/* The first block has a write key, so that no such call frees it, whoever makes it. */
+	answer = negvask_delete_tree(CARD, NEGVASK_SERVICE, 0, NEGVASK_BYTES(nothing), places[0], &value);
+	show("service: delete the first in this way", answer);
 
 	/* The last pointer to a block goes, and the block with it. */
 	answer = negvask_delete(CARD, NEGVASK_SERVICE, 0, NEGVASK_BYTES(nothing), places[1], &value);

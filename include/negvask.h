@@ -18,7 +18,7 @@
  * as any C library does, and nothing else; `nm -u` of the archive says so.
  * The deepest call, negvask_unlocking(), takes 58,208 bytes of stack below
  * its caller, as `tests/run.sh --benchmark` prints; what a host's bytes
- * lead to takes 17,744.
+ * lead to takes 38,896.
  *
  * All state is in memory provided by the caller: a record of five
  * numbers and seven tables. The functions keep nothing between calls,
@@ -88,8 +88,9 @@
  * and not yet taken away.
  *
  * A window is open while T is less than its end. No call lets it end
- * sooner but negvask_force(), a key change, a negvask_delete() that frees
- * the block, and negvask_format(): they set the end to 0.
+ * sooner but negvask_force(), a key change, a negvask_delete() or a
+ * negvask_delete_tree() that frees the block, and negvask_format(): they
+ * set the end to 0.
  *
  * A card as a caller keeps it
  * ---------------------------
@@ -299,6 +300,8 @@ extern "C" {
 /** Enough blocks are unallocated, but no run of them is as long as asked
     for. */
 #define NEGVASK_NO_RUN          14
+/** A block that would be freed has a write key. */
+#define NEGVASK_HAS_WRITE_KEY   15
 
 /* Why negvask_batch() stops, beside 0, 1 and 13: no refusal has these
    numbers. */
@@ -817,6 +820,52 @@ uint32_t negvask_delete(NEGVASK_TABLES,
 	uint16_t destination, uint64_t *value);
 
 /**
+ * \brief Take a pointer from a block to another away wholly, and free the
+ * blocks to which only freed ones point.
+ *
+ * The pointer goes, whatever its multiplicity. If nothing points to the
+ * destination then, it is freed, and after it, again and again, each
+ * allocated block that is no root and whose every pointer comes from freed
+ * blocks. All pointers from freed blocks go, whatever their multiplicity.
+ * M shrinks by the number of pointers that go, and the count of each block
+ * that stays by the multiplicities of those that led to it. The flags,
+ * keys, counts and windows of freed blocks become 0. `*value` is set to
+ * how many were freed; at 0 the pointer is gone all the same. Unmodified:
+ * contents, those of freed blocks too, and the rows of all other blocks
+ * but for their counts.
+ *
+ * The source may be freed too, where only freed blocks point to it. Where
+ * the other pointers lead from the destination back to it, nothing is
+ * freed: a cycle keeps itself.
+ *
+ * A write key protects the block that has it and whatever else would be
+ * freed with it: the call is then refused 15 at both ports, also for one
+ * who holds that key. A read key alone does not.
+ *
+ * Refusals, in order:
+ *   13  `port` is neither 0 nor 1; the credential is ill formed
+ *   1   out of shape
+ *   2   unsound
+ *   3   `source` is not below N or not allocated, then `destination`
+ *   6   `source` is a root and the call is a host's
+ *   5   a host's credential does not open `source` for writing
+ *   8   there is no such pointer
+ *   15  a block that would be freed has a write key, the destination
+ *       perhaps
+ *
+ * \param port            NEGVASK_HOST or NEGVASK_SERVICE.
+ * \param source          the block that points.
+ * \param credential      17 bytes that open it.
+ * \param credential_len  17.
+ * \param destination     the block pointed to.
+ * \param value           receives how many; unmodified when refused.
+ * \return  0 or a refusal.
+ */
+uint32_t negvask_delete_tree(NEGVASK_TABLES,
+	uint8_t port, uint16_t source, NEGVASK_CREDENTIAL,
+	uint16_t destination, uint64_t *value);
+
+/**
  * \brief Replace the read key of a block.
  *
  * The block's read key is set to the new key, or taken away if there is
@@ -1050,17 +1099,18 @@ uint32_t negvask_unlocking(NEGVASK_TABLES_READ,
  *   11  AUDIT           0
  *   12  ALLOC_CONTIG   22    reference 2, credential 17, hint 2, count 1
  *   13  KEY_WRITE      36    block 2, credential 17, new write key 17
+ *   14  DELETE_TREE    21    source 2, credential 17, destination 2
  *
  * These are a host's calls at either port, and judged as a host's. At
- * NEGVASK_SERVICE there are also kinds 129 to 134, 140 and 141, which are
- * 1 to 6, 12 and 13 as calls at the service port; at NEGVASK_HOST these
- * do not exist. Credentials and new keys are described at the top of this
- * file.
+ * NEGVASK_SERVICE there are also kinds 129 to 134 and 140 to 142, which
+ * are 1 to 6 and 12 to 14 as calls at the service port; at NEGVASK_HOST
+ * these do not exist. Credentials and new keys are described at the top
+ * of this file.
  *
  * The record's call is performed as by its function above, with `out`
  * lent to READ, `places` to ALLOC and ALLOC_CONTIG, and `value` to DELETE,
- * FREE and TICK. WRITE by record needs blocks of 512 bytes: its data are
- * 512, and on a card with another B it is refused 4.
+ * DELETE_TREE, FREE and TICK. WRITE by record needs blocks of 512 bytes:
+ * its data are 512, and on a card with another B it is refused 4.
  *
  * Unmodified: what that function leaves unmodified, `body`, and the
  * buffers that the call does not use.
@@ -1069,7 +1119,7 @@ uint32_t negvask_unlocking(NEGVASK_TABLES_READ,
  *   13  `port` is neither 0 nor 1; a kind that does not exist at the
  *       port; a body cut short; in a credential or new key a wrong first
  *       byte or filler that is not zero
- *   1 to 12 and 14  as the function of that call
+ *   1 to 12, 14 and 15  as the function of that call
  *
  * \param port        the port at which the record arrived: NEGVASK_HOST
  *                    if it comes from a host, else NEGVASK_SERVICE.
@@ -1081,7 +1131,8 @@ uint32_t negvask_unlocking(NEGVASK_TABLES_READ,
  * \param places      receives the block numbers of ALLOC or ALLOC_CONTIG.
  * \param places_len  the number of places; these are refused 4 if less
  *                    than their count.
- * \param value       receives the result of DELETE, FREE or TICK.
+ * \param value       receives the result of DELETE, DELETE_TREE, FREE or
+ *                    TICK.
  * \return  0 or a refusal.
  */
 uint32_t negvask_serve(NEGVASK_TABLES,
@@ -1107,7 +1158,7 @@ uint32_t negvask_serve(NEGVASK_TABLES,
  *        not zero
  *   257  `answers` has less room left than the longest answer takes:
  *        1 + B bytes for READ, 129 for ALLOC and ALLOC_CONTIG, 9 for
- *        DELETE, FREE and TICK, 1 for the others
+ *        DELETE, DELETE_TREE, FREE and TICK, 1 for the others
  *
  * So a malformed record is 13 even where there is no room for an answer.
  * Where a batch stops with 13, 256 or 257 it has performed the records
@@ -1120,12 +1171,13 @@ uint32_t negvask_serve(NEGVASK_TABLES,
  * the one before left, with B bytes lent to READ and 64 places to ALLOC
  * and ALLOC_CONTIG. Its answer is put behind the one before in `answers`:
  *
- *   1 byte    0 or a refusal 1 to 12 or 14
+ *   1 byte    0 or a refusal 1 to 12, 14 or 15
  *   and, if it is 0,
- *   READ                B bytes, the block
- *   ALLOC               2 bytes for each number, in the order taken
- *   ALLOC_CONTIG        2 bytes for each number, ascending
- *   DELETE, FREE, TICK  8 bytes, the result
+ *   READ                             B bytes, the block
+ *   ALLOC                            2 bytes for each number, in the order
+ *                                    taken
+ *   ALLOC_CONTIG                     2 bytes for each number, ascending
+ *   DELETE, DELETE_TREE, FREE, TICK  8 bytes, the result
  *
  * Numbers are big-endian.
  *

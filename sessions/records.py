@@ -197,8 +197,9 @@ CALLS: dict[str, tuple[int, tuple[Field, ...]]] = {
     "AUDIT": (11, ()),
     "ALLOC_CONTIG": (12, (BLOCK, CREDENTIAL, HINT, COUNT)),
     "KEY_WRITE": (13, (BLOCK, CREDENTIAL, NEW_KEY)),
+    "DELETE_TREE": (14, (BLOCK, CREDENTIAL, BLOCK)),
 }
-SERVICE_FORMS = {1, 2, 3, 4, 5, 6, 12, 13}
+SERVICE_FORMS = {1, 2, 3, 4, 5, 6, 12, 13, 14}
 
 
 def name_of(kind: int) -> str:
@@ -350,6 +351,7 @@ REFUSALS = {
     12: "end of the clock",
     13: "malformed record, the session ends",
     14: "too few unallocated blocks that adjoin",
+    15: "a block that would be freed has a write key",
 }
 
 
@@ -361,5 +363,6 @@ def in_words(name: str, answer: list[int]) -> str:
     listed = " ".join(str(result) for result in results)
     if name == "DELETE":
         return "done: freed" if results == [1] else "done: not freed"
-    words = {"READ": "bytes {}", "ALLOC": "blocks {}", "ALLOC_CONTIG": "blocks {}", "FREE": "{} unallocated", "TICK": "time {}"}
+    words = {"READ": "bytes {}", "ALLOC": "blocks {}", "ALLOC_CONTIG": "blocks {}", "FREE": "{} unallocated", "TICK": "time {}",
+             "DELETE_TREE": "{} freed"}
     return "done: " + words[name].format(listed) if name in words else "done"

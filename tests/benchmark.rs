@@ -5,7 +5,8 @@
 //! undercut by much: one addition for every word of the tables but contents, and the copy or fill of the call.
 //! The model is the differential test's, built for release: it favours plain rules over speed.
 //! Call records are served by `negvask_batch`, with one audit, beside `negvask_serve`, with one for each.
-//! The two lists of the reach report stand beside plain walks over the pointers.
+//! The two lists of the reach report stand beside plain walks over the pointers. DELETE_TREE of a large tree stands beside
+//! a plain list of work, and beside one DELETE after the other.
 //! Times are the best of many rounds, taken in turns; none is asserted.
 
 #[allow(dead_code)]
@@ -317,7 +318,8 @@ mod plain {
         0
     }
 
-    pub fn delete(card: &mut Card, s: u16, d: u16, key: Key, value: &mut u64) -> u32 {
+    /// What DELETE and DELETE_TREE refuse before they look for the pointer.
+    fn removal_refusal(card: &Card, s: u16, d: u16, key: Key) -> u32 {
         match audit(card) {
             0 => {}
             refusal => return refusal,
@@ -330,6 +332,14 @@ mod plain {
         }
         if !opens(card, 1, s, key) {
             return 5;
+        }
+        0
+    }
+
+    pub fn delete(card: &mut Card, s: u16, d: u16, key: Key, value: &mut u64) -> u32 {
+        match removal_refusal(card, s, d, key) {
+            0 => {}
+            refusal => return refusal,
         }
         let m = card.info[3] as usize;
         let Ok(at) = card.pointers[..m].binary_search(&word(s as usize, d as usize)) else { return 8 };
@@ -353,6 +363,61 @@ mod plain {
             card.keys[4 * d..4 * d + 4].fill(0);
             card.windows[2 * d..2 * d + 2].fill(0);
         }
+        0
+    }
+
+    pub fn delete_tree(card: &mut Card, s: u16, d: u16, key: Key, value: &mut u64) -> u32 {
+        match removal_refusal(card, s, d, key) {
+            0 => {}
+            refusal => return refusal,
+        }
+        let (n, m) = (card.flags.len(), card.info[3] as usize);
+        let Ok(at) = card.pointers[..m].binary_search(&word(s as usize, d as usize)) else { return 8 };
+        // A list of work over a copy of the counts: a block is freed when its count comes to 0.
+        let places = places_of(n, card.pointers[..m].iter().map(|&p| p >> 16));
+        let (mut counts, mut freed): ([u32; 4_096], Marks) = ([0; 4_096], [false; 4_096]);
+        counts[..n].copy_from_slice(&card.counts);
+        counts[d as usize] -= card.multiplicities[at] as u32;
+        let mut queue: Numbers = [0; 4_096];
+        let (mut next, mut end) = (0, 0);
+        if counts[d as usize] == 0 {
+            (queue[0], freed[d as usize], end) = (d, true, 1);
+        }
+        while next < end {
+            let b = queue[next] as usize;
+            next += 1;
+            if card.flags[b] & WRITE_KEY != 0 {
+                return 15;
+            }
+            for i in (places[b] as usize..places[b + 1] as usize).filter(|&i| i != at) {
+                let to = (card.pointers[i] & 65_535) as usize;
+                counts[to] -= card.multiplicities[i] as u32;
+                if counts[to] == 0 {
+                    (queue[end], freed[to]) = (to as u16, true);
+                    end += 1;
+                }
+            }
+        }
+        // One pass over the pointers: those that stay move to the front.
+        let mut left = 0;
+        for i in 0..m {
+            let pointer = card.pointers[i];
+            if i != at && !freed[(pointer >> 16) as usize] {
+                card.pointers[left] = pointer;
+                card.multiplicities[left] = card.multiplicities[i];
+                left += 1;
+            }
+        }
+        card.pointers[left..m].fill(0);
+        card.multiplicities[left..m].fill(0);
+        card.info[3] = left as u64;
+        card.counts.copy_from_slice(&counts[..n]);
+        for b in queue[..end].iter().map(|&b| b as usize) {
+            card.flags[b] = 0;
+            card.keys[4 * b..4 * b + 4].fill(0);
+            card.windows[2 * b..2 * b + 2].fill(0);
+        }
+        *value = end as u64;
         0
     }
 
@@ -1062,6 +1127,129 @@ fn deepest_list() -> (&'static str, usize) {
     depths.into_iter().max_by_key(|(_, depth)| *depth).unwrap()
 }
 
+// ---- Trees ----
+
+/// The blocks of the tree, and its first one, to which block 1 points alone.
+const TREE: usize = 4_000;
+const TOP: u16 = 2;
+
+/// DELETE_TREE of all of it.
+const WHOLE_TREE: &str = "TREE 4000";
+
+/// The write key of block 1.
+const ABOVE: Key = Key { high: 1, low: WRITE_KEY as u64 };
+
+/// A tree of blocks with read keys, each with up to four below it, and pointers from them to later ones and to the blocks
+/// beside the tree, until no place is left.
+fn tree_card(size: Size) -> Card {
+    let (n, top) = (size.blocks, TOP as usize);
+    let end = top + TREE;
+    let mut pointers: BTreeSet<u32> = (end..n).chain([1]).map(|b| word(0, b)).collect();
+    pointers.insert(word(1, top));
+    pointers.extend((1..TREE).map(|i| word(top + (i - 1) / 4, top + i)));
+    let pointers = filled_up(pointers, n, size.places, |s, d| (top..end).contains(&s) && s < d);
+    list_card(size, pointers, |b| match b {
+        0 => 0,
+        1 => WRITE_KEY,
+        _ if b < end => READ_KEY,
+        _ => READ_KEY | WRITE_KEY,
+    })
+}
+
+/// Puts the card's record and tables back, but for contents, which no such call changes.
+fn restore(tables: &mut Tables, card: &Card) {
+    tables.info.load(&card.info);
+    tables.flags.load(&card.flags);
+    tables.keys.load(&card.keys);
+    tables.counts.load(&card.counts);
+    tables.pointers.load(&card.pointers);
+    tables.multiplicities.load(&card.multiplicities);
+    tables.windows.load(&card.windows);
+}
+
+/// The same for the plain version.
+fn restore_plain(plain: &mut Card, card: &Card) {
+    plain.info.copy_from_slice(&card.info);
+    plain.flags.copy_from_slice(&card.flags);
+    plain.keys.copy_from_slice(&card.keys);
+    plain.counts.copy_from_slice(&card.counts);
+    plain.pointers.copy_from_slice(&card.pointers);
+    plain.multiplicities.copy_from_slice(&card.multiplicities);
+    plain.windows.copy_from_slice(&card.windows);
+}
+
+/// DELETE_TREE of the whole tree by the host that has the key of block 1.
+fn tree_call() -> Direct {
+    Direct::DeleteTree { port: 0, source: 1, credential: credential_bytes(Credential::Key(ABOVE)), destination: TOP }
+}
+
+fn tree_row(size: Size, pass: f64) -> Row {
+    let (start, call) = (tree_card(size), tree_call());
+    let mut s = side(start.clone());
+    let freed = RefCell::new(0);
+    let [library, plain] = in_turns(
+        &mut s,
+        1,
+        [
+            &|s| {
+                restore(&mut s.tables, &start);
+                timed(|| done(s.tables.call(&call, &mut s.buffers)))
+            },
+            &|s| {
+                restore_plain(&mut s.plain, &start);
+                let value = &mut *freed.borrow_mut();
+                timed(|| done(plain::delete_tree(&mut s.plain, 1, TOP, ABOVE, black_box(value))))
+            },
+        ],
+    );
+    assert_eq!(s.tables.difference(&s.plain), None, "library and plain version differ");
+    assert_eq!((s.buffers.value.values()[0], freed.into_inner()), (TREE as u64, TREE as u64), "not the whole tree");
+    let model = model_time(&start, &[], &call);
+    Row { call: WHOLE_TREE, size, library, plain, model, floor: pass, against: plain, target: Some(1.5) }
+}
+
+/// The same tree cleared by one DELETE for each time that a pointer is there, at the service port, from the leaves up: how
+/// many calls, and how long they take.
+fn single_deletes(size: Size) -> (usize, f64) {
+    let start = tree_card(size);
+    let mut pointers: Vec<(u32, u16)> = start.in_use().filter(|(p, _)| p >> 16 >= 1).collect();
+    pointers.sort_by_key(|(p, _)| std::cmp::Reverse(p >> 16));
+    let credential = credential_bytes(Credential::Nothing);
+    let calls: Vec<Direct> = pointers
+        .iter()
+        .flat_map(|&(p, times)| (0..times).map(move |_| ((p >> 16) as u16, (p & 65_535) as u16)))
+        .map(|(source, destination)| Direct::Delete { port: 1, source, credential: credential.clone(), destination })
+        .collect();
+    let mut s = side(start.clone());
+    let times = (0..2).map(|_| {
+        restore(&mut s.tables, &start);
+        library_all(&mut s, &calls)
+    });
+    let best = times.min().unwrap().as_nanos() as f64;
+    done(plain::delete_tree(&mut s.plain, 1, TOP, ABOVE, &mut 0));
+    assert_eq!(s.tables.difference(&s.plain), None, "the single calls have left another card");
+    (calls.len(), best)
+}
+
+fn tree_table(row: &Row) {
+    let (calls, time) = single_deletes(row.size);
+    println!("A tree of {TREE} blocks cleared by one DELETE_TREE, and by DELETE after DELETE from the leaves up.");
+    println!();
+    println!(
+        "| size | N | P | DELETE_TREE, microseconds | DELETEs | their time, microseconds | DELETEs / DELETE_TREE |"
+    );
+    println!("| --- | ---: | ---: | ---: | ---: | ---: | ---: |");
+    println!(
+        "| {} | {} | {} | {:.0} | {calls} | {:.0} | {:.0} |",
+        row.size.name,
+        row.size.blocks,
+        row.size.places,
+        row.library / 1e3,
+        time / 1e3,
+        time / row.library
+    );
+}
+
 // ---- The stack ----
 
 const STACK: usize = 256 * 1024;
@@ -1104,6 +1292,8 @@ fn deepest() -> (&'static str, usize) {
         (CREATE_AGAIN, create_call(2)),
         (DELETE_ONE, delete_call(2)),
         ("DELETE", delete_call(2)),
+        // One of those that ALLOC has taken.
+        ("DELETE_TREE", Direct::DeleteTree { port: 0, source: 1, credential: key.clone(), destination: 2_047 }),
         ("KEY_READ", Direct::KeyRead { port: 0, block: 2, credential: key.clone(), key: new.clone() }),
         ("KEY_WRITE", Direct::KeyWrite { port: 0, block: 2, credential: key.clone(), key: new }),
         ("RENEW", Direct::Renew { mode: 1, block: 2, key: credential_bytes(Credential::Key(WRITER)), interval: 10 }),
@@ -1325,6 +1515,9 @@ fn rows(size: Size) -> Vec<Row> {
         rows.push(row("CONTIG 3", run, plain_run, model_run, pass + 3.0 * copy, plain_run, None));
     }
     rows.extend(pointer_rows(size, pass));
+    if size.blocks > TREE {
+        rows.push(tree_row(size, pass));
+    }
     let (read_model, write_model) = (full_model(&read_key_call), full_model(&write_key_call));
     rows.push(row("KEY_READ", read_key[0], read_key[1], read_model, pass, read_key[1], Some(1.5)));
     rows.push(row("KEY_WRITE", write_key[0], write_key[1], write_model, pass, write_key[1], Some(1.5)));
@@ -1366,8 +1559,8 @@ fn main() {
     }
     println!();
     println!("Targets: AUDIT against the plain audit; READ and WRITE against the library's own audit plus a copy of");
-    println!("B bytes; ALLOC 64, CONTIG 64, CREATE, CREATE again, DELETE, DELETE one of 2, KEY_READ, KEY_WRITE and");
-    println!("RENEW against the plain call, audit included.");
+    println!("B bytes; ALLOC 64, CONTIG 64, CREATE, CREATE again, DELETE, DELETE one of 2, TREE 4000, KEY_READ,");
+    println!("KEY_WRITE and RENEW against the plain call, audit included.");
     println!();
     println!("| growth of | from | to | N + P grows | library grows | plain grows |");
     println!("| --- | --- | --- | ---: | ---: | ---: |");
@@ -1391,6 +1584,10 @@ fn main() {
     batch_growth_table();
     println!();
     list_tables();
+    if let Some(row) = all.iter().find(|row| row.call == WHOLE_TREE) {
+        println!();
+        tree_table(row);
+    }
     let ((list, list_bytes), (call, bytes)) = (deepest_list(), deepest());
     println!();
     println!("stack: {list_bytes} bytes below the caller in the deepest call, {list}, at full size");

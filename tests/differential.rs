@@ -28,8 +28,8 @@ use batch::{batches, Batches};
 use damage::{damage, DAMAGES, SHAPE_DAMAGES};
 use library::{Direct, LentBuffers, Tables, HOST, SERVICE};
 use model::{
-    number, port_of, word, Buffers, Call, Card, Operation, Port, CANNOT_POINT, HAS_POINTERS, HIGHEST_MULTIPLICITY,
-    HOST_KINDS, NO_PLACE, READ_KEY, SERVICE_KINDS, WRITE_KEY,
+    ends, number, port_of, word, Buffers, Call, Card, Operation, Port, CANNOT_POINT, HAS_POINTERS, HAS_WRITE_KEY,
+    HIGHEST_MULTIPLICITY, HOST_KINDS, NO_PLACE, READ_KEY, SERVICE_KINDS, WRITE_KEY,
 };
 use random_call::{buffers, random_format, spoilt_record, Chooser};
 use random_card::{random_card, random_size, Random, Size, KEYS};
@@ -46,7 +46,7 @@ const DEFAULT_SEED: u64 = 1;
 // ---- Counting what was reached ----
 
 /// Each at the place of its host kind.
-const CALLS: [&str; 14] = [
+const CALLS: [&str; 15] = [
     "FORMAT",
     "READ",
     "WRITE",
@@ -61,6 +61,7 @@ const CALLS: [&str; 14] = [
     "AUDIT",
     "ALLOC_CONTIG",
     "KEY_WRITE",
+    "DELETE_TREE",
 ];
 
 /// Whether the call has a port of its own, and so a credential.
@@ -148,7 +149,8 @@ fn window_changes() -> Vec<WindowChange> {
     let by_interval = [(false, false, Greater), (false, true, Less), (false, true, Equal), (false, true, Greater)];
     let by_0 = [(true, true, Less), (true, false, Equal), (true, false, Greater)];
     let mut changes = Vec::new();
-    for (name, port) in [("READ", Port::Host), ("WRITE", Port::Host), ("READ", Port::Service), ("WRITE", Port::Service)] {
+    for (name, port) in [("READ", Port::Host), ("WRITE", Port::Host), ("READ", Port::Service), ("WRITE", Port::Service)]
+    {
         changes.extend(by_interval.iter().chain(&by_0).map(|&(zero, open, end)| (name, port, zero, open, end)));
     }
     changes.extend(by_interval.map(|(zero, open, end)| ("RENEW", Port::Host, zero, open, end)));
@@ -240,7 +242,107 @@ fn deletions() -> Vec<(Deletion, u32)> {
     all
 }
 
-/// Whether each pointer is there as often as before, with those that the done call made and without the one that it took.
+/// What becomes of the blocks in a DELETE_TREE of a pointer that is there, the first that holds.
+#[derive(Clone, Copy, Debug, PartialEq, Eq, PartialOrd, Ord)]
+enum Tree {
+    /// Nothing is freed, though the pointer was the last on any chain from a root to its destination.
+    KeptByItself,
+    /// Nothing is freed.
+    Kept,
+    /// The destination has a write key, and would be freed.
+    KeyOfDestination,
+    /// Another block that would be freed has one.
+    KeyBelow,
+    /// The source is freed too.
+    WithSource,
+    /// A freed block pointed several times to one that stays.
+    Lowering,
+    Alone,
+    Several,
+}
+
+/// What a DELETE_TREE finds: its port, whether the pointer is there several times, whether a block that would be freed has a
+/// read key, and what becomes of the blocks.
+type TreeDeletion = (Port, bool, bool, Tree);
+
+/// The answers of a DELETE_TREE of a pointer that is there.
+const TREE_ANSWERS: [u32; 2] = [0, HAS_WRITE_KEY];
+
+fn tree_deletion(card: &Card, port: Port, call: &Call) -> Option<TreeDeletion> {
+    let Call::DeleteTree { source, destination, .. } = call else { return None };
+    let (s, d) = (*source as usize, *destination as usize);
+    if card.audit().is_err() || !card.points(s, d) {
+        return None;
+    }
+    let freed = card.freed_with(s, d);
+    let with_key = |flag: u8| (0..card.blocks()).any(|b| freed[b] && card.flags[b] & flag != 0);
+    let lowers = |(p, times): (u32, u16)| times > 1 && freed[ends(p).0] && !freed[ends(p).1];
+    let tree = match freed.iter().filter(|&&f| f).count() {
+        0 if !led_to(card, s, d)[d] => Tree::KeptByItself,
+        0 => Tree::Kept,
+        _ if card.flags[d] & WRITE_KEY != 0 => Tree::KeyOfDestination,
+        _ if with_key(WRITE_KEY) => Tree::KeyBelow,
+        _ if freed[s] => Tree::WithSource,
+        _ if card.in_use().any(lowers) => Tree::Lowering,
+        1 => Tree::Alone,
+        _ => Tree::Several,
+    };
+    Some((port, card.multiplicity(s, d) > 1, with_key(READ_KEY), tree))
+}
+
+/// The blocks to which chains of pointers lead from a root, but for the pointer between these two.
+fn led_to(card: &Card, source: usize, destination: usize) -> Vec<bool> {
+    let mut led: Vec<bool> = (0..card.blocks()).map(|b| card.root(b)).collect();
+    loop {
+        let before = led.clone();
+        for (from, to) in card.in_use().map(|(p, _)| ends(p)).filter(|&e| e != (source, destination)) {
+            led[to] |= led[from];
+        }
+        if led == before {
+            return led;
+        }
+    }
+}
+
+/// Every such DELETE_TREE with its answer. Where nothing is freed, no key counts.
+fn tree_deletions() -> Vec<(TreeDeletion, u32)> {
+    use Tree::{Alone, Kept, KeptByItself, KeyBelow, KeyOfDestination, Lowering, Several, WithSource};
+    let mut all = Vec::new();
+    for port in [Port::Host, Port::Service] {
+        for times in [false, true] {
+            all.extend([KeptByItself, Kept].map(|tree| ((port, times, false, tree), 0)));
+            for key in [false, true] {
+                all.extend([KeyOfDestination, KeyBelow].map(|tree| ((port, times, key, tree), HAS_WRITE_KEY)));
+                all.extend([WithSource, Lowering, Alone, Several].map(|tree| ((port, times, key, tree), 0)));
+            }
+        }
+    }
+    all
+}
+
+/// Whether a done DELETE_TREE freed so many blocks, and just those that a list of work over the counts finds.
+fn freed_as_counted(before: &Card, after: &Card, call: &Call, value: u64) -> bool {
+    let Call::DeleteTree { source, destination, .. } = call else { return true };
+    let (s, d) = (*source as usize, *destination as usize);
+    let mut counts = before.counts.clone();
+    counts[d] -= before.multiplicity(s, d) as u32;
+    let mut work = if counts[d] == 0 { vec![d] } else { vec![] };
+    let mut freed = work.clone();
+    while let Some(b) = work.pop() {
+        for (p, times) in before.in_use().filter(|&(p, _)| ends(p).0 == b && ends(p) != (s, d)) {
+            let to = ends(p).1;
+            counts[to] -= times as u32;
+            if counts[to] == 0 {
+                work.push(to);
+                freed.push(to);
+            }
+        }
+    }
+    let kept = |b: &usize| before.allocated(*b) && !freed.contains(b);
+    value == freed.len() as u64 && (0..before.blocks()).all(|b| after.allocated(b) == kept(&b))
+}
+
+/// Whether each pointer is there as often as before, with those that the done call made and without those that it took.
 fn counted(before: &Card, after: &Card, call: &Call, places: &[u16]) -> bool {
     let mut pointers: BTreeMap<u32, u64> = before.in_use().map(|(pointer, times)| (pointer, times as u64)).collect();
     let mut make = |source: u16, destination: u16| {
@@ -253,6 +355,10 @@ fn counted(before: &Card, after: &Card, call: &Call, places: &[u16]) -> bool {
         }
         Call::Delete { source, destination, .. } => {
             *pointers.entry(word(*source as usize, *destination as usize)).or_default() -= 1;
+        }
+        Call::DeleteTree { source, destination, .. } => {
+            let freed = |b: usize| before.allocated(b) && !after.allocated(b);
+            pointers.retain(|&p, _| p != word(*source as usize, *destination as usize) && !freed(ends(p).0));
         }
         _ => {}
     }
@@ -278,6 +384,7 @@ struct Reached {
     window_changes: BTreeMap<WindowChange, u64>,
     creations: BTreeMap<(Creation, u32), u64>,
     deletions: BTreeMap<(Deletion, u32), u64>,
+    tree_deletions: BTreeMap<(TreeDeletion, u32), u64>,
     damages: BTreeMap<usize, u64>,
     calls: u64,
 }
@@ -298,6 +405,7 @@ fn index(call: &Direct) -> (usize, u8) {
         Direct::Audit => (11, 0),
         Direct::AllocContig { port, .. } => (12, *port),
         Direct::KeyWrite { port, .. } => (13, *port),
+        Direct::DeleteTree { port, .. } => (14, *port),
     }
 }
 
@@ -327,6 +435,7 @@ impl Reached {
             "ALLOC_CONTIG" => vec![3, 4, 5, 6, 10, 11, 14],
             "CREATE" => vec![3, 5, 6, 7, 11],
             "DELETE" => vec![3, 5, 6, 8, 9],
+            "DELETE_TREE" => vec![3, 5, 6, 8, 15],
             "KEY_READ" | "KEY_WRITE" => vec![3, 5, 6],
             "RENEW" => vec![3, 4, 5],
             "FORCE" => vec![3],
@@ -363,7 +472,7 @@ impl Reached {
     /// Prints the table; gives the pairs that can occur and did not.
     fn table(&self) -> Vec<String> {
         let mut missing = Vec::new();
-        let answers = [0, 1, 2, 3, 4, 5, 6, 7, 8, 9, 10, 11, 12, 13, 14];
+        let answers = [0, 1, 2, 3, 4, 5, 6, 7, 8, 9, 10, 11, 12, 13, 14, 15];
         print!("{:<33}", "calls by answer");
         answers.iter().for_each(|a| print!("{a:>7}"));
         println!();
@@ -400,6 +509,7 @@ impl Reached {
         missing.extend(sorts("window change", &self.window_changes, &window_changes()));
         missing.extend(sorts("CREATE", &self.creations, &creations()));
         missing.extend(sorts("DELETE", &self.deletions, &deletions()));
+        missing.extend(sorts("DELETE_TREE", &self.tree_deletions, &tree_deletions()));
         println!(
             "damage: {} ways, each refused {} times or more",
             self.damages.len(),
@@ -447,8 +557,8 @@ impl Bench {
         self.model = card;
     }
 
-    /// The model's answer. A refusal must have changed nothing, and a done call must have cut no window and have counted
-    /// each pointer.
+    /// The model's answer. A refusal must have changed nothing, and a done call must have cut no window, have counted each
+    /// pointer and have freed no other blocks than it should.
     fn expect(&mut self, step: &Step, buffers: &mut Buffers) -> Result<u32, String> {
         let small = self.model.contents.len() <= 1 << 16;
         let before = (small.then(|| self.model.clone()), buffers.clone());
@@ -470,6 +580,9 @@ impl Bench {
             if !counted(before, &self.model, &call, &buffers.places) {
                 return Err("the model has not each pointer as often as it was made".to_string());
             }
+            if !freed_as_counted(before, &self.model, &call, buffers.value) {
+                return Err("the model freed others than a list of work over the counts".to_string());
+            }
         }
         Ok(answer)
     }
@@ -482,6 +595,7 @@ impl Bench {
         let window = step.plain().and_then(|(port, call)| window_change(&self.model, port, &call));
         let creation = step.plain().and_then(|(port, call)| creation(&self.model, port, &call));
         let deletion = step.plain().and_then(|(port, call)| deletion(&self.model, port, &call));
+        let tree = step.plain().and_then(|(port, call)| tree_deletion(&self.model, port, &call));
         let answer = self.expect(step, &mut expected)?;
         if answer == 0 {
             count(&mut reached.key_changes, key);
@@ -490,6 +604,7 @@ impl Bench {
         let answered = |answers: &[u32]| answers.contains(&answer).then_some(answer);
         count(&mut reached.creations, creation.zip(answered(&CREATION_ANSWERS)));
         count(&mut reached.deletions, deletion.zip(answered(&DELETION_ANSWERS)));
+        count(&mut reached.tree_deletions, tree.zip(answered(&TREE_ANSWERS)));
         let (by_function, by_record) = step.routes();
         if let Some(call) = &by_function {
             let mut buffers = LentBuffers::new(lent);

@@ -40,6 +40,8 @@ library! {
                    destination: u16, second: *const u8, second_len: usize);
     negvask_delete(port: u8, source: u16, credential: *const u8, credential_len: usize, destination: u16,
                    value: *mut u64);
+    negvask_delete_tree(port: u8, source: u16, credential: *const u8, credential_len: usize, destination: u16,
+                        value: *mut u64);
     negvask_key_read(port: u8, block: u16, credential: *const u8, credential_len: usize,
                      key: *const u8, key_len: usize);
     negvask_key_write(port: u8, block: u16, credential: *const u8, credential_len: usize,
@@ -137,6 +139,7 @@ pub enum Direct {
     AllocContig { port: u8, reference: u16, credential: Raw, hint: u16, count: u8 },
     Create { port: u8, source: u16, source_credential: Raw, destination: u16, destination_credential: Raw },
     Delete { port: u8, source: u16, credential: Raw, destination: u16 },
+    DeleteTree { port: u8, source: u16, credential: Raw, destination: u16 },
     KeyRead { port: u8, block: u16, credential: Raw, key: Raw },
     KeyWrite { port: u8, block: u16, credential: Raw, key: Raw },
     Renew { mode: u8, block: u16, key: Raw, interval: u32 },
@@ -355,6 +358,16 @@ impl Tables {
                 *destination,
                 lent.value.pointer()
             ),
+            Direct::DeleteTree { port, source, credential: c, destination } => with_tables!(
+                negvask_delete_tree,
+                self,
+                *port,
+                *source,
+                c.as_ptr(),
+                c.len(),
+                *destination,
+                lent.value.pointer()
+            ),
             Direct::KeyRead { port, block, credential: c, key } => {
                 with_tables!(negvask_key_read, self, *port, *block, c.as_ptr(), c.len(), key.as_ptr(), key.len())
             }
@@ -470,6 +483,9 @@ impl Direct {
             Call::Delete { source, credential, destination } => {
                 Direct::Delete { port, source, credential: credential_bytes(credential), destination }
             }
+            Call::DeleteTree { source, credential, destination } => {
+                Direct::DeleteTree { port, source, credential: credential_bytes(credential), destination }
+            }
             Call::KeyRead { block, credential, key } => {
                 Direct::KeyRead { port, block, credential: credential_bytes(credential), key: new_key_bytes(key) }
             }
@@ -533,6 +549,10 @@ impl Direct {
             Direct::Delete { port, source, credential, destination } => (
                 port_of(*port)?,
                 Call::Delete { source: *source, credential: credential_of(credential)?, destination: *destination },
+            ),
+            Direct::DeleteTree { port, source, credential, destination } => (
+                port_of(*port)?,
+                Call::DeleteTree { source: *source, credential: credential_of(credential)?, destination: *destination },
             ),
             Direct::KeyRead { port, block, credential, key } => (
                 port_of(*port)?,
@@ -599,6 +619,12 @@ impl Direct {
                 put_bytes(&mut body, credential)?;
                 body.extend(destination.to_be_bytes());
                 (*port, 5)
+            }
+            Direct::DeleteTree { port, source, credential, destination } => {
+                body.extend(source.to_be_bytes());
+                put_bytes(&mut body, credential)?;
+                body.extend(destination.to_be_bytes());
+                (*port, 14)
             }
             Direct::KeyRead { port, block, credential, key } => {
                 body.extend(block.to_be_bytes());

@@ -27,6 +27,7 @@ pub const NO_PLACE: u32 = 11;
 pub const CLOCK: u32 = 12;
 pub const MALFORMED: u32 = 13;
 pub const NO_RUN: u32 = 14;
+pub const HAS_WRITE_KEY: u32 = 15;
 
 /// Why a batch stops, besides its end and a malformed record.
 pub const CUT_SHORT: u32 = 256;
@@ -93,6 +94,7 @@ pub enum Call {
     AllocContig { reference: u16, credential: Credential, hint: u16, count: u8 },
     Create { source: u16, source_credential: Credential, destination: u16, destination_credential: Credential },
     Delete { source: u16, credential: Credential, destination: u16 },
+    DeleteTree { source: u16, credential: Credential, destination: u16 },
     KeyRead { block: u16, credential: Credential, key: Option<Key> },
     KeyWrite { block: u16, credential: Credential, key: Option<Key> },
     Renew { mode: u8, block: u16, key: Key, interval: u32 },
@@ -349,6 +351,20 @@ impl Card {
         self.counts[destination] -= 1;
     }
 
+    /// Takes the pointers with the property away, each as often as it is there.
+    fn take_pointers(&mut self, property: impl Fn(usize, usize) -> bool) {
+        let (gone, left): (Vec<_>, Vec<_>) = self.in_use().partition(|&(p, _)| property(ends(p).0, ends(p).1));
+        gone.iter().for_each(|&(p, times)| self.counts[ends(p).1] -= times as u32);
+        self.set_pointers(left);
+    }
+
+    /// Frees a block that nothing points to; its contents stay.
+    fn release(&mut self, b: usize) {
+        self.flags[b] = 0;
+        self.keys[4 * b..4 * b + 4].fill(0);
+        self.windows[2 * b..2 * b + 2].fill(0);
+    }
+
     /// The block with the property that is nearest the hint, the lower on a tie; the lowest when there is no hint.
     fn nearest(&self, hint: u16, property: impl Fn(usize) -> bool) -> Option<usize> {
         let distance = |b: usize| if hint == NO_HINT { b } else { b.abs_diff(hint as usize) };
@@ -506,6 +522,16 @@ impl Card {
         Ok(())
     }
 
+    /// What DELETE and DELETE_TREE check alike, up to the pointer.
+    fn removal_refusal(&self, port: Port, s: usize, credential: Credential, d: usize) -> Answer {
+        self.audit()?;
+        refuse_if(!self.allocated(s), NO_BLOCK)?;
+        refuse_if(!self.allocated(d), NO_BLOCK)?;
+        refuse_if(self.root(s) && port == Port::Host, ROOT)?;
+        refuse_if(!self.admitted(port, credential, s, Writing), NOT_OPENED)?;
+        refuse_if(!self.points(s, d), NO_POINTER)
+    }
+
     pub fn delete(
         &mut self,
         port: Port,
@@ -515,21 +541,51 @@ impl Card {
         value: &mut u64,
     ) -> Answer {
         let (s, d) = (source as usize, destination as usize);
-        self.audit()?;
-        refuse_if(!self.allocated(s), NO_BLOCK)?;
-        refuse_if(!self.allocated(d), NO_BLOCK)?;
-        refuse_if(self.root(s) && port == Port::Host, ROOT)?;
-        refuse_if(!self.admitted(port, credential, s, Writing), NOT_OPENED)?;
-        refuse_if(!self.points(s, d), NO_POINTER)?;
+        self.removal_refusal(port, s, credential, d)?;
         refuse_if(self.counts[d] == 1 && self.has_pointers(d), HAS_POINTERS)?;
         self.take_pointer(s, d);
         let freed = self.counts[d] == 0;
         if freed {
-            self.flags[d] = 0;
-            self.keys[4 * d..4 * d + 4].fill(0);
-            self.windows[2 * d..2 * d + 2].fill(0);
+            self.release(d);
         }
         *value = freed as u64;
+        Ok(())
+    }
+
+    /// The blocks that are freed once the pointer is wholly removed: the destination if nothing points to it then, and
+    /// again and again each allocated block that is no root and whose every pointer comes from freed blocks.
+    pub fn freed_with(&self, source: usize, destination: usize) -> Vec<bool> {
+        let left: Vec<_> = self.in_use().map(|(p, _)| ends(p)).filter(|&e| e != (source, destination)).collect();
+        let mut freed = vec![false; self.blocks()];
+        freed[destination] = left.iter().all(|&(_, d)| d != destination);
+        loop {
+            let mut kept = vec![false; self.blocks()];
+            left.iter().filter(|&&(s, _)| !freed[s]).for_each(|&(_, d)| kept[d] = true);
+            let more: Vec<bool> =
+                (0..self.blocks()).map(|b| freed[b] || (self.allocated(b) && !self.root(b) && !kept[b])).collect();
+            if more == freed {
+                return freed;
+            }
+            freed = more;
+        }
+    }
+
+    pub fn delete_tree(
+        &mut self,
+        port: Port,
+        source: u16,
+        credential: Credential,
+        destination: u16,
+        value: &mut u64,
+    ) -> Answer {
+        let (s, d) = (source as usize, destination as usize);
+        self.removal_refusal(port, s, credential, d)?;
+        let freed = self.freed_with(s, d);
+        let blocks: Vec<usize> = (0..self.blocks()).filter(|&b| freed[b]).collect();
+        refuse_if(blocks.iter().any(|&b| self.key(b, Writing).is_some()), HAS_WRITE_KEY)?;
+        self.take_pointers(|from, to| (from, to) == (s, d) || freed[from]);
+        blocks.iter().for_each(|&b| self.release(b));
+        *value = blocks.len() as u64;
         Ok(())
     }
 
@@ -612,6 +668,9 @@ impl Card {
             }
             Call::Delete { source, credential, destination } => {
                 self.delete(port, *source, *credential, *destination, &mut lent.value)
+            }
+            Call::DeleteTree { source, credential, destination } => {
+                self.delete_tree(port, *source, *credential, *destination, &mut lent.value)
             }
             Call::KeyRead { block, credential, key } => self.set_key(Reading, port, *block, *credential, *key),
             Call::KeyWrite { block, credential, key } => self.set_key(Writing, port, *block, *credential, *key),
@@ -794,10 +853,10 @@ pub fn new_key_of(bytes: &[u8]) -> Option<Option<Key>> {
 }
 
 /// The kinds of a host's records, each call once.
-pub const HOST_KINDS: [u8; 13] = [1, 2, 3, 4, 5, 6, 7, 8, 9, 10, 11, 12, 13];
+pub const HOST_KINDS: [u8; 14] = [1, 2, 3, 4, 5, 6, 7, 8, 9, 10, 11, 12, 13, 14];
 
 /// The kinds of the service port: 128 more than the host's kind of the same call.
-pub const SERVICE_KINDS: [u8; 8] = [129, 130, 131, 132, 133, 134, 140, 141];
+pub const SERVICE_KINDS: [u8; 9] = [129, 130, 131, 132, 133, 134, 140, 141, 142];
 
 /// The port at which a record's call is performed, by the port of the wire on which the record came: a host's kinds are
 /// a host's calls on either wire, and the service port's exist on the service wire alone.
@@ -846,6 +905,7 @@ pub fn decode(wire: Port, kind: u8, body: &[u8]) -> Option<(Port, Call)> {
             count: body.byte()?,
         },
         13 => Call::KeyWrite { block: body.block()?, credential: body.credential()?, key: body.new_key()? },
+        14 => Call::DeleteTree { source: body.block()?, credential: body.credential()?, destination: body.block()? },
         _ => Call::Audit,
     };
     Some((port, call))
@@ -867,7 +927,7 @@ pub fn body_length(wire: Port, kind: u8) -> Option<usize> {
         2 => 535,
         3 => 22,
         4 => 38,
-        5 => 21,
+        5 | 14 => 21,
         6 | 13 => 36,
         7 => 23,
         8 => 2,
@@ -909,7 +969,7 @@ pub fn answer_room(card: &Card, call: &Call) -> usize {
     match call {
         Call::Read { .. } => 1 + lent_bytes(card),
         Call::Alloc { .. } | Call::AllocContig { .. } => 1 + 2 * 64,
-        Call::Delete { .. } | Call::Free | Call::Tick { .. } => 1 + 8,
+        Call::Delete { .. } | Call::DeleteTree { .. } | Call::Free | Call::Tick { .. } => 1 + 8,
         _ => 1,
     }
 }
@@ -925,7 +985,9 @@ pub fn answer_bytes(card: &mut Card, port: Port, call: &Call) -> Vec<u8> {
             Call::Alloc { count, .. } | Call::AllocContig { count, .. } => {
                 bytes.extend(lent.places[..*count as usize].iter().flat_map(|p| p.to_be_bytes()))
             }
-            Call::Delete { .. } | Call::Free | Call::Tick { .. } => bytes.extend(lent.value.to_be_bytes()),
+            Call::Delete { .. } | Call::DeleteTree { .. } | Call::Free | Call::Tick { .. } => {
+                bytes.extend(lent.value.to_be_bytes())
+            }
             _ => {}
         }
     }

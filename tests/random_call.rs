@@ -236,7 +236,7 @@ impl Chooser {
 
     pub fn call(&self, rnd: &mut Random, card: &Card) -> Direct {
         let port = self.port(rnd);
-        match rnd.below(110) {
+        match rnd.below(120) {
             0..=16 => {
                 let block = self.block(rnd, card);
                 let credential = self.raw(rnd, card, block, Operation::Reading);
@@ -322,6 +322,17 @@ impl Chooser {
             }
             98 => Direct::Audit,
             99 => Direct::Free,
+            100..=109 => {
+                let (mut source, mut destination) = self.tree_pointer(rnd, card, port);
+                if rnd.percent(15) {
+                    source = self.block(rnd, card);
+                }
+                if rnd.percent(15) {
+                    destination = self.block(rnd, card);
+                }
+                let credential = self.raw(rnd, card, source, Operation::Writing);
+                Direct::DeleteTree { port, source, credential, destination }
+            }
             _ => {
                 let reference = self.block(rnd, card);
                 let credential = self.raw(rnd, card, reference, Operation::Writing);
@@ -360,6 +371,31 @@ impl Chooser {
             Some(i) => (ends(card.pointers[i]).0 as u16, ends(card.pointers[i]).1 as u16),
             None => self.pointer(rnd, card),
         }
+    }
+
+    /// A pointer for DELETE_TREE: any, or one that the port can remove and that takes several blocks with it, its own source,
+    /// or none with a write key, if some draws find it.
+    fn tree_pointer(&self, rnd: &mut Random, card: &Card, port: u8) -> (u16, u16) {
+        let (wanted, host) = (rnd.below(8), port == 0);
+        if wanted == 0 || card.used() == 0 {
+            return self.pointer(rnd, card);
+        }
+        let fits = |&(s, d): &(u16, u16)| {
+            let s = s as usize;
+            let freed = card.freed_with(s, d as usize);
+            let several = freed.iter().filter(|&&f| f).count() > 1;
+            let keyed = (0..card.blocks()).any(|b| freed[b] && card.flags[b] & WRITE_KEY != 0);
+            let sort = match wanted {
+                1 | 2 => true,
+                3 | 4 => several,
+                5 => several && !keyed,
+                6 => freed[s],
+                _ => freed[s] && !keyed && (!host || self.writable(card, s)),
+            };
+            sort && !(host && card.root(s))
+        };
+        let drawn: Vec<_> = (0..24).map(|_| self.pointer(rnd, card)).collect();
+        drawn.iter().copied().find(fits).unwrap_or(drawn[0])
     }
 
     pub fn pointer(&self, rnd: &mut Random, card: &Card) -> (u16, u16) {
@@ -428,7 +464,7 @@ pub fn spoilt_record(rnd: &mut Random, call: &Direct) -> (u8, Vec<u8>) {
             kind = rnd.of(&[&[0], &HOST_KINDS[..], &SERVICE_KINDS].concat());
             body.resize(rnd.of(&[21, 22, 23, 36, 38, 535]), 0);
         }
-        _ => kind = rnd.of(&[0, 14, 15, 33, 64, 127, 128, 135, 136, 137, 138, 139, 142, 143, 255, rnd.0 as u8]),
+        _ => kind = rnd.of(&[0, 15, 16, 33, 64, 127, 128, 135, 136, 137, 138, 139, 143, 144, 255, rnd.0 as u8]),
     }
     (kind, body)
 }

@@ -128,9 +128,11 @@ pub fn random_card(rnd: &mut Random, size: Size) -> Card {
     let mut allocated: Vec<usize> = (0..r).collect();
     let mut free: Vec<usize> = (r..n).collect();
     let mut pointers = BTreeSet::new();
-    for _ in 0..wanted {
-        let b = free.swap_remove(rnd.below(free.len() as u64) as usize);
-        let source = rnd.of(&allocated);
+    let chosen: Vec<usize> = (0..wanted).map(|_| free.swap_remove(rnd.below(free.len() as u64) as usize)).collect();
+    let ring = if wanted < 3 { 0 } else { rnd.of(&[0, 0, 2, 3]) };
+    for (i, &b) in chosen.iter().enumerate() {
+        // The first few may be a ring, to which no other block leads.
+        let source = if i < ring { chosen[(i + 1) % ring] } else { rnd.of(&allocated) };
         pointers.insert(word(source, b));
         card.flags[b] = ALLOCATED;
         allocated.push(b);
@@ -143,7 +145,8 @@ pub fn random_card(rnd: &mut Random, size: Size) -> Card {
     };
     for _ in 0..extra {
         let (source, destination) = (rnd.of(&allocated), rnd.of(&allocated));
-        if pointers.len() < p && destination >= r && source != destination {
+        let into_ring = chosen[..ring].contains(&destination) && !chosen[..ring].contains(&source);
+        if pointers.len() < p && destination >= r && source != destination && !into_ring {
             pointers.insert(word(source, destination));
         }
     }

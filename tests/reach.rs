@@ -494,12 +494,13 @@ fn opened_by(call: &Call) -> Vec<u16> {
         | Call::Renew { block, .. } => vec![*block],
         Call::Alloc { reference, .. } | Call::AllocContig { reference, .. } => vec![*reference],
         Call::Create { source, destination, .. } => vec![*source, *destination],
-        Call::Delete { source, .. } => vec![*source],
+        Call::Delete { source, .. } | Call::DeleteTree { source, .. } => vec![*source],
         _ => vec![],
     }
 }
 
-/// A host session that presents the keys given and no others: it opens no hidden block that has not been freed.
+/// A host session that presents the keys given and no others: it opens no hidden block that has not been freed, and only
+/// a DELETE frees one.
 pub fn opens_listed(rnd: &mut Random, seen: &mut Reports) -> Result<(), String> {
     let size = Size { bytes: 512, blocks: rnd.within(16, 32), roots: rnd.within(1, 3), places: rnd.within(20, 90) };
     let mut card = sealed_card(rnd, size)?;
@@ -530,6 +531,11 @@ pub fn opens_listed(rnd: &mut Random, seen: &mut Reports) -> Result<(), String> 
             }
         }
         card = tables.card();
+        if let Some(b) = (0..card.blocks()).find(|&b| hidden[b] && !card.allocated(b)) {
+            return Err(format!(
+                "block {b} is hidden by the report, and no DELETE took its last pointer, but it is freed"
+            ));
+        }
     }
     Ok(())
 }

@@ -17,8 +17,8 @@ sys.dont_write_bytecode = True
 sys.path.append(str(Path(__file__).resolve().parent.parent / ".ci"))
 from selftest import tried
 
-# Of kinds 1 to 13, READ to KEY_WRITE; the service port's kinds have the same. WRITE's operands are shorter than its body.
-BODIES = (23, 535, 22, 38, 21, 36, 23, 2, 0, 8, 0, 22, 36)
+# Of kinds 1 to 14, READ to DELETE_TREE; the service port's kinds have the same. WRITE's operands are shorter than its body.
+BODIES = (23, 535, 22, 38, 21, 36, 23, 2, 0, 8, 0, 22, 36, 21)
 OPERANDS = (23, 23) + BODIES[2:]
 ROW = 5
 ANYTHING = 16  # two equal numbers up to this may be a constant of any sort, such as a step
@@ -78,7 +78,7 @@ def main(arguments: list[str]) -> int:
 
 JUMPS = struct.pack("<13i", *range(-4000, -4000 + 13 * 37, 37))
 RIGHT = [b"", JUMPS, bytes(64), struct.pack("<4Q", *BODIES[7:11]), struct.pack("<2Q", 8, 8)]
-WRONG = [struct.pack("<13Q", *BODIES), JUMPS + struct.pack("<13H", *BODIES), bytes(OPERANDS), struct.pack("<6I", *BODIES[7:]),
+WRONG = [struct.pack("<14Q", *BODIES), JUMPS + struct.pack("<14H", *BODIES), bytes(OPERANDS), struct.pack("<7I", *BODIES[7:]),
          struct.pack("<4Q", 8, 8, 23, 535)]
 
 sys.exit(main(sys.argv[1:]))

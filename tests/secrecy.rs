@@ -5,8 +5,8 @@
 use crate::batch::{all_served, random_room};
 use crate::library::{Direct, LentBatch, LentBuffers, Tables, HOST};
 use crate::model::{
-    body_length, decode, next_record, Buffers, Call, Card, Credential, Key, Port, Progress, Record, MALFORMED, NO_ROOM,
-    SERVICE_KINDS,
+    body_length, decode, next_record, Buffers, Call, Card, Credential, Key, Port, Progress, Record, HAS_WRITE_KEY,
+    MALFORMED, NO_ROOM, SERVICE_KINDS,
 };
 use crate::random_call::{buffers, Chooser};
 use crate::random_card::{random_card, Random, Size, KEYS};
@@ -35,13 +35,17 @@ pub struct Secrecy {
     /// CREATE and DELETE that are done and leave M as it is.
     raised: u64,
     lowered: u64,
+    /// Blocks freed by DELETE_TREE, and how often it was refused because of a write key.
+    trees: u64,
+    protected: u64,
 }
 
 impl Secrecy {
     pub fn summary(&self) -> String {
         format!(
             "{} sessions, {} calls ({} done, {} of them READ, {} ALLOC_CONTIG, {} KEY_READ, {} KEY_WRITE, {} CREATE and \
-             {} DELETE of a pointer that stays), {} hidden blocks ({} of them freed)",
+             {} DELETE of a pointer that stays), {} blocks freed by DELETE_TREE ({} refused 15), {} hidden blocks ({} of \
+             them freed by DELETE)",
             self.sessions,
             self.calls,
             self.done,
@@ -51,6 +55,8 @@ impl Secrecy {
             self.write_keys,
             self.raised,
             self.lowered,
+            self.trees,
+            self.protected,
             self.hidden,
             self.freed
         )
@@ -66,6 +72,8 @@ impl Secrecy {
             ("KEY_WRITE done", self.write_keys),
             ("CREATE done on a pointer that is there", self.raised),
             ("DELETE done of one of several", self.lowered),
+            ("a block freed by DELETE_TREE", self.trees),
+            ("DELETE_TREE refused 15", self.protected),
         ];
         seen.iter().filter(|(_, count)| *count == 0).map(|(what, _)| format!("secrecy: {what}")).collect()
     }
@@ -82,6 +90,7 @@ pub fn presented_by(call: &Call) -> Vec<Key> {
         | Call::Alloc { credential, .. }
         | Call::AllocContig { credential, .. }
         | Call::Delete { credential, .. }
+        | Call::DeleteTree { credential, .. }
         | Call::KeyRead { credential, .. }
         | Call::KeyWrite { credential, .. } => key(credential),
         Call::Create { source_credential, destination_credential, .. } => {
@@ -179,9 +188,14 @@ impl Pair {
                 self.freed[*destination as usize] |= value == 1;
             }
         }
+        if matches!(call, Call::DeleteTree { .. }) {
+            seen.trees += if answer == 0 { value } else { 0 };
+            seen.protected += (answer == HAS_WRITE_KEY) as u64;
+        }
     }
 
-    /// The cards after the session: equal but for blocks that are still hidden or unallocated, and the hidden ones kept.
+    /// The cards after the session: equal but for blocks that are still hidden or unallocated, and the hidden ones kept:
+    /// only a DELETE frees one.
     fn compare_after(&self, seen: &mut Secrecy) -> Result<(), String> {
         let (first, second) = (self.one.card(), self.two.card());
         if let Some(difference) = self.one.difference_but_contents(&second) {
@@ -195,6 +209,9 @@ impl Pair {
             let may_differ = differed && (hidden && !freed || !second.allocated(b));
             if !may_differ && one != two {
                 return Err(format!("block {b} differs after the session"));
+            }
+            if hidden && !freed && !second.allocated(b) {
+                return Err(format!("hidden block {b} was freed, though no DELETE took its last pointer"));
             }
             if hidden && !freed && (one != &self.start.contents[part(b)] || two != &self.other.contents[part(b)]) {
                 return Err(format!("hidden block {b} lost its contents"));
@@ -337,7 +354,7 @@ fn results_length(call: &Call) -> usize {
     match call {
         Call::Read { .. } => BYTES,
         Call::Alloc { count, .. } | Call::AllocContig { count, .. } => 2 * *count as usize,
-        Call::Delete { .. } | Call::Free | Call::Tick { .. } => 8,
+        Call::Delete { .. } | Call::DeleteTree { .. } | Call::Free | Call::Tick { .. } => 8,
         _ => 0,
     }
 }

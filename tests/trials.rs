@@ -3,8 +3,8 @@
 use crate::compare;
 use crate::library::{self, Direct, LentBatch, LentBuffers, Tables};
 use crate::model::{
-    self, number, word, Buffers, Call, Card, Credential, Key, Port, Progress, ALLOCATED, CANNOT_POINT,
-    HIGHEST_MULTIPLICITY, MALFORMED, NO_HINT, NO_POINTER,
+    self, number, word, Buffers, Call, Card, Credential, Key, Port, Progress, ALLOCATED, CANNOT_POINT, HAS_WRITE_KEY,
+    HIGHEST_MULTIPLICITY, MALFORMED, NO_HINT, NO_POINTER, READ_KEY, WRITE_KEY,
 };
 use crate::random_card::KEYS;
 
@@ -111,7 +111,9 @@ impl Player {
                 Call::Alloc { count, .. } | Call::AllocContig { count, .. } => {
                     buffers.places.values()[..*count as usize].iter().map(|&v| v as u64).collect()
                 }
-                Call::Delete { .. } | Call::Free | Call::Tick { .. } => vec![buffers.value.values()[0]],
+                Call::Delete { .. } | Call::DeleteTree { .. } | Call::Free | Call::Tick { .. } => {
+                    vec![buffers.value.values()[0]]
+                }
                 _ => vec![],
             };
             results.iter().for_each(|v| line += &format!(" {v}"));
@@ -156,6 +158,14 @@ fn create(source: u16, destination: u16) -> Call {
 
 fn delete(source: u16, destination: u16) -> Call {
     Call::Delete { source, credential: Credential::Nothing, destination }
+}
+
+fn delete_tree(source: u16, destination: u16) -> Call {
+    delete_tree_by(source, Credential::Nothing, destination)
+}
+
+fn delete_tree_by(source: u16, credential: Credential, destination: u16) -> Call {
+    Call::DeleteTree { source, credential, destination }
 }
 
 fn key_read(block: u16, credential: Credential, key: Option<Key>) -> Call {
@@ -305,6 +315,211 @@ fn highest_count() -> Result<(), String> {
     for (call, answer, count) in [(&make, 7, most), (&take, 0, most - 1), (&make, 0, most)] {
         player.call(call, (answer, 0))?;
         player.holds(HIGHEST_MULTIPLICITY, count)?;
+    }
+    Ok(())
+}
+
+/// Request 2026-07: "the destination is freed if nothing points to it. Then each allocated non-root block whose every
+/// pointer comes from freed blocks is freed too, and their pointers go. Result: how many were freed."
+fn tree_rows() -> Vec<Row> {
+    let chain = vec![
+        (SERVICE, alloc(NO_HINT, 1), "131 0 1"),
+        (SERVICE, alloc_at(1, NO_HINT, 1), "131 0 2"),
+        (SERVICE, alloc_at(2, NO_HINT, 1), "131 0 3"),
+        (SERVICE, delete(0, 1), "133 9"),
+        (SERVICE, delete_tree(0, 1), "142 0 3"),
+        (HOST, Call::Free, "9 0 15"),
+        (SERVICE, delete_tree(0, 1), "142 3"),
+        (HOST, Call::Audit, "11 0"),
+    ];
+    let diamond = vec![
+        (SERVICE, alloc(NO_HINT, 1), "131 0 1"),
+        (SERVICE, alloc_at(1, NO_HINT, 2), "131 0 2 3"),
+        (SERVICE, alloc_at(2, NO_HINT, 1), "131 0 4"),
+        (SERVICE, create(3, 4), "132 0"),
+        (SERVICE, delete_tree(1, 3), "142 0 1"),
+        (SERVICE, alloc_at(1, NO_HINT, 1), "131 0 3"),
+        (SERVICE, create(3, 4), "132 0"),
+        (SERVICE, delete_tree(0, 1), "142 0 4"),
+        (HOST, Call::Free, "9 0 15"),
+    ];
+    // Blocks 1 and 2 point to each other alone once the pointer from the root has gone.
+    let each_other = vec![
+        (SERVICE, alloc(NO_HINT, 1), "131 0 1"),
+        (SERVICE, alloc_at(1, NO_HINT, 1), "131 0 2"),
+        (SERVICE, create(2, 1), "132 0"),
+        (SERVICE, delete_tree(0, 1), "142 0 0"),
+        (HOST, Call::Free, "9 0 13"),
+        (SERVICE, delete_tree(0, 1), "142 8"),
+        (SERVICE, delete_tree(1, 2), "142 0 2"),
+        (HOST, Call::Free, "9 0 15"),
+    ];
+    // Block 3 below the ring of 1 and 2 goes with neither, but with the pointer to it.
+    let ring = vec![
+        (SERVICE, alloc(NO_HINT, 1), "131 0 1"),
+        (SERVICE, alloc_at(1, NO_HINT, 2), "131 0 2 3"),
+        (SERVICE, create(2, 1), "132 0"),
+        (SERVICE, delete_tree(0, 1), "142 0 0"),
+        (SERVICE, delete_tree(1, 3), "142 0 1"),
+        (SERVICE, read(1, Credential::Nothing, 0), "129 0 0 0 0 0 0 0 0 0"),
+        (SERVICE, read(2, Credential::Nothing, 0), "129 0 0 0 0 0 0 0 0 0"),
+        (HOST, Call::Free, "9 0 13"),
+        (HOST, Call::Audit, "11 0"),
+    ];
+    // The root points to block 3, which keeps block 4 below it.
+    let from_outside = vec![
+        (SERVICE, alloc(NO_HINT, 1), "131 0 1"),
+        (SERVICE, alloc_at(1, NO_HINT, 2), "131 0 2 3"),
+        (SERVICE, alloc_at(3, NO_HINT, 1), "131 0 4"),
+        (SERVICE, create(2, 4), "132 0"),
+        (SERVICE, create(0, 3), "132 0"),
+        (SERVICE, delete_tree(0, 1), "142 0 2"),
+        (HOST, Call::Free, "9 0 13"),
+        (SERVICE, delete(3, 4), "133 0 1"),
+        (SERVICE, delete(0, 3), "133 0 1"),
+    ];
+    // The pointer goes wholly, whether its destination stays or not.
+    let several_times = vec![
+        (SERVICE, alloc(NO_HINT, 2), "131 0 1 2"),
+        (SERVICE, create(0, 1), "132 0"),
+        (SERVICE, create(0, 1), "132 0"),
+        (SERVICE, create(2, 1), "132 0"),
+        (SERVICE, delete_tree(0, 1), "142 0 0"),
+        (SERVICE, delete(0, 1), "133 8"),
+        (SERVICE, create(2, 1), "132 0"),
+        (SERVICE, delete_tree(2, 1), "142 0 1"),
+        (HOST, Call::Free, "9 0 14"),
+    ];
+    // Block 3 has three pointers from block 1, which is freed, and two from the root, which stay.
+    let counts_fall = vec![
+        (SERVICE, alloc(NO_HINT, 1), "131 0 1"),
+        (SERVICE, alloc_at(1, NO_HINT, 2), "131 0 2 3"),
+        (SERVICE, create(1, 3), "132 0"),
+        (SERVICE, create(1, 3), "132 0"),
+        (SERVICE, create(0, 3), "132 0"),
+        (SERVICE, create(0, 3), "132 0"),
+        (SERVICE, delete_tree(0, 1), "142 0 2"),
+        (SERVICE, delete(0, 3), "133 0 0"),
+        (SERVICE, delete(0, 3), "133 0 1"),
+        (HOST, Call::Free, "9 0 15"),
+    ];
+    vec![
+        ("2026-07, a chain", chain),
+        ("2026-07, a diamond", diamond),
+        ("2026-07, only each other", each_other),
+        ("2026-07, a ring", ring),
+        ("2026-07, a pointer from outside", from_outside),
+        ("2026-07, a pointer made several times", several_times),
+        ("2026-07, counts of what stays", counts_fall),
+        ("2026-07, the order of refusals", tree_refusals()),
+    ]
+}
+
+/// Each refusal with those after it holding too: 3 source, 3 destination, 6, 5, 8, 15. Block 1 has a read key and a write
+/// key and points to block 2, which points to block 3 with a write key.
+fn tree_refusals() -> Vec<(Port, Call, &'static str)> {
+    let (reader, writer, below) = (KEYS[4], KEYS[5], KEYS[7]);
+    let by = Credential::Key;
+    let nothing = Credential::Nothing;
+    vec![
+        (SERVICE, alloc(NO_HINT, 1), "131 0 1"),
+        (SERVICE, alloc_at(1, NO_HINT, 1), "131 0 2"),
+        (SERVICE, alloc_at(2, NO_HINT, 1), "131 0 3"),
+        (SERVICE, key_read(1, nothing, Some(reader)), "134 0"),
+        (SERVICE, key_write(1, nothing, Some(writer)), "141 0"),
+        (SERVICE, key_write(3, nothing, Some(below)), "141 0"),
+        (HOST, delete_tree(16, 16), "14 3"),
+        (HOST, delete_tree(0, 4), "14 3"),
+        (HOST, delete_tree(0, 2), "14 6"),
+        (HOST, delete_tree_by(1, by(reader), 1), "14 5"),
+        (HOST, delete_tree_by(1, by(writer), 1), "14 8"),
+        (HOST, delete_tree_by(1, by(writer), 0), "14 8"),
+        (HOST, delete_tree_by(1, by(writer), 3), "14 8"),
+        (HOST, delete_tree_by(1, by(writer), 2), "14 15"),
+        (HOST, delete_tree_by(1, by(below), 2), "14 5"),
+        (SERVICE, delete_tree(16, 16), "142 3"),
+        (SERVICE, delete_tree(0, 4), "142 3"),
+        (SERVICE, delete_tree(0, 2), "142 8"),
+        (SERVICE, delete_tree(1, 2), "142 15"),
+        // The destination's own write key, also for its holder.
+        (SERVICE, delete_tree(0, 1), "142 15"),
+        (HOST, renew_writing(1, writer), "7 0"),
+        (HOST, delete_tree_by(2, Credential::Reference(1), 3), "14 15"),
+        (SERVICE, key_write(3, nothing, None), "141 0"),
+        (SERVICE, key_write(2, nothing, Some(writer)), "141 0"),
+        (HOST, delete_tree_by(1, by(writer), 2), "14 15"),
+        // A read key alone does not count.
+        (SERVICE, key_write(2, nothing, None), "141 0"),
+        (SERVICE, key_read(3, nothing, Some(below)), "134 0"),
+        (HOST, delete_tree_by(1, by(writer), 2), "14 0 2"),
+        (HOST, Call::Free, "9 0 14"),
+    ]
+}
+
+fn renew_writing(block: u16, key: Key) -> Call {
+    Call::Renew { mode: 1, block, key, interval: 10 }
+}
+
+/// Block 1 below the root points to 2 and 3, these to 4, and 4 twice to 5, to which the root points too. All have windows
+/// and contents, and read keys; block 4 may have a write key.
+fn tree_card(keyed: bool) -> Card {
+    let mut card = blank(16, 32);
+    card.info = vec![16, 1, 512, 0, 100];
+    card.flags[..6].fill(ALLOCATED | READ_KEY);
+    card.keys.chunks_mut(4).take(6).for_each(|words| words[..2].copy_from_slice(&[7, 8]));
+    card.windows[..12].fill(150);
+    card.contents.iter_mut().enumerate().for_each(|(i, byte)| *byte = (i / 512 + 1) as u8);
+    if keyed {
+        card.flags[4] |= WRITE_KEY;
+        card.keys[18..20].copy_from_slice(&[9, 10]);
+    }
+    let pointers = [(0, 1, 3), (1, 2, 1), (1, 3, 2), (2, 4, 65_535), (3, 4, 1), (4, 5, 2), (0, 5, 3)];
+    card.draw_pointers(pointers.map(|(s, d, times)| (word(s, d), times)).to_vec());
+    card
+}
+
+/// A write key deep in the tree: refused 15, and record and tables are as they were. Without it four blocks are freed, and
+/// of the tables just their rows, their pointers and the counts change.
+fn tree_by_tables() -> Result<(), String> {
+    let protected = tree_card(true);
+    let mut player = Player::of(protected.clone());
+    player.call(&delete_tree(0, 1), (HAS_WRITE_KEY, 0))?;
+    if player.tables.card() != protected {
+        return Err("a DELETE_TREE that is refused 15 has changed the card".to_string());
+    }
+    let mut left = tree_card(false);
+    let mut player = Player::of(left.clone());
+    player.call(&delete_tree(0, 1), (0, 4))?;
+    left.flags[1..5].fill(0);
+    left.keys[4..20].fill(0);
+    left.windows[2..10].fill(0);
+    left.draw_pointers(vec![(word(0, 5), 3)]);
+    match player.tables.card() == left {
+        true => Ok(()),
+        false => Err("a DELETE_TREE has left another card than the one drawn".to_string()),
+    }
+}
+
+/// Trees of all blocks of the largest card but the root: rows in both directions, so that each block is found after the
+/// one before, and one block that points to all others, each of which points to the next three. Where the last of these
+/// point to the first, just that one block is freed.
+fn largest_trees() -> Result<(), String> {
+    let n = 4_096;
+    let upward: Vec<u32> = (1..n).map(|b| word(b - 1, b)).collect();
+    let downward: Vec<u32> = (1..n).map(|b| if b == n - 1 { word(0, b) } else { word(b + 1, b) }).collect();
+    let from_one = [word(0, 1)].into_iter().chain((2..n).map(|b| word(1, b)));
+    let next_three = (2..n).flat_map(|b| (b + 1..=b + 3).map(move |d| (b, d)));
+    let open: Vec<u32> =
+        from_one.clone().chain(next_three.clone().filter(|&(_, d)| d < n).map(|(b, d)| word(b, d))).collect();
+    let closed: Vec<u32> =
+        from_one.chain(next_three.map(|(b, d)| word(b, if d < n { d } else { d - n + 2 }))).collect();
+    let trees = [(1, upward, 4_095), (4_095, downward, 4_095), (1, open, 4_095), (1, closed, 1)];
+    for (destination, pointers, freed) in trees {
+        let mut card = blank(n, 16_384);
+        card.info = vec![n as u64, 1, 512, 0, 0];
+        card.flags.fill(ALLOCATED);
+        card.draw_pointers(pointers.into_iter().map(|p| (p, HIGHEST_MULTIPLICITY)).collect());
+        Player::of(card).call(&delete_tree(0, destination), (0, freed))?;
     }
     Ok(())
 }
@@ -496,11 +711,14 @@ pub fn trials() -> Result<usize, String> {
         ),
     ];
     rows.extend(multiplicity_rows());
+    rows.extend(tree_rows());
     example_batch(&rows[0].1)?;
     one_key_alone()?;
     highest_multiplicity()?;
     made_by_calls()?;
     highest_count()?;
+    tree_by_tables()?;
+    largest_trees()?;
     for (name, calls) in &rows {
         let mut player = Player::new();
         for (i, (port, call, expected)) in calls.iter().enumerate() {

@@ -105,7 +105,7 @@ pub fn spoil(rnd: &mut Random, wire: Port, sort: Sort, input: &mut Vec<u8>) {
     match sort {
         Sort::Flipped if at < input.len() => input[at] ^= 1 << rnd.below(8),
         Sort::Cut => input.truncate(at),
-        Sort::Inserted => input.insert(at, rnd.of(&[0, 1, 9, 11, 12, 13, 131, 134, 140, 141, rnd.0 as u8])),
+        Sort::Inserted => input.insert(at, rnd.of(&[0, 1, 9, 11, 12, 13, 14, 131, 134, 140, 141, 142, rnd.0 as u8])),
         _ => {}
     }
 }
@@ -429,7 +429,14 @@ impl AllKinds {
 }
 
 /// A kind and so many zeros behind it, in a batch and as a record: zeros are a well-formed body, and no kind.
-fn kind_with(rnd: &mut Random, card: &Card, wire: u8, kind: u8, zeros: usize, seen: &mut AllKinds) -> Result<(), String> {
+fn kind_with(
+    rnd: &mut Random,
+    card: &Card,
+    wire: u8,
+    kind: u8,
+    zeros: usize,
+    seen: &mut AllKinds,
+) -> Result<(), String> {
     let input = [vec![kind], vec![0; zeros]].concat();
     let (stop, progress) = compare(rnd, &mut card.clone(), wire, &input, 1_024)?;
     by_serve(rnd, &mut card.clone(), wire, &input)?;
@@ -529,7 +536,7 @@ pub fn other_ports(rnd: &mut Random, seen: &mut OtherPorts) -> Result<(), String
     put_records(rnd, &sound, Port::Service, 20, &mut records);
     seen.done_at_service += all_served(&sound, SERVICE, &records).iter().filter(|s| s.done).count() as u64;
     for (name, card) in &cards {
-        for input in [&records[..], &[], &[0], &[131], &[140], &[141], &[9, 11, 9]] {
+        for input in [&records[..], &[], &[0], &[131], &[140], &[141], &[142], &[9, 11, 9]] {
             for wire in 2..=255 {
                 refused_whole(rnd, card, wire, input)
                     .map_err(|d| format!("{} on the card ({name}): {d}", front(input)))?;

@@ -15,7 +15,7 @@ use Rattle.card.specs.declared.Port.{Port}
 use Rattle.card.specs.declared.Call.{Call}
 use Rattle.card.specs.declared.Answer.{Answer}
 use Rattle.card.specs.declared.Refusal.{Refusal}
-use Rattle.card.specs.declared.Refusal.the-variants.{Misshapen, Unsound, NotAllocated, BadOperand, NotOpened, IsRoot, CannotPoint, NoPointer, HasPointers, TooFewBlocks, TooFewPlaces, TimeEnds, BadRecord, NoRun}
+use Rattle.card.specs.declared.Refusal.the-variants.{Misshapen, Unsound, NotAllocated, BadOperand, NotOpened, IsRoot, CannotPoint, NoPointer, HasPointers, TooFewBlocks, TooFewPlaces, TimeEnds, BadRecord, NoRun, HasWriteKey}
 use Rattle.kinds.specs.KindsLaws.{data-right}
 use Rattle.records.specs.Decode.{nameOf, dataOf}
 use Rattle.records.specs.Parsed.{ParsedIs}
@@ -27,7 +27,7 @@ use Rattle.parameters.specs.NumbersLaws.{numbers-record}
 use Rattle.adapter.specs.Effects.{Effect, valueAfter, effectOf, effect, ruleEffect, dataIn, Gives}
 
 -- The number of a refusal fits 32 bits.
-pub refusal-small : (r : Refusal) → refusalNumber r ≤ 14
+pub refusal-small : (r : Refusal) → refusalNumber r ≤ 15
 refusal-small Misshapen = omega arith
 refusal-small Unsound = omega arith
 refusal-small NotAllocated = omega arith
@@ -42,6 +42,7 @@ refusal-small TooFewPlaces = omega arith
 refusal-small TimeEnds = omega arith
 refusal-small BadRecord = omega arith
 refusal-small NoRun = omega arith
+refusal-small HasWriteKey = omega arith
 
 -- ---- refusals
 

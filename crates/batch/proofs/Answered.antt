@@ -14,7 +14,7 @@ use Rattle.card.specs.Soundness.{verdict}
 use Rattle.card.specs.SoundnessLaws.{verdict-sound, sound-verdict}
 use Rattle.card.specs.Plan.{first, audited, outAfter, placesAfter, Plan, Buffers, Result, settle, judge}
 use Rattle.card.specs.Promises.{Is}
-use Rattle.card.specs.Calls.{readPlan, writePlan, allocPlan, allocContigPlan, createPlan, deletePlan, keyPlan, renewPlan, forcePlan, freePlan, tickPlan, auditPlan}
+use Rattle.card.specs.Calls.{readPlan, writePlan, allocPlan, allocContigPlan, createPlan, deletePlan, deleteTreePlan, keyPlan, renewPlan, forcePlan, freePlan, tickPlan, auditPlan}
 use Rattle.card.specs.Session.{Request, request, plan, perform, reply}
 use Rattle.card.specs.SessionLaws.{is-misshapen, is-unsound}
 use Rattle.card.specs.declared.Port.{Port}
@@ -24,7 +24,7 @@ use Rattle.card.specs.declared.Refusal.{Refusal}
 use Rattle.card.specs.declared.Answer.{Answer}
 use Rattle.card.specs.declared.Answer.the-variants.{Refused}
 use Rattle.card.specs.declared.Call.{Call}
-use Rattle.card.specs.declared.Call.the-variants.{Read, Write, Alloc, AllocContig, Create, Delete, KeyRead, KeyWrite, Renew, Force, Free, Tick, Audit}
+use Rattle.card.specs.declared.Call.the-variants.{Read, Write, Alloc, AllocContig, Create, Delete, DeleteTree, KeyRead, KeyWrite, Renew, Force, Free, Tick, Audit}
 use Rattle.card.proofs.Guarantees.KeepsSound.{done-sound}
 use Rattle.fields.specs.Bytes.{bytes}
 use Rattle.lines.specs.Replied.{replied}
@@ -67,6 +67,7 @@ module _ (port : Port) (c : Card) (call : Call) (input places : List ℕ) where
       go (AllocContig o) = refl
       go (Create o) = refl
       go (Delete o) = refl
+      go (DeleteTree o) = refl
       go (KeyRead o) = refl
       go (KeyWrite o) = refl
       go (Renew o) = refl
@@ -85,6 +86,7 @@ done-alike port c (Alloc o) lent out other places answer = refl
 done-alike port c (AllocContig o) lent out other places answer = refl
 done-alike port c (Create o) lent out other places answer = refl
 done-alike port c (Delete o) lent out other places answer = refl
+done-alike port c (DeleteTree o) lent out other places answer = refl
 done-alike port c (KeyRead o) lent out other places answer = refl
 done-alike port c (KeyWrite o) lent out other places answer = refl
 done-alike port c (Renew o) lent out other places answer = refl
@@ -118,6 +120,7 @@ module _ (size : ℕ) where
   room-number (AllocContig o) = omega arith
   room-number (Create o) = omega arith
   room-number (Delete o) = omega arith
+  room-number (DeleteTree o) = omega arith
   room-number (KeyRead o) = omega arith
   room-number (KeyWrite o) = omega arith
   room-number (Renew o) = omega arith
@@ -135,6 +138,7 @@ module _ (size : ℕ) where
   room-lent (AllocContig o) = omega arith
   room-lent (Create o) = omega arith
   room-lent (Delete o) = omega arith
+  room-lent (DeleteTree o) = omega arith
   room-lent (KeyRead o) = omega arith
   room-lent (KeyWrite o) = omega arith
   room-lent (Renew o) = omega arith
@@ -152,13 +156,14 @@ pairs-short n places h = omega (arith, pairs-length (take n places), length-take
 module _ (port : Port) (c : Card) (size : ℕ) where
   done-short : (call : Call) (lent : Buffers) (out places : List ℕ) → length out ≡ lentSize size call → length places ≡ lentPlaces
       → length (answerBytes call (replied (plan port c call lent .answer) out places)) ≤ answerRoom size call
-  unfolding plan readPlan writePlan allocPlan allocContigPlan createPlan deletePlan keyPlan renewPlan forcePlan freePlan tickPlan auditPlan answerBytes answerRoom bytes
+  unfolding plan readPlan writePlan allocPlan allocContigPlan createPlan deletePlan deleteTreePlan keyPlan renewPlan forcePlan freePlan tickPlan auditPlan answerBytes answerRoom bytes
   done-short (Read o) lent out places h p = omega arith
   done-short (Write o) lent out places h p = omega arith
   done-short (Alloc o) lent out places h p = omega (arith, pairs-short (o .count) places p)
   done-short (AllocContig o) lent out places h p = omega (arith, pairs-short (o .count) places p)
   done-short (Create o) lent out places h p = omega arith
   done-short (Delete o) lent out places h p = omega arith
+  done-short (DeleteTree o) lent out places h p = omega arith
   done-short (KeyRead o) lent out places h p = omega arith
   done-short (KeyWrite o) lent out places h p = omega arith
   done-short (Renew o) lent out places h p = omega arith
@@ -191,13 +196,14 @@ module _ (port : Port) (c : Card) where
   Covers call out r = (r .out ≡ out) ⊎ (1 + length (r .out) ≤ length (answerBytes call (reply r)))
 
   settle-covers : (call : Call) (lent : Buffers) (o : Option Refusal) → Covers call (lent .out) (settle c lent (plan port c call lent) o)
-  unfolding settle plan readPlan writePlan allocPlan allocContigPlan createPlan deletePlan keyPlan renewPlan forcePlan freePlan tickPlan auditPlan outAfter answerBytes bytes
+  unfolding settle plan readPlan writePlan allocPlan allocContigPlan createPlan deletePlan deleteTreePlan keyPlan renewPlan forcePlan freePlan tickPlan auditPlan outAfter answerBytes bytes
   settle-covers (Read o) lent none = inr (omega arith)
   settle-covers (Write o) lent none = inl refl
   settle-covers (Alloc o) lent none = inl refl
   settle-covers (AllocContig o) lent none = inl refl
   settle-covers (Create o) lent none = inl refl
   settle-covers (Delete o) lent none = inl refl
+  settle-covers (DeleteTree o) lent none = inl refl
   settle-covers (KeyRead o) lent none = inl refl
   settle-covers (KeyWrite o) lent none = inl refl
   settle-covers (Renew o) lent none = inl refl

@@ -45,6 +45,7 @@ fn room_of(info: Info, call: Call) -> usize
         Call::Alloc(_) => 129,
         Call::AllocContig(_) => 129,
         Call::Delete(_) => 9,
+        Call::DeleteTree(_) => 9,
         Call::Free => 9,
         Call::Tick(_) => 9,
         _ => 1,

@@ -1,8 +1,10 @@
--- What the rules guarantee of a host session: demand 3, `secrecy` of Theorem.antt, and of what performs such sessions, `acts-secret` of Acts.antt.
+-- What the rules guarantee of a host session: demand 3, `secrecy` of Theorem.antt, and of what performs such sessions, `acts-secret` of Acts.antt; of a
+-- host's DELETE_TREE, `tree-hides` of Trees.antt.
 pub mod Closed
 pub mod StepsAlike
 pub mod Opened
 pub mod Plans
+pub mod Trees
 pub mod Sessions
 pub mod Theorem
 pub mod Acts

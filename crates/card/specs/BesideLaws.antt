@@ -7,7 +7,7 @@ use native.Mathlib.Nat.{suc-mul}
 use native.Mathlib.Omega.{arith}
 use lib.Dec.{eqb, ltb, leb}
 use lib.ListN.{length}
-use borrow.Author.Tests.{eqb-true, leb-true}
+use borrow.Author.Tests.{eqb-true, leb-true, not-true}
 use Rattle.card.specs.Lists.{all, any}
 use Rattle.card.specs.ListsLaws.{or-false-left, or-false-right, all-cons, all-head, all-tail, absurd-test}
 use Rattle.card.specs.Pointers.{contains, insert, remove, beside, total, insertBeside, removeBeside, setBeside}
@@ -172,6 +172,26 @@ uncounted test (onward {x = x} {n = n} {xs = xs} {ns = ns} s) h e = go (test x) 
     go : (t : Bool) → test x ≡ t → (total test xs ns ≡ 0 → all (λ w. not (test w)) xs ≡ true) → all (λ w. not (test w)) (x ∷ xs) ≡ true
     go true q f = let z : cond (test x) n 0 ≡ n = rw q in absurd (omega (arith, least))
     go false q f = all-cons (λ w. not (test w)) x xs (ap not q) (f (omega arith))
+
+-- Where the sum is at least 1, some pointer passes the test.
+pub total-some : (test : ℕ → Bool) (ws ns : List ℕ) → 1 ≤ total test ws ns → any test ws ≡ true
+unfolding total any
+total-some test [] ns h = absurd (omega arith)
+total-some test (x ∷ xs) [] h = absurd (omega arith)
+total-some test (x ∷ xs) (n ∷ ns) h = go (test x) (total-some test xs ns) h
+  where
+    go : (t : Bool) → (1 ≤ total test xs ns → any test xs ≡ true) → 1 ≤ cond t n 0 + total test xs ns → t || any test xs ≡ true
+    go true f e = refl
+    go false f e = f (omega arith)
+
+-- Where no pointer passes the test, the sum is 0.
+pub total-none : (test : ℕ → Bool) (ws ns : List ℕ) → all (λ w. not (test w)) ws ≡ true → total test ws ns ≡ 0
+unfolding total
+total-none test [] ns h = refl
+total-none test (x ∷ xs) [] h = refl
+total-none test (x ∷ xs) (n ∷ ns) h =
+    let none : cond (test x) n 0 ≡ 0 = rw (not-true (test x) (all-head (λ w. not (test w)) x xs h)) in
+    omega (arith, total-none test xs ns (all-tail (λ w. not (test w)) x xs h))
 
 -- A sum is at most as many times the bound as there are numbers.
 pub total-high : (test : ℕ → Bool) (ws ns : List ℕ) (bound : ℕ) → all (λ n. leb n bound) ns ≡ true → total test ws ns ≤ length ns * bound

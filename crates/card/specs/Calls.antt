@@ -4,12 +4,13 @@ use mathlib.Core.Bool.{Bool, true, false, _&&_, _||_, not, cond}
 use mathlib.Core.List.{List, [], _∷_, _++_}
 use lib.Dec.{eqb, ltb, leb}
 use lib.ListN.{length, replicate}
-use Rattle.card.specs.Lists.{allBelow, numbersBelow, numbersFrom}
+use Rattle.card.specs.Lists.{any, allBelow, numbersBelow, numbersFrom}
 use Rattle.card.specs.Pointers.{remove}
 use Rattle.card.specs.Contents.{zeros, overwrite}
 use Rattle.card.specs.Card.{Public, Card, card, allocated, hasKey, isRoot, freeBlocks, windowEnd, longestInterval, count, multiplicity, highestMultiplicity, pointsTo, hasPointers}
+use Rattle.card.specs.Tree.{orphans}
 use Rattle.card.specs.Soundness.{ranges, lengths, timeLimit}
-use Rattle.card.specs.Plan.{_⇒_, Change, setWindow, setBlock, setKey, takeBlock, freeBlock, addPointer, raisePointer, lowerPointer, dropPointer, setTime, nothing, blockPart, numbers, Plan, Result}
+use Rattle.card.specs.Plan.{Check, _⇒_, Change, setWindow, setBlock, setKey, takeBlock, freeBlock, addPointer, raisePointer, lowerPointer, dropPointer, dropFrom, setTime, changePublic, nothing, blockPart, numbers, Plan, Result}
 use Rattle.card.specs.declared.Info.{Info}
 use Rattle.card.specs.declared.Port.{Port}
 use Rattle.card.specs.declared.Port.the-variants.{Host, Service}
@@ -25,13 +26,13 @@ use Rattle.card.specs.declared.RenewOperands.{RenewOperands}
 use Rattle.card.specs.declared.ForceOperands.{ForceOperands}
 use Rattle.card.specs.declared.TickOperands.{TickOperands}
 use Rattle.card.specs.declared.Refusal.{Refusal}
-use Rattle.card.specs.declared.Refusal.the-variants.{Misshapen, Unsound, NotAllocated, BadOperand, NotOpened, IsRoot, CannotPoint, NoPointer, HasPointers, TooFewBlocks, TooFewPlaces, TimeEnds, BadRecord, NoRun}
+use Rattle.card.specs.declared.Refusal.the-variants.{Misshapen, Unsound, NotAllocated, BadOperand, NotOpened, IsRoot, CannotPoint, NoPointer, HasPointers, TooFewBlocks, TooFewPlaces, TimeEnds, BadRecord, NoRun, HasWriteKey}
 use Rattle.card.specs.declared.Answer.{Answer}
 use Rattle.card.specs.declared.Answer.the-variants.{Refused, Done, Value}
 
 -- ---- the numbers of refusals and answers
 
--- The number of a refusal: 1 to 13 of document 01, 14 of the request 2026-01.
+-- The number of a refusal: 1 to 13 of document 01, 14 of the request 2026-01, 15 of the request 2026-07.
 abbrev pub refusalNumber : Refusal → ℕ
 refusalNumber Misshapen = 1
 refusalNumber Unsound = 2
@@ -47,6 +48,7 @@ refusalNumber TooFewPlaces = 11
 refusalNumber TimeEnds = 12
 refusalNumber BadRecord = 13
 refusalNumber NoRun = 14
+refusalNumber HasWriteKey = 15
 
 -- An answer's number, 0 for done.
 abbrev pub answerNumber : Answer → ℕ
@@ -252,23 +254,48 @@ createPlan port p sourceOpened destinationOpened o = record {
   steps = cond (pointsTo p (o .source) (o .destination)) (raisePointer (o .source) (o .destination)) (addPointer (o .source) (o .destination)) ∷ [];
 }
 
+-- The checks that DELETE and DELETE_TREE have in common: all but the last.
+abbrev pub removalChecks : Port → Public → Bool → DeleteOperands → List Check
+removalChecks port p opened o =
+    (missing p (o .source) ⇒ NotAllocated)
+    ∷ (missing p (o .destination) ⇒ NotAllocated)
+    ∷ (rootAtHost port p (o .source) ⇒ IsRoot)
+    ∷ (not opened ⇒ NotOpened)
+    ∷ (not (pointsTo p (o .source) (o .destination)) ⇒ NoPointer)
+    ∷ []
+
 -- "DELETE(src, credential, dest)": "DELETE takes one"; a pointer of multiplicity 1 goes; "at count 0 dest is freed". Result 1 if freed, else 0.
 unfoldable pub deletePlan : Port → Public → Bool → DeleteOperands → Plan
 deletePlan port p opened o =
     let once = eqb (multiplicity p (o .source) (o .destination)) 1 in
     let last = eqb (count p (o .destination)) 1 in
     record {
-      checks =
-          (missing p (o .source) ⇒ NotAllocated)
-          ∷ (missing p (o .destination) ⇒ NotAllocated)
-          ∷ (rootAtHost port p (o .source) ⇒ IsRoot)
-          ∷ (not opened ⇒ NotOpened)
-          ∷ (not (pointsTo p (o .source) (o .destination)) ⇒ NoPointer)
-          ∷ (last && hasPointers p (o .destination) ⇒ HasPointers)
-          ∷ [];
+      checks = removalChecks port p opened o ++ ((last && hasPointers p (o .destination) ⇒ HasPointers) ∷ []);
       answer = Value (cond last 1 0);
       shown = nothing;
       steps = cond once (dropPointer (o .source) (o .destination)) (lowerPointer (o .source) (o .destination)) ∷ cond last (freeBlock (o .destination) ∷ []) [];
+    }
+
+-- ---- DELETE_TREE, the request 2026-07
+
+-- "After the pointer is wholly removed": the blocks that are freed then.
+unfoldable pub freedWith : Public → ℕ → ℕ → List ℕ
+freedWith p a b = orphans (changePublic (dropPointer a b) p)
+
+unfoldable pub freeEach : List ℕ → List Change
+freeEach [] = []
+freeEach (b ∷ bs) = freeBlock b ∷ freeEach bs
+
+-- "the operands and checks of DELETE without 9", and 15 "after 8": "some block that would be freed has a write key". "their pointers go. Result: how
+-- many were freed."
+unfoldable pub deleteTreePlan : Port → Public → Bool → DeleteOperands → Plan
+deleteTreePlan port p opened o =
+    let freed = freedWith p (o .source) (o .destination) in
+    record {
+      checks = removalChecks port p opened o ++ ((any (λ b. hasKey p Writing b) freed ⇒ HasWriteKey) ∷ []);
+      answer = Value (length freed);
+      shown = nothing;
+      steps = dropPointer (o .source) (o .destination) ∷ (dropFrom freed ∷ freeEach freed);
     }
 
 -- ---- KEY_READ and KEY_WRITE, the request 2026-02; RENEW and FORCE

@@ -1,18 +1,20 @@
--- Laws of what a change leaves in a table: one element set, windows and keys replaced, pointers inserted and removed.
+-- Laws of what a change leaves in a table: one element set, windows and keys replaced, pointers inserted, removed and kept.
 use Prim.Native.Nat.{ℕ, zero, suc, _+_, _-_, _*_, _≤_, _<_}
 use mathlib.Core.Path.{_≡_, refl, sym, ap, _∙_, subst}
 use mathlib.Core.Logic.{_⊎_, inl, inr, ⊎-elim}
 use mathlib.Core.Bool.{Bool, true, false, true≢false}
 use mathlib.Core.List.{List, [], _∷_, _++_}
 use native.Mathlib.Omega.{arith}
-use lib.ListN.{length, take, drop, getD, set, length-set, length-append, length-drop}
-use lib.Seq.{getD-set-same, getD-set-other, take-at, drop-at, drop-drop, length-take-le}
+use lib.ListN.{length, take, drop, getD, set, length-set, length-append, length-drop, length-replicate}
+use lib.Seq.{getD-set-same, getD-set-other, take-at, take-append-seam, drop-at, drop-drop, length-take-le}
 use Rattle.card.specs.ListsLaws.{same-or-other}
-use Rattle.card.specs.Pointers.{contains, insert, remove, insertBeside, removeBeside, setBeside}
+use Rattle.card.specs.Pointers.{contains, insert, remove, insertBeside, removeBeside, setBeside, keep, keepBeside, notFrom}
 use Rattle.card.specs.PointersLaws.{insert-length, remove-length}
-use Rattle.card.specs.BesideLaws.{InStep, in-step, insertBeside-length, removeBeside-length, setBeside-length}
-use Rattle.card.specs.Card.{allocatedFlag, keyFlag, windowAt, keyAt, keyHigh, keyLow}
-use Rattle.card.specs.Plan.{isPresent, highWord, lowWord, otherMode, keyBit, keyedFlags, replaceKey, clearKeys}
+use Rattle.card.specs.BesideLaws.{InStep, in-step, step-length, insertBeside-length, removeBeside-length, setBeside-length}
+use Rattle.card.specs.KeepLaws.{keep-in-step, keep-most}
+use Rattle.card.specs.Contents.{zeros}
+use Rattle.card.specs.Card.{Public, inUse, allocatedFlag, keyFlag, windowAt, keyAt, keyHigh, keyLow}
+use Rattle.card.specs.Plan.{dropFrom, isPresent, highWord, lowWord, otherMode, keyBit, keyedFlags, changePublic, replaceKey, clearKeys}
 use Rattle.card.specs.declared.Mode.{Mode}
 use Rattle.card.specs.declared.Mode.the-variants.{Reading, Writing}
 use Rattle.card.specs.declared.NewKey.{NewKey}
@@ -308,3 +310,42 @@ module _ (w used : ℕ) (ps ms : List ℕ) (fit : used ≤ length ps) (same : le
 
   pub removedTimes-length : length (removedTimes ++ (0 ∷ drop used ms)) ≡ length ms
   removedTimes-length = omega (arith, length-append removedTimes (0 ∷ drop used ms), length-drop used ms, removedTimes-long)
+
+-- ---- the pointers that a test keeps, and the multiplicities beside them
+
+module _ (t : ℕ → Bool) (used : ℕ) (ps ms : List ℕ) (fit : used ≤ length ps) (same : length ms ≡ length ps) where
+  -- The numbers beside the pointers that are kept, zeros in place of the others, and the places behind them. Of the pointers themselves, where ms is ps.
+  abbrev kept : List ℕ
+  kept = keepBeside t (take used ps) (take used ms)
+
+  abbrev left : ℕ
+  left = length (keep t (take used ps))
+
+  pub kept-long : length kept ≡ left
+  kept-long = sym (step-length (keep-in-step t (used-in-step 0 0 used ps ms fit same)))
+
+  kept-most : left ≤ used
+  kept-most = omega (arith, keep-most t (take used ps), length-take-le used ps fit)
+
+  pub kept-take : take left (kept ++ (zeros (used - left) ++ drop used ms)) ≡ kept
+  kept-take = take-at kept (zeros (used - left) ++ drop used ms) left kept-long
+
+  pub kept-drop : drop left (kept ++ (zeros (used - left) ++ drop used ms)) ≡ zeros (used - left) ++ drop used ms
+  kept-drop = drop-at kept (zeros (used - left) ++ drop used ms) left kept-long
+
+  pub kept-length : length (kept ++ (zeros (used - left) ++ drop used ms)) ≡ length ms
+  kept-length =
+      omega (
+        arith,
+        kept-most,
+        kept-long,
+        length-append kept (zeros (used - left) ++ drop used ms),
+        length-append (zeros (used - left)) (drop used ms),
+        length-replicate {A = ℕ} (used - left) 0,
+        length-drop used ms,
+      )
+
+-- The pointers from some blocks go, and the others stay in use.
+pub inUse-kept : (p : Public) (bs : List ℕ) → inUse (changePublic (dropFrom bs) p) ≡ keep (notFrom bs) (inUse p)
+unfolding changePublic
+inUse-kept p bs = take-append-seam (keep (notFrom bs) (inUse p)) _

@@ -1,11 +1,14 @@
 pub mod Lists
 pub mod ListsLaws
+pub mod Least
 pub mod Pointers
 pub mod BesideLaws
 pub mod PointersLaws
+pub mod KeepLaws
 pub mod Contents
 pub mod ContentsLaws
 pub mod Card
+pub mod Tree
 pub mod Soundness
 pub mod SoundCard
 pub mod SoundnessLaws
@@ -16,6 +19,9 @@ pub mod PlanLaws
 pub mod Calls
 pub mod Takeable
 pub mod NearestLaws
+pub mod NumbersLaws
+pub mod LeastLaws
+pub mod TreeLaws
 pub mod PicksLaws
 pub mod RunsLaws
 pub mod Promises

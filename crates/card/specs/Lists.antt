@@ -1,4 +1,4 @@
--- Tests over a list, and over the numbers below a bound; numbers in a row; sums.
+-- Tests over a list, and over the numbers below a bound; numbers in a row; sums; tables of values.
 use Prim.Native.Nat.{ℕ, zero, suc, _+_}
 use mathlib.Core.Bool.{Bool, true, false, _&&_, _||_, cond}
 use mathlib.Core.List.{List, [], _∷_, _++_}
@@ -35,3 +35,8 @@ numbersFrom first (suc n) = first ∷ numbersFrom (suc first) n
 unfoldable pub sumBelow : (ℕ → ℕ) → ℕ → ℕ
 sumBelow f zero = 0
 sumBelow f (suc n) = f n + sumBelow f n
+
+-- What f gives of each number below n, in order.
+unfoldable pub tabulate : (ℕ → ℕ) → ℕ → List ℕ
+tabulate f zero = []
+tabulate f (suc n) = tabulate f n ++ (f n ∷ [])

@@ -7,6 +7,7 @@ use mathlib.Core.List.{List, [], _∷_, _++_, append-nil}
 use native.Mathlib.Nat.{not-suc-le-zero, le-of-suc-le-suc, eq-or-lt-of-le}
 use native.Mathlib.Omega.{arith}
 use lib.Dec.{eqb, ltb}
+use lib.ListN.{length, getD}
 use borrow.Author.Tests.{eq-eqb, ne-eqb, eqb-true, ltb-true, ltb-false}
 use Rattle.card.specs.Lists.{any, numbersBelow}
 use Rattle.card.specs.ListsLaws.{or-left, or-right, or-cases, or-else, absurd-test}
@@ -25,6 +26,26 @@ contains-there y x xs h = contains-cons y x xs ∙ or-right (eqb x y) _ h
 -- Another element than the first is in the rest.
 pub contains-rest : (y x : ℕ) (xs : List ℕ) → (x ≡ y → ⊥) → contains y (x ∷ xs) ≡ true → contains y xs ≡ true
 contains-rest y x xs other h = or-else (eqb x y) _ (sym (contains-cons y x xs) ∙ h) (ne-eqb x y other)
+
+-- The place of an element.
+pub record Place (ws : List ℕ) (w : ℕ) : Type 0 where
+  pub at : ℕ
+  pub within : at < length ws
+  pub is : getD ws at 0 ≡ w
+
+pub contains-place : (w : ℕ) (ws : List ℕ) → contains w ws ≡ true → Place ws w
+unfolding contains any
+contains-place w [] h = absurd-test {t = false} h refl
+contains-place w (x ∷ xs) h =
+    ⊎-elim
+    (λ e. record { at = 0; within = omega arith; is = eqb-true x w e })
+    (λ e. let r : Place xs w = contains-place w xs e in record { at = suc (r .at); within = omega (arith, r .within); is = r .is })
+    (or-cases (eqb x w) _ h)
+
+pub place-contains : (ws : List ℕ) (k : ℕ) → k < length ws → contains (getD ws k 0) ws ≡ true
+place-contains [] k l = absurd (not-suc-le-zero l)
+place-contains (x ∷ xs) zero l = contains-here x xs
+place-contains (x ∷ xs) (suc k) l = contains-there (getD xs k 0) x xs (place-contains xs k (le-of-suc-le-suc l))
 
 contains-append : (y : ℕ) (xs ys : List ℕ) → contains y (xs ++ ys) ≡ true → (contains y xs ≡ true) ⊎ (contains y ys ≡ true)
 contains-append y [] ys h = inr h

@@ -5,8 +5,9 @@ use mathlib.Core.Path.{_≡_}
 use mathlib.Core.Bool.{Bool, true, false, not, cond}
 use mathlib.Core.List.{List, [], _∷_, _++_}
 use mathlib.Core.Option.{Option, none, some}
-use lib.ListN.{drop, set}
-use Rattle.card.specs.Pointers.{pointer, insert, remove, insertBeside, removeBeside, setBeside}
+use lib.ListN.{length, drop, set}
+use Rattle.card.specs.Lists.{tabulate}
+use Rattle.card.specs.Pointers.{pointer, pointersTo, insert, remove, insertBeside, removeBeside, setBeside, keep, keepBeside, notFrom}
 use Rattle.card.specs.Contents.{overwrite, fill, zeros}
 use Rattle.card.specs.Card.{Public, Card, keyFlag, flag, count, windowAt, keyAt, inUse, timesInUse, multiplicity, block}
 use Rattle.card.specs.Soundness.{shape, sound}
@@ -58,6 +59,7 @@ pub data Change : Type 0 where
   raisePointer : ℕ → ℕ → Change
   lowerPointer : ℕ → ℕ → Change
   dropPointer : ℕ → ℕ → Change
+  dropFrom : List ℕ → Change
   setTime : ℕ → Change
 
 -- A new key is there, or none is; its words are 0 where none is.
@@ -157,6 +159,18 @@ changePublic (dropPointer a b) p = record {
   multiplicities = removeBeside (pointer a b) (inUse p) (timesInUse p) ++ (0 ∷ drop (p .info .used) (p .multiplicities));
   windows = p .windows;
 }
+changePublic (dropFrom bs) p =
+    let ws = keep (notFrom bs) (inUse p) in
+    let ns = keepBeside (notFrom bs) (inUse p) (timesInUse p) in
+    let gone = p .info .used - length ws in
+    record {
+      info = withUsed (p .info) (length ws);
+      flags = p .flags;
+      counts = tabulate (λ b. pointersTo b ws ns) (length (p .counts));
+      pointers = ws ++ (zeros gone ++ drop (p .info .used) (p .pointers));
+      multiplicities = ns ++ (zeros gone ++ drop (p .info .used) (p .multiplicities));
+      windows = p .windows;
+    }
 changePublic (setTime time) p = record { info = withTime (p .info) time; flags = p .flags; counts = p .counts; pointers = p .pointers; multiplicities = p .multiplicities; windows = p .windows }
 
 -- The two words of a block's key for the mode; those of the other key stay.
@@ -178,6 +192,7 @@ changeKeys (addPointer a b) keys = keys
 changeKeys (raisePointer a b) keys = keys
 changeKeys (lowerPointer a b) keys = keys
 changeKeys (dropPointer a b) keys = keys
+changeKeys (dropFrom bs) keys = keys
 changeKeys (setTime time) keys = keys
 
 -- What a change does to the contents, in blocks of so many bytes.
@@ -191,6 +206,7 @@ changeContents bytes (addPointer a b) contents = contents
 changeContents bytes (raisePointer a b) contents = contents
 changeContents bytes (lowerPointer a b) contents = contents
 changeContents bytes (dropPointer a b) contents = contents
+changeContents bytes (dropFrom bs) contents = contents
 changeContents bytes (setTime time) contents = contents
 
 unfoldable pub change : Card → Change → Card

@@ -1,6 +1,6 @@
 -- Pointers as numbers, source × 65,536 + destination, and sorted lists of them.
 use Prim.Native.Nat.{ℕ, _+_, _*_, _/_, _%_}
-use mathlib.Core.Bool.{Bool, true, _&&_, cond}
+use mathlib.Core.Bool.{Bool, true, _&&_, not, cond}
 use mathlib.Core.List.{List, [], _∷_}
 use lib.Dec.{eqb, ltb}
 use Rattle.card.specs.Lists.{any}
@@ -71,3 +71,17 @@ insert w ws = insertBeside w w ws ws
 
 unfoldable pub remove : ℕ → List ℕ → List ℕ
 remove w ws = removeBeside w ws ws
+
+-- ---- 2026-07: the pointers that pass a test stay, and the numbers beside them
+
+unfoldable pub keepBeside : (ℕ → Bool) → List ℕ → List ℕ → List ℕ
+keepBeside test [] ns = []
+keepBeside test (x ∷ xs) [] = []
+keepBeside test (x ∷ xs) (n ∷ ns) = cond (test x) (n ∷ keepBeside test xs ns) (keepBeside test xs ns)
+
+unfoldable pub keep : (ℕ → Bool) → List ℕ → List ℕ
+keep test ws = keepBeside test ws ws
+
+-- A pointer that starts at none of the blocks.
+unfoldable pub notFrom : List ℕ → ℕ → Bool
+notFrom bs w = not (contains (source w) bs)

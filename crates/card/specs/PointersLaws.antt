@@ -1,13 +1,13 @@
 -- Laws of sorted lists of pointers.
 use Prim.Native.Nat.{ℕ, suc, _+_, _-_, _≤_, _<_}
-use mathlib.Core.Path.{_≡_, refl, ap, subst}
+use mathlib.Core.Path.{_≡_, refl, sym, ap, _∙_, subst}
 use mathlib.Core.Logic.{_⊎_, inl, inr, ⊎-elim}
 use mathlib.Core.Bool.{Bool, true, false, _||_, not, cond}
 use mathlib.Core.List.{List, [], _∷_}
 use native.Mathlib.Omega.{arith}
 use lib.Dec.{eqb, ltb}
 use lib.ListN.{length}
-use borrow.Author.Tests.{lt-ltb, ne-eqb, ltb-true, ltb-false, eqb-true, eqb-false}
+use borrow.Author.Tests.{lt-ltb, eq-eqb, ne-eqb, ltb-true, ltb-false, eqb-true, eqb-false}
 use Rattle.card.specs.Lists.{all, any}
 use Rattle.card.specs.ListsLaws.{and-left, and-right, and-true, or-left, or-right, or-false, or-false-left, or-false-right, or-cases, all-cons, all-head, all-tail, absurd-test}
 use Rattle.card.specs.Pointers.{pointer, source, destination, ascending, contains, pointsFrom, beside, total, insertBeside, removeBeside, insert, remove}
@@ -35,6 +35,12 @@ contains-all p w (x ∷ xs) e h =
     (λ (q : eqb x w ≡ true). subst (λ (k : ℕ). p k ≡ true) (eqb-true x w q) (all-head p x xs h))
     (λ (q : any (λ x. eqb x w) xs ≡ true). contains-all p w xs q (all-tail p x xs h))
     (or-cases (eqb x w) _ e)
+
+-- What holds of each pointer that is there holds of the list.
+pub all-contains : (p : ℕ → Bool) (ws : List ℕ) → ((w : ℕ) → contains w ws ≡ true → p w ≡ true) → all p ws ≡ true
+unfolding contains any all
+all-contains p [] f = refl
+all-contains p (x ∷ xs) f = all-cons p x xs (f x (or-left (eqb x x) _ (eq-eqb x x refl))) (all-contains p xs (λ w h. f w (or-right (eqb x w) _ h)))
 
 -- ---- insert
 
@@ -127,8 +133,19 @@ contains-remove v w (x ∷ xs) e = go (eqb x w) (contains-remove v w xs) e
     go true f h = or-right (eqb x v) _ h
     go false f h = ⊎-elim (λ q. or-left (eqb x v) _ q) (λ q. or-right (eqb x v) _ (f q)) (or-cases (eqb x v) _ h)
 
+-- What a list contains is still there once a pointer goes, or is that pointer.
+pub remove-contains : (v w : ℕ) (ws : List ℕ) → contains v ws ≡ true → (w ≡ v) ⊎ (contains v (remove w ws) ≡ true)
+unfolding remove removeBeside contains any
+remove-contains v w [] e = inr e
+remove-contains v w (x ∷ xs) e = go (eqb x w) refl (remove-contains v w xs) (or-cases (eqb x v) _ e)
+  where
+    go : (t : Bool) → eqb x w ≡ t → (contains v xs ≡ true → (w ≡ v) ⊎ (contains v (remove w xs) ≡ true)) → (eqb x v ≡ true) ⊎ (contains v xs ≡ true)
+        → (w ≡ v) ⊎ (contains v (cond t xs (x ∷ remove w xs)) ≡ true)
+    go true q f h = ⊎-elim (λ i. inl (sym (eqb-true x w q) ∙ eqb-true x v i)) (λ i. inr i) h
+    go false q f h = ⊎-elim (λ i. inr (or-left (eqb x v) _ i)) (λ i. ⊎-elim (λ j. inl j) (λ j. inr (or-right (eqb x v) _ j)) (f i)) h
+
 -- An ascending list goes on ascending from a lower number.
-ascending-lower : (x y : ℕ) (ys : List ℕ) → x < y → ascending (y ∷ ys) ≡ true → ascending (x ∷ ys) ≡ true
+pub ascending-lower : (x y : ℕ) (ys : List ℕ) → x < y → ascending (y ∷ ys) ≡ true → ascending (x ∷ ys) ≡ true
 unfolding ascending
 ascending-lower x y [] h e = refl
 ascending-lower x y (z ∷ zs) h e =
@@ -156,7 +173,7 @@ remove-ascending w (x ∷ xs) e = go (eqb x w)
 -- ---- the number beside one pointer
 
 -- A number is not behind a higher or equal one in an ascending list.
-ascending-absent : (v x : ℕ) (xs : List ℕ) → v ≤ x → ascending (x ∷ xs) ≡ true → contains v xs ≡ false
+pub ascending-absent : (v x : ℕ) (xs : List ℕ) → v ≤ x → ascending (x ∷ xs) ≡ true → contains v xs ≡ false
 unfolding contains any
 ascending-absent v x [] l e = refl
 ascending-absent v x (y ∷ ys) l e =

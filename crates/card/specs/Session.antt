@@ -8,7 +8,7 @@ use lib.ListN.{length, take}
 use Rattle.card.specs.Card.{Card}
 use Rattle.card.specs.Access.{admits, opens}
 use Rattle.card.specs.Plan.{Check, audited, Plan, Buffers, Result, judge, judgeSound}
-use Rattle.card.specs.Calls.{answerNumber, answerValues, modeOf, readPlan, writePlan, allocPlan, allocContigPlan, createPlan, deletePlan, keyPlan, renewPlan, forcePlan, freePlan, tickPlan, auditPlan}
+use Rattle.card.specs.Calls.{answerNumber, answerValues, modeOf, readPlan, writePlan, allocPlan, allocContigPlan, createPlan, deletePlan, deleteTreePlan, keyPlan, renewPlan, forcePlan, freePlan, tickPlan, auditPlan}
 use Rattle.card.specs.declared.Port.{Port}
 use Rattle.card.specs.declared.Port.the-variants.{Host}
 use Rattle.card.specs.declared.Mode.{Mode}
@@ -19,7 +19,7 @@ use Rattle.card.specs.declared.KeyOperands.{KeyOperands}
 use Rattle.card.specs.declared.TickOperands.{TickOperands}
 use Rattle.card.specs.declared.Answer.{Answer}
 use Rattle.card.specs.declared.Call.{Call}
-use Rattle.card.specs.declared.Call.the-variants.{Read, Write, Alloc, AllocContig, Create, Delete, KeyRead, KeyWrite, Renew, Force, Free, Tick, Audit}
+use Rattle.card.specs.declared.Call.the-variants.{Read, Write, Alloc, AllocContig, Create, Delete, DeleteTree, KeyRead, KeyWrite, Renew, Force, Free, Tick, Audit}
 
 -- KEY_READ or KEY_WRITE, by the mode whose key it sets.
 abbrev pub keyCall : Mode → KeyOperands → Call
@@ -44,6 +44,7 @@ plan port c (Create o) lent =
     (admits port c Writing (o .destination) (o .second))
     o
 plan port c (Delete o) lent = deletePlan port (c .public) (admits port c Writing (o .source) (o .credential)) o
+plan port c (DeleteTree o) lent = deleteTreePlan port (c .public) (admits port c Writing (o .source) (o .credential)) o
 plan port c (KeyRead o) lent = keyPlan port (c .public) (admits port c Writing (o .block) (o .credential)) Reading o
 plan port c (KeyWrite o) lent = keyPlan port (c .public) (admits port c Writing (o .block) (o .credential)) Writing o
 plan port c (Renew o) lent = renewPlan (c .public) (opens c (modeOf (o .mode)) (o .block) (KeyCredential (o .high) (o .low))) o
@@ -61,6 +62,7 @@ portOf port (Alloc o) = port
 portOf port (AllocContig o) = port
 portOf port (Create o) = port
 portOf port (Delete o) = port
+portOf port (DeleteTree o) = port
 portOf port (KeyRead o) = port
 portOf port (KeyWrite o) = port
 portOf port (Renew o) = Host
@@ -143,10 +145,10 @@ pub record Traits : Type 0 where
   pub credentials : List Credential
   -- The values that the call, once done, leaves in a lent buffer and a player reports.
   pub values : Reply → List ℕ
-  -- The destination of the pointer that the call takes away, if it takes one.
+  -- The destination of the pointer that the call takes away, if it takes just one: DELETE.
   pub takesPointerTo : Option ℕ
 
--- A call that shows nothing and takes no pointer away.
+-- A call that shows nothing and is no DELETE.
 abbrev pub plain : List Credential → Traits
 plain credentials = record { credentials = credentials; values = λ r. []; takesPointerTo = none }
 
@@ -158,6 +160,7 @@ traits (Alloc o) = record { credentials = o .credential ∷ []; values = λ r. t
 traits (AllocContig o) = record { credentials = o .credential ∷ []; values = λ r. take (o .count) (r .places); takesPointerTo = none }
 traits (Create o) = plain (o .credential ∷ o .second ∷ [])
 traits (Delete o) = record { credentials = o .credential ∷ []; values = λ r. []; takesPointerTo = some (o .destination) }
+traits (DeleteTree o) = plain (o .credential ∷ [])
 traits (KeyRead o) = plain (o .credential ∷ [])
 traits (KeyWrite o) = plain (o .credential ∷ [])
 traits (Renew o) = plain (KeyCredential (o .high) (o .low) ∷ [])

@@ -7,7 +7,7 @@ use lib.ListN.{length, drop}
 use lib.Seq.{drop-at}
 use Rattle.card.specs.Card.{Public, Card}
 use Rattle.card.specs.Soundness.{verdict}
-use Rattle.card.specs.Plan.{first, audited, Change, setWindow, setBlock, setKey, takeBlock, freeBlock, addPointer, raisePointer, lowerPointer, dropPointer, setTime, withUsed, withTime, changePublic, change, changes, Plan, Buffers, settle, judge}
+use Rattle.card.specs.Plan.{first, audited, Change, setWindow, setBlock, setKey, takeBlock, freeBlock, addPointer, raisePointer, lowerPointer, dropPointer, dropFrom, setTime, withUsed, withTime, changePublic, change, changes, Plan, Buffers, settle, judge}
 use Rattle.card.specs.Promises.{Is, judged-misshapen, judged-unsound, judged-sound}
 use Rattle.card.specs.Access.{admits}
 use Rattle.card.specs.Calls.{keyPlan}
@@ -23,7 +23,7 @@ use Rattle.card.specs.declared.Refusal.the-variants.{Misshapen as Missha
 use Rattle.card.specs.declared.Answer.{Answer}
 use Rattle.card.specs.declared.Answer.the-variants.{Refused}
 use Rattle.card.specs.declared.Call.{Call}
-use Rattle.card.specs.declared.Call.the-variants.{Read, Write, Alloc, AllocContig, Create, Delete, KeyRead, KeyWrite, Renew, Force, Free, Tick, Audit}
+use Rattle.card.specs.declared.Call.the-variants.{Read, Write, Alloc, AllocContig, Create, Delete, DeleteTree, KeyRead, KeyWrite, Renew, Force, Free, Tick, Audit}
 
 module _ (port : Port) (c : Card) (q : Request) where
   pub is-misshapen : verdict c ≡ Misshapen → Is (perform port c q) (Refused MisshapenRefusal) c (q .lent .out) (q .lent .places)
@@ -59,6 +59,7 @@ perform-portOf port c q = ap (judge c (q .lent)) (go (q .call))
     go (AllocContig o) = refl
     go (Create o) = refl
     go (Delete o) = refl
+    go (DeleteTree o) = refl
     go (KeyRead o) = refl
     go (KeyWrite o) = refl
     go (Renew o) = refl
@@ -116,6 +117,7 @@ module _ {size : Info → ℕ} (fixed : Fixed size) where
   changePublic-size (raisePointer a b) p = refl
   changePublic-size (lowerPointer a b) p = refl
   changePublic-size (dropPointer a b) p = fixed .used (p .info) (p .info .used - 1)
+  changePublic-size (dropFrom bs) p = fixed .used (p .info) _
   changePublic-size (setTime time) p = fixed .time (p .info) time
 
   changes-size : (c : Card) (steps : List Change) → size (changes c steps .public .info) ≡ size (c .public .info)

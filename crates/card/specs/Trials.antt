@@ -4,14 +4,16 @@ use Prim.Native.Nat.{ℕ}
 use mathlib.Core.Path.{_≡_, refl}
 use mathlib.Core.List.{List, [], _∷_, _++_, map}
 use lib.ListN.{replicate}
-use Rattle.card.specs.Lists.{every, all, any, allBelow, numbersBelow, numbersFrom}
-use Rattle.card.specs.Pointers.{ascending, contains, pointsFrom, insert, remove, beside, total, insertBeside, removeBeside, setBeside}
+use Rattle.card.specs.Lists.{every, all, any, allBelow, numbersBelow, numbersFrom, tabulate}
+use Rattle.card.specs.Pointers.{ascending, contains, pointsFrom, insert, remove, beside, total, insertBeside, removeBeside, setBeside, keepBeside, keep, notFrom}
+use Rattle.card.specs.Least.{rounds, least}
 use Rattle.card.specs.Contents.{overwrite, part, fill, zeros}
 use Rattle.card.specs.Card.{Card, card, allocated, hasKey, freeBlocks, windowOpen, multiplicity, pointsTo, hasPointers}
+use Rattle.card.specs.Tree.{ordinary, onlyFrom, orphaned, orphans}
 use Rattle.card.specs.Soundness.{ranges, lengths, shape, flagsBelow8, rootAllocated, keyZero, unallocatedEmpty, absentKeyZero, countRight, pointedTo, windowInTime, pointerRight, multiplicityRight, sound}
 use Rattle.card.specs.Access.{keyIs, keyOpens, opensKeyed, opensRoot, opensPointed, opens, admits}
 use Rattle.card.specs.Plan.{first, audited, changePublic, changeKeys, changeContents, change, changes, outAfter, placesAfter, settle, judge, withUsed, Buffers}
-use Rattle.card.specs.Calls.{rootAtHost, windowAfter, opensWindow, freshInfo, formatResult, format, readPlan, writePlan, wanted, nearest, picks, takeAll, allocPlan, isRun, runStarts, nearestRun, allocContigPlan, createPlan, deletePlan, keyPlan, modeOf, renewPlan, forcePlan, freePlan, tickPlan, auditPlan}
+use Rattle.card.specs.Calls.{rootAtHost, windowAfter, opensWindow, freshInfo, formatResult, format, readPlan, writePlan, wanted, nearest, picks, takeAll, allocPlan, isRun, runStarts, nearestRun, allocContigPlan, createPlan, deletePlan, freedWith, freeEach, deleteTreePlan, keyPlan, modeOf, renewPlan, forcePlan, freePlan, tickPlan, auditPlan}
 use Rattle.card.specs.Session.{keyCall, Sent, plan, perform, reported, reports, traits}
 use Rattle.card.specs.declared.Port.{Port}
 use Rattle.card.specs.declared.Port.the-variants.{Host, Service}
@@ -20,13 +22,13 @@ use Rattle.card.specs.declared.Mode.the-variants.{Reading, Writing}
 use Rattle.card.specs.declared.Credential.{Credential}
 use Rattle.card.specs.declared.Credential.the-variants.{Nothing, Reference, Key as KeyCredential}
 use Rattle.card.specs.declared.NewKey.{NewKey}
-use Rattle.card.specs.declared.NewKey.the-variants.{Present}
+use Rattle.card.specs.declared.NewKey.the-variants.{Absent, Present}
 use Rattle.card.specs.declared.Call.{Call}
-use Rattle.card.specs.declared.Call.the-variants.{Read, Write, Alloc, AllocContig, Create, Delete, Free, Tick}
+use Rattle.card.specs.declared.Call.the-variants.{Read, Write, Alloc, AllocContig, Create, Delete, DeleteTree, Free, Tick}
 
 -- To compute by the rules, a proof unfolds this one name.
 unfoldable pub rules : Unit {0}
-unfolding every all any allBelow numbersBelow numbersFrom ascending contains pointsFrom insert remove beside total insertBeside removeBeside setBeside overwrite part fill allocated hasKey freeBlocks windowOpen multiplicity pointsTo hasPointers ranges lengths shape flagsBelow8 rootAllocated keyZero unallocatedEmpty absentKeyZero countRight pointedTo windowInTime pointerRight multiplicityRight sound keyIs keyOpens opensKeyed opensRoot opensPointed opens admits first audited changePublic changeKeys changeContents change changes outAfter placesAfter settle judge rootAtHost windowAfter opensWindow formatResult format readPlan writePlan wanted nearest picks takeAll allocPlan isRun runStarts nearestRun allocContigPlan createPlan deletePlan keyPlan modeOf renewPlan forcePlan freePlan tickPlan auditPlan plan perform reported reports traits
+unfolding every all any allBelow numbersBelow numbersFrom tabulate rounds least ascending contains pointsFrom insert remove beside total insertBeside removeBeside setBeside keepBeside keep notFrom overwrite part fill allocated hasKey freeBlocks windowOpen multiplicity pointsTo hasPointers ordinary onlyFrom orphaned orphans ranges lengths shape flagsBelow8 rootAllocated keyZero unallocatedEmpty absentKeyZero countRight pointedTo windowInTime pointerRight multiplicityRight sound keyIs keyOpens opensKeyed opensRoot opensPointed opens admits first audited changePublic changeKeys changeContents change changes outAfter placesAfter settle judge rootAtHost windowAfter opensWindow formatResult format readPlan writePlan wanted nearest picks takeAll allocPlan isRun runStarts nearestRun allocContigPlan createPlan deletePlan freedWith freeEach deleteTreePlan keyPlan modeOf renewPlan forcePlan freePlan tickPlan auditPlan plan perform reported reports traits
 rules = tt
 
 -- ---- the player's card
@@ -73,6 +75,9 @@ module _ (port : Port) where
 
   abbrev pub delete : ℕ → ℕ → Sent
   delete a b = send port (Delete (record { source = a; credential = Nothing; destination = b }))
+
+  abbrev pub deleteTree : ℕ → ℕ → Sent
+  deleteTree a b = send port (DeleteTree (record { source = a; credential = Nothing; destination = b }))
 
   abbrev pub key : Mode → ℕ → Credential → NewKey → Sent
   key mode b credential new = send port (keyCall mode (record { block = b; credential = credential; key = new }))
@@ -255,6 +260,63 @@ trialTable =
     ∷ []))
     yields (0 ∷ 1 ∷ 2 ∷ 3 ∷ 4 ∷ 5 ∷ 6 ∷ 7 ∷ 8 ∷ 9 ∷ 10 ∷ 11 ∷ 12 ∷ 13 ∷ 14 ∷ 15 ∷ [])
     ∷ (replicate 17 (0 ∷ []) ++ ((11 ∷ []) ∷ (0 ∷ []) ∷ (0 ∷ []) ∷ [])))
+    -- 2026-07: a chain goes whole, where DELETE refuses 9
+    ∷ (alloc Service 0 65535 1
+    ∷ alloc Service 1 65535 1
+    ∷ alloc Service 2 65535 1
+    ∷ delete Service 0 1
+    ∷ deleteTree Service 0 1
+    ∷ free
+    ∷ []
+    yields (0 ∷ 1 ∷ []) ∷ (0 ∷ 2 ∷ []) ∷ (0 ∷ 3 ∷ []) ∷ (9 ∷ []) ∷ (0 ∷ 3 ∷ []) ∷ (0 ∷ 15 ∷ []) ∷ [])
+    -- 2026-07: a block with a pointer from outside stays, with all below it; its count is right, so that its last pointer frees it
+    ∷ (alloc Service 0 65535 2
+    ∷ alloc Service 1 65535 1
+    ∷ alloc Service 3 65535 1
+    ∷ create Service 2 Nothing 3 Nothing
+    ∷ deleteTree Service 0 1
+    ∷ deleteTree Service 2 3
+    ∷ free
+    ∷ []
+    yields (0 ∷ 1 ∷ 2 ∷ []) ∷ (0 ∷ 3 ∷ []) ∷ (0 ∷ 4 ∷ []) ∷ (0 ∷ []) ∷ (0 ∷ 1 ∷ []) ∷ (0 ∷ 2 ∷ []) ∷ (0 ∷ 14 ∷ []) ∷ [])
+    -- 2026-07: a cycle through the destination stays; then its blocks point to each other alone, and with a pointer of it the source goes too
+    ∷ (alloc Service 0 65535 1
+    ∷ alloc Service 1 65535 1
+    ∷ create Service 2 Nothing 1 Nothing
+    ∷ deleteTree Service 0 1
+    ∷ free
+    ∷ deleteTree Service 1 2
+    ∷ free
+    ∷ []
+    yields (0 ∷ 1 ∷ []) ∷ (0 ∷ 2 ∷ []) ∷ (0 ∷ []) ∷ (0 ∷ 0 ∷ []) ∷ (0 ∷ 13 ∷ []) ∷ (0 ∷ 2 ∷ []) ∷ (0 ∷ 15 ∷ []) ∷ [])
+    -- 2026-07: a write key deep in the tree refuses 15, a read key does not
+    ∷ (alloc Service 0 65535 1
+    ∷ alloc Service 1 65535 1
+    ∷ alloc Service 2 65535 1
+    ∷ key Service Reading 3 Nothing (Present 1 2)
+    ∷ key Service Writing 3 Nothing (Present 3 4)
+    ∷ deleteTree Service 0 1
+    ∷ key Service Writing 3 Nothing Absent
+    ∷ deleteTree Service 0 1
+    ∷ []
+    yields (0 ∷ 1 ∷ []) ∷ (0 ∷ 2 ∷ []) ∷ (0 ∷ 3 ∷ []) ∷ (0 ∷ []) ∷ (0 ∷ []) ∷ (15 ∷ []) ∷ (0 ∷ []) ∷ (0 ∷ 3 ∷ []) ∷ [])
+    -- 2026-07: a pointer made twice goes wholly, though its destination stays; then it is not there: 8
+    ∷ (alloc Service 0 65535 2
+    ∷ create Service 0 Nothing 1 Nothing
+    ∷ create Service 2 Nothing 1 Nothing
+    ∷ deleteTree Service 0 1
+    ∷ deleteTree Service 0 1
+    ∷ delete Service 2 1
+    ∷ []
+    yields (0 ∷ 1 ∷ 2 ∷ []) ∷ (0 ∷ []) ∷ (0 ∷ []) ∷ (0 ∷ 0 ∷ []) ∷ (8 ∷ []) ∷ (0 ∷ 1 ∷ []) ∷ [])
+    -- 2026-07: a root as the source refuses 6 at the host port, a source that is not opened 5; a destination that is not allocated refuses 3
+    ∷ (alloc Service 0 65535 1
+    ∷ alloc Service 1 65535 1
+    ∷ deleteTree Host 0 1
+    ∷ deleteTree Host 1 2
+    ∷ deleteTree Service 1 3
+    ∷ []
+    yields (0 ∷ 1 ∷ []) ∷ (0 ∷ 2 ∷ []) ∷ (6 ∷ []) ∷ (5 ∷ []) ∷ (3 ∷ []) ∷ [])
     ∷ []
 
 -- What the rules report of a row's calls.

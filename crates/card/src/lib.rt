@@ -85,6 +85,7 @@ pub struct CreateOperands {
     pub second: Credential,
 }
 
+// Of DELETE and of DELETE_TREE.
 pub struct DeleteOperands {
     pub source: u16,
     pub credential: Credential,
@@ -123,6 +124,7 @@ pub enum Call {
     AllocContig(AllocOperands),
     Create(CreateOperands),
     Delete(DeleteOperands),
+    DeleteTree(DeleteOperands),
     KeyRead(KeyOperands),
     KeyWrite(KeyOperands),
     Renew(RenewOperands),
@@ -132,7 +134,8 @@ pub enum Call {
     Audit,
 }
 
-// Why a call is refused, in the order of the numbers: 1 to 13 of document 01, 14 of the request 2026-01.
+// Why a call is refused, in the order of the numbers: 1 to 13 of document 01, 14 of the request 2026-01,
+// 15 of the request 2026-07.
 pub enum Refusal {
     Misshapen,
     Unsound,
@@ -148,6 +151,7 @@ pub enum Refusal {
     TimeEnds,
     BadRecord,
     NoRun,
+    HasWriteKey,
 }
 
 // What a call answers: a refusal, done with no result, or done with one number.

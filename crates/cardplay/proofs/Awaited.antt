@@ -11,7 +11,7 @@ use Rattle.card.specs.Card.{Card}
 use Rattle.records.specs.Decode.{Next, ended, refused, sent, decode, decodeBody, nextOf}
 use Rattle.kinds.specs.Kinds.{row, lengthOf, kindOf, kindLength, bodyLength}
 use Rattle.kinds.specs.declared.Name.{Name}
-use Rattle.kinds.specs.declared.Name.the-variants.{Read as READ, Write as WRITE, Alloc as ALLOC, Create as CREATE, Delete as DELETE, KeyRead as KEY-READ, Renew as RENEW, Force as FORCE, Free as FREE, Tick as TICK, Audit as AUDIT, AllocContig as ALLOC-CONTIG, KeyWrite as KEY-WRITE}
+use Rattle.kinds.specs.declared.Name.the-variants.{Read as READ, Write as WRITE, Alloc as ALLOC, Create as CREATE, Delete as DELETE, KeyRead as KEY-READ, Renew as RENEW, Force as FORCE, Free as FREE, Tick as TICK, Audit as AUDIT, AllocContig as ALLOC-CONTIG, KeyWrite as KEY-WRITE, DeleteTree as DELETE-TREE}
 use Rattle.kinds.specs.declared.Kind.{Kind}
 use Rattle.kinds.specs.declared.Kind.the-variants.{Known, Unknown}
 use Rattle.records.specs.declared.Decoding.{Decoding}
@@ -41,6 +41,7 @@ length-most TICK = omega arith
 length-most AUDIT = omega arith
 length-most ALLOC-CONTIG = omega arith
 length-most KEY-WRITE = omega arith
+length-most DELETE-TREE = omega arith
 
 kind-short : (k : Kind) (n : ℕ) → isShort (kindLength k) n ≡ true → n + 1 < recordRoom
 unfolding isShort kindLength

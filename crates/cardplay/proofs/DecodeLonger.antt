@@ -18,7 +18,7 @@ use Rattle.fields.specs.Fields.{credential, newKey}
 use Rattle.records.specs.Decode.{decodeKey, decodeCall, decodeKnown, decodeBody, nameOf, dataOf, Next, ended, refused, sent, nextOf, decode}
 use Rattle.records.specs.DecodeLaws.{OfKind, decoded-kind}
 use Rattle.kinds.specs.declared.Name.{Name}
-use Rattle.kinds.specs.declared.Name.the-variants.{Read as READ, Write as WRITE, Alloc as ALLOC, Create as CREATE, Delete as DELETE, KeyRead as KEY-READ, Renew as RENEW, Force as FORCE, Free as FREE, Tick as TICK, Audit as AUDIT, AllocContig as ALLOC-CONTIG, KeyWrite as KEY-WRITE}
+use Rattle.kinds.specs.declared.Name.the-variants.{Read as READ, Write as WRITE, Alloc as ALLOC, Create as CREATE, Delete as DELETE, KeyRead as KEY-READ, Renew as RENEW, Force as FORCE, Free as FREE, Tick as TICK, Audit as AUDIT, AllocContig as ALLOC-CONTIG, KeyWrite as KEY-WRITE, DeleteTree as DELETE-TREE}
 use Rattle.records.specs.declared.Decoding.{Decoding}
 use Rattle.records.specs.declared.Decoding.the-variants.{Decoded, Bad}
 
@@ -82,6 +82,7 @@ call-same port WRITE xs ys a = rw (first-same 535 xs ys a 2 (omega arith), opera
 call-same port ALLOC xs ys a = rw (first-same 22 xs ys a 2 (omega arith), operand-same 22 xs ys a 19 2 (omega arith), credential-within 22 xs ys a 2 (omega arith), a 21 (omega arith))
 call-same port CREATE xs ys a = rw (first-same 38 xs ys a 2 (omega arith), operand-same 38 xs ys a 19 2 (omega arith), credential-within 38 xs ys a 2 (omega arith), credential-within 38 xs ys a 21 (omega arith))
 call-same port DELETE xs ys a = rw (first-same 21 xs ys a 2 (omega arith), operand-same 21 xs ys a 19 2 (omega arith), credential-within 21 xs ys a 2 (omega arith))
+call-same port DELETE-TREE xs ys a = rw (first-same 21 xs ys a 2 (omega arith), operand-same 21 xs ys a 19 2 (omega arith), credential-within 21 xs ys a 2 (omega arith))
 call-same port KEY-READ xs ys a = key-same port Reading xs ys a
 call-same port RENEW xs ys a =
     rw (a 0 (omega arith), operand-same 23 xs ys a 1 2 (omega arith), operand-same 23 xs ys a 3 8 (omega arith), operand-same 23 xs ys a 11 8 (omega arith), operand-same 23 xs ys a 19 4 (omega arith))
@@ -108,6 +109,7 @@ data-in-body TICK = omega arith
 data-in-body AUDIT = omega arith
 data-in-body ALLOC-CONTIG = omega arith
 data-in-body KEY-WRITE = omega arith
+data-in-body DELETE-TREE = omega arith
 
 -- ---- a record
 

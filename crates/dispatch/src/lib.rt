@@ -104,6 +104,18 @@ pub fn perform_sound(
             port,
             o,
         ),
+        Call::DeleteTree(o) => removal::delete_tree_sound(
+            info,
+            flags,
+            keys,
+            counts,
+            pointers,
+            multiplicities,
+            windows,
+            contents,
+            port,
+            o,
+        ),
         Call::KeyRead(o) => keys::key_sound(
             info,
             flags,

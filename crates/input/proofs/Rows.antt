@@ -71,7 +71,7 @@ pub player-keeps-the-first-card : playSafeTest playerCard (tickBytes 5 ++ tickBy
 unfolding computing
 player-keeps-the-first-card = refl
 
--- There is no kind 14.
-pub refused-record-ends-the-bytes : playSafeTest playerCard (tickBytes 5 ++ (14 ∷ [])) 8192 ≡ true
+-- There is no kind 15.
+pub refused-record-ends-the-bytes : playSafeTest playerCard (tickBytes 5 ++ (15 ∷ [])) 8192 ≡ true
 unfolding computing
 refused-record-ends-the-bytes = refl

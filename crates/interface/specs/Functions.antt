@@ -6,7 +6,7 @@ use Rattle.card.specs.declared.Port.the-variants.{Host}
 use Rattle.card.specs.declared.Mode.{Mode}
 use Rattle.card.specs.declared.Mode.the-variants.{Reading, Writing}
 use Rattle.card.specs.declared.Call.the-variants.{Force, Free, Tick, Audit}
-use Rattle.records.specs.Decode.{readWith, writeWith, allocWith, allocContigWith, createWith, deleteWith, keyWith, renewWith}
+use Rattle.records.specs.Decode.{readWith, writeWith, allocWith, allocContigWith, createWith, deleteWith, deleteTreeWith, keyWith, renewWith}
 use Rattle.records.specs.declared.Decoding.{Decoding}
 use Rattle.records.specs.declared.Decoding.the-variants.{Decoded}
 use Rattle.parameters.specs.Numbers.{credentialOf, newKeyOf, wireOf, atPort, decodeAt}
@@ -20,6 +20,7 @@ pub data Function : Type 0 where
   allocContig : (port block : ℕ) (credential : List ℕ) (hint count : ℕ) (places : List ℕ) → Function
   create : (port source : ℕ) (credential : List ℕ) (destination : ℕ) (second : List ℕ) → Function
   delete : (port source : ℕ) (credential : List ℕ) (destination value : ℕ) → Function
+  deleteTree : (port source : ℕ) (credential : List ℕ) (destination value : ℕ) → Function
   keyRead : (port block : ℕ) (credential key : List ℕ) → Function
   keyWrite : (port block : ℕ) (credential key : List ℕ) → Function
   renew : (mode block : ℕ) (credential : List ℕ) (interval : ℕ) → Function
@@ -51,6 +52,7 @@ lendingOf (alloc port block credential hint count places) = lending (atPort port
 lendingOf (allocContig port block credential hint count places) = lending (atPort port (allocContigWith Host block (credentialOf credential) hint count)) [] [] places 0
 lendingOf (create port source credential destination second) = lending (atPort port (createWith Host source (credentialOf credential) destination (credentialOf second))) [] [] [] 0
 lendingOf (delete port source credential destination value) = lending (atPort port (deleteWith Host source (credentialOf credential) destination)) [] [] [] value
+lendingOf (deleteTree port source credential destination value) = lending (atPort port (deleteTreeWith Host source (credentialOf credential) destination)) [] [] [] value
 lendingOf (keyRead port block credential key) = lending (keyCallAt Reading port block credential key) [] [] [] 0
 lendingOf (keyWrite port block credential key) = lending (keyCallAt Writing port block credential key) [] [] [] 0
 lendingOf (renew mode block credential interval) = lending (renewWith Host mode block (credentialOf credential) interval) [] [] [] 0
@@ -73,6 +75,7 @@ functionPort (alloc port block credential hint count places) = port
 functionPort (allocContig port block credential hint count places) = port
 functionPort (create port source credential destination second) = port
 functionPort (delete port source credential destination value) = port
+functionPort (deleteTree port source credential destination value) = port
 functionPort (keyRead port block credential key) = port
 functionPort (keyWrite port block credential key) = port
 functionPort (renew mode block credential interval) = 0

@@ -1,2 +1,3 @@
 pub mod Functions
+pub mod FunctionsLaws
 pub mod Batch

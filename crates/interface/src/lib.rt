@@ -1,18 +1,13 @@
 // The functions that C links: the card's record as a lent slice of five numbers, tables and buffers as slices,
 // enums as numbers, credentials and new keys as bytes. Each makes a call of its operands and performs it, as a call record is.
 // include/negvask.h describes them.
-use card::Call;
-use card::ForceOperands;
 use card::Mode;
-use card::Port;
-use card::TickOperands;
 use input::Stop;
 use parameters::Wire;
-use records::Decoding;
 ghost use mathlib.Core.Path.{_≡_};
 ghost use mathlib.Core.List.{[]};
 ghost use Rattle.adapter.specs.Effects.{formatEffect, reachEffect, unlockingEffect, Effects, EffectsGiving, EffectsLent, EffectsListing};
-ghost use Rattle.interface.specs.Functions.{read, write, alloc, allocContig, create, delete, keyRead, keyWrite, renew, force, tick, free, audit, serve, keyCallAt, effectBy};
+ghost use Rattle.interface.specs.Functions.{read, write, alloc, allocContig, create, delete, deleteTree, keyRead, keyWrite, renew, force, tick, free, audit, serve, effectBy};
 ghost use Rattle.interface.specs.Batch.{stopNumber, ServesBatch};
 
 // ---- the calls, by their operands
@@ -36,9 +31,7 @@ pub extern "C" fn negvask_read(
 ) -> u32
     ensures { λ r. ⌜ Effects (effectBy (read port block (now (credential .entry)) interval (now (out .entry)))) info flags keys counts pointers multiplicities windows contents r (now (out .exit)) [] ⌝ }
 {
-    let parsed = parameters::credential_of(credential);
-    let made = records::read_with(Port::Host, block, parsed, interval);
-    let decoding = parameters::at_port(port, made);
+    let decoding = parameters::read_at(port, block, credential, interval);
     let mut value = 0;
     adapter::perform(
         info,
@@ -76,9 +69,7 @@ pub extern "C" fn negvask_write(
 ) -> u32
     ensures { λ r. ⌜ Effects (effectBy (write port block (now (credential .entry)) interval (now (bytes .entry)))) info flags keys counts pointers multiplicities windows contents r [] [] ⌝ }
 {
-    let parsed = parameters::credential_of(credential);
-    let made = records::write_with(Port::Host, block, parsed, interval);
-    let decoding = parameters::at_port(port, made);
+    let decoding = parameters::write_at(port, block, credential, interval);
     let mut value = 0;
     adapter::perform_without_buffers(
         info,
@@ -115,9 +106,7 @@ pub extern "C" fn negvask_alloc(
 ) -> u32
     ensures { λ r. ⌜ Effects (effectBy (alloc port block (now (credential .entry)) hint count (now (places .entry)))) info flags keys counts pointers multiplicities windows contents r [] (now (places .exit)) ⌝ }
 {
-    let parsed = parameters::credential_of(credential);
-    let made = records::alloc_with(Port::Host, block, parsed, hint, count);
-    let decoding = parameters::at_port(port, made);
+    let decoding = parameters::alloc_at(port, block, credential, hint, count);
     let mut value = 0;
     adapter::perform(
         info,
@@ -156,9 +145,7 @@ pub extern "C" fn negvask_alloc_contig(
 ) -> u32
     ensures { λ r. ⌜ Effects (effectBy (allocContig port block (now (credential .entry)) hint count (now (places .entry)))) info flags keys counts pointers multiplicities windows contents r [] (now (places .exit)) ⌝ }
 {
-    let parsed = parameters::credential_of(credential);
-    let made = records::alloc_contig_with(Port::Host, block, parsed, hint, count);
-    let decoding = parameters::at_port(port, made);
+    let decoding = parameters::alloc_contig_at(port, block, credential, hint, count);
     let mut value = 0;
     adapter::perform(
         info,
@@ -196,10 +183,7 @@ pub extern "C" fn negvask_create(
 ) -> u32
     ensures { λ r. ⌜ Effects (effectBy (create port source (now (credential .entry)) destination (now (second .entry)))) info flags keys counts pointers multiplicities windows contents r [] [] ⌝ }
 {
-    let first = parameters::credential_of(credential);
-    let other = parameters::credential_of(second);
-    let made = records::create_with(Port::Host, source, first, destination, other);
-    let decoding = parameters::at_port(port, made);
+    let decoding = parameters::create_at(port, source, credential, destination, second);
     let mut value = 0;
     adapter::perform_without_buffers(
         info,
@@ -235,9 +219,7 @@ pub extern "C" fn negvask_delete(
 ) -> u32
     ensures { λ r. ⌜ EffectsGiving (λ v. effectBy (delete port source (now (credential .entry)) destination v)) info flags keys counts pointers multiplicities windows contents value r ⌝ }
 {
-    let parsed = parameters::credential_of(credential);
-    let made = records::delete_with(Port::Host, source, parsed, destination);
-    let decoding = parameters::at_port(port, made);
+    let decoding = parameters::delete_at(port, source, credential, destination);
     adapter::perform_without_buffers(
         info,
         flags,
@@ -253,14 +235,39 @@ pub extern "C" fn negvask_delete(
     )
 }
 
-// KEY_READ or KEY_WRITE, by the mode whose key it sets.
-fn key_call_at(mode: Mode, port: u8, block: u16, credential: &[u8], key: &[u8]) -> Decoding
-    ensures { λ r. ⌜ r ≡ keyCallAt mode port block (now (credential .entry)) (now (key .entry)) ⌝ }
+// DELETE_TREE: the pointer from the source to the destination wholly, and all blocks that are left without one; `value` how many were freed.
+#[no_mangle]
+pub extern "C" fn negvask_delete_tree(
+    info: &mut [u64],
+    flags: &mut [u8],
+    keys: &mut [u64],
+    counts: &mut [u32],
+    pointers: &mut [u32],
+    multiplicities: &mut [u16],
+    windows: &mut [u64],
+    contents: &mut [u8],
+    port: u8,
+    source: u16,
+    credential: &[u8],
+    destination: u16,
+    value: &mut u64,
+) -> u32
+    ensures { λ r. ⌜ EffectsGiving (λ v. effectBy (deleteTree port source (now (credential .entry)) destination v)) info flags keys counts pointers multiplicities windows contents value r ⌝ }
 {
-    let parsed = parameters::credential_of(credential);
-    let new = parameters::new_key_of(key);
-    let made = records::key_with(Port::Host, mode, block, parsed, new);
-    parameters::at_port(port, made)
+    let decoding = parameters::delete_tree_at(port, source, credential, destination);
+    adapter::perform_without_buffers(
+        info,
+        flags,
+        keys,
+        counts,
+        pointers,
+        multiplicities,
+        windows,
+        contents,
+        decoding,
+        &[],
+        value,
+    )
 }
 
 // KEY_READ: the read key of the block replaced.
@@ -281,7 +288,7 @@ pub extern "C" fn negvask_key_read(
 ) -> u32
     ensures { λ r. ⌜ Effects (effectBy (keyRead port block (now (credential .entry)) (now (key .entry)))) info flags keys counts pointers multiplicities windows contents r [] [] ⌝ }
 {
-    let decoding = key_call_at(Mode::Reading, port, block, credential, key);
+    let decoding = parameters::key_at(Mode::Reading, port, block, credential, key);
     let mut value = 0;
     adapter::perform_without_buffers(
         info,
@@ -316,7 +323,7 @@ pub extern "C" fn negvask_key_write(
 ) -> u32
     ensures { λ r. ⌜ Effects (effectBy (keyWrite port block (now (credential .entry)) (now (key .entry)))) info flags keys counts pointers multiplicities windows contents r [] [] ⌝ }
 {
-    let decoding = key_call_at(Mode::Writing, port, block, credential, key);
+    let decoding = parameters::key_at(Mode::Writing, port, block, credential, key);
     let mut value = 0;
     adapter::perform_without_buffers(
         info,
@@ -351,8 +358,7 @@ pub extern "C" fn negvask_renew(
 ) -> u32
     ensures { λ r. ⌜ Effects (effectBy (renew mode block (now (key .entry)) interval)) info flags keys counts pointers multiplicities windows contents r [] [] ⌝ }
 {
-    let parsed = parameters::credential_of(key);
-    let decoding = records::renew_with(Port::Host, mode, block, parsed, interval);
+    let decoding = parameters::renew_call(mode, block, key, interval);
     let mut value = 0;
     adapter::perform_without_buffers(
         info,
@@ -384,7 +390,7 @@ pub extern "C" fn negvask_force(
 ) -> u32
     ensures { λ r. ⌜ Effects (effectBy (force block)) info flags keys counts pointers multiplicities windows contents r [] [] ⌝ }
 {
-    let decoding = Decoding::Decoded(Port::Host, Call::Force(ForceOperands { block }));
+    let decoding = parameters::force_call(block);
     let mut value = 0;
     adapter::perform_without_buffers(
         info,
@@ -417,7 +423,7 @@ pub extern "C" fn negvask_tick(
 ) -> u32
     ensures { λ r. ⌜ EffectsGiving (λ v. effectBy (tick seconds v)) info flags keys counts pointers multiplicities windows contents value r ⌝ }
 {
-    let decoding = Decoding::Decoded(Port::Host, Call::Tick(TickOperands { seconds }));
+    let decoding = parameters::tick_call(seconds);
     adapter::perform_without_buffers(
         info,
         flags,
@@ -448,7 +454,7 @@ pub extern "C" fn negvask_count_free(
 ) -> u32
     ensures { λ r. ⌜ EffectsGiving (λ v. effectBy (free v)) info flags keys counts pointers multiplicities windows contents value r ⌝ }
 {
-    let decoding = Decoding::Decoded(Port::Host, Call::Free);
+    let decoding = parameters::free_call();
     adapter::perform_without_buffers(
         info,
         flags,
@@ -478,7 +484,7 @@ pub extern "C" fn negvask_audit(
 ) -> u32
     ensures { λ r. ⌜ Effects (effectBy audit) info flags keys counts pointers multiplicities windows contents r [] [] ⌝ }
 {
-    let decoding = Decoding::Decoded(Port::Host, Call::Audit);
+    let decoding = parameters::audit_call();
     let mut value = 0;
     adapter::perform_without_buffers(
         info,

@@ -50,9 +50,9 @@ pub alloc-contig-of-kind-13 : allKindsTest Host ≡ true
 unfolding numbersBelow row names kindNumber lengthOf among kindOf kindLength bodyLength sameList
 alloc-contig-of-kind-13 = refl
 
-pub key-write-of-kind-14 : allKindsTest Host ≡ true
+pub key-write-of-kind-15 : allKindsTest Host ≡ true
 unfolding numbersBelow row names kindNumber lengthOf among kindOf kindLength bodyLength sameList
-key-write-of-kind-14 = refl
+key-write-of-kind-15 = refl
 
 pub key-body-of-53 : allKindsTest Host ≡ true
 unfolding numbersBelow row names kindNumber lengthOf among kindOf kindLength bodyLength sameList

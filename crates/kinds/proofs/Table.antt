@@ -34,23 +34,24 @@ abbrev pub Apart : ℕ → List ℕ → Type 0
 Apart k [] = Unit {0}
 Apart k (n ∷ ns) = Apart k ns × (k ≡ n → ⊥)
 
-pub unknown-host : (k : ℕ) → Apart k (13 ∷ 12 ∷ 11 ∷ 10 ∷ 9 ∷ 8 ∷ 7 ∷ 6 ∷ 5 ∷ 4 ∷ 3 ∷ 2 ∷ 1 ∷ []) → Unknown ≡ kindOf Host k
+pub unknown-host : (k : ℕ) → Apart k (14 ∷ 13 ∷ 12 ∷ 11 ∷ 10 ∷ 9 ∷ 8 ∷ 7 ∷ 6 ∷ 5 ∷ 4 ∷ 3 ∷ 2 ∷ 1 ∷ []) → Unknown ≡ kindOf Host k
 unfolding tableRules
 unknown-host k h =
     rw (
-      ne-eqb k 1 (h .0 .0 .0 .0 .0 .0 .0 .0 .0 .0 .0 .0 .1),
-      ne-eqb k 2 (h .0 .0 .0 .0 .0 .0 .0 .0 .0 .0 .0 .1),
-      ne-eqb k 3 (h .0 .0 .0 .0 .0 .0 .0 .0 .0 .0 .1),
-      ne-eqb k 4 (h .0 .0 .0 .0 .0 .0 .0 .0 .0 .1),
-      ne-eqb k 5 (h .0 .0 .0 .0 .0 .0 .0 .0 .1),
-      ne-eqb k 6 (h .0 .0 .0 .0 .0 .0 .0 .1),
-      ne-eqb k 7 (h .0 .0 .0 .0 .0 .0 .1),
-      ne-eqb k 8 (h .0 .0 .0 .0 .0 .1),
-      ne-eqb k 9 (h .0 .0 .0 .0 .1),
-      ne-eqb k 10 (h .0 .0 .0 .1),
-      ne-eqb k 11 (h .0 .0 .1),
-      ne-eqb k 12 (h .0 .1),
-      ne-eqb k 13 (h .1),
+      ne-eqb k 1 (h .0 .0 .0 .0 .0 .0 .0 .0 .0 .0 .0 .0 .0 .1),
+      ne-eqb k 2 (h .0 .0 .0 .0 .0 .0 .0 .0 .0 .0 .0 .0 .1),
+      ne-eqb k 3 (h .0 .0 .0 .0 .0 .0 .0 .0 .0 .0 .0 .1),
+      ne-eqb k 4 (h .0 .0 .0 .0 .0 .0 .0 .0 .0 .0 .1),
+      ne-eqb k 5 (h .0 .0 .0 .0 .0 .0 .0 .0 .0 .1),
+      ne-eqb k 6 (h .0 .0 .0 .0 .0 .0 .0 .0 .1),
+      ne-eqb k 7 (h .0 .0 .0 .0 .0 .0 .0 .1),
+      ne-eqb k 8 (h .0 .0 .0 .0 .0 .0 .1),
+      ne-eqb k 9 (h .0 .0 .0 .0 .0 .1),
+      ne-eqb k 10 (h .0 .0 .0 .0 .1),
+      ne-eqb k 11 (h .0 .0 .0 .1),
+      ne-eqb k 12 (h .0 .0 .1),
+      ne-eqb k 13 (h .0 .1),
+      ne-eqb k 14 (h .1),
     )
 
 -- Below 128 a kind is the same at both ports.
@@ -67,9 +68,10 @@ same-below k l e =
       ne-eqb k 134 (λ (e : k ≡ 134). omega arith),
       ne-eqb k 140 (λ (e : k ≡ 140). omega arith),
       ne-eqb k 141 (λ (e : k ≡ 141). omega arith),
+      ne-eqb k 142 (λ (e : k ≡ 142). omega arith),
     )
 
-pub unknown-service : (k : ℕ) → 128 ≤ k → Apart k (141 ∷ 140 ∷ 134 ∷ 133 ∷ 132 ∷ 131 ∷ 130 ∷ 129 ∷ []) → Unknown ≡ kindOf Service k
+pub unknown-service : (k : ℕ) → 128 ≤ k → Apart k (142 ∷ 141 ∷ 140 ∷ 134 ∷ 133 ∷ 132 ∷ 131 ∷ 130 ∷ 129 ∷ []) → Unknown ≡ kindOf Service k
 unfolding tableRules
 unknown-service k l h =
     rw (
@@ -86,14 +88,16 @@ unknown-service k l h =
       ne-eqb k 11 (λ (e : k ≡ 11). omega arith),
       ne-eqb k 12 (λ (e : k ≡ 12). omega arith),
       ne-eqb k 13 (λ (e : k ≡ 13). omega arith),
-      ne-eqb k 129 (h .0 .0 .0 .0 .0 .0 .0 .1),
-      ne-eqb k 130 (h .0 .0 .0 .0 .0 .0 .1),
-      ne-eqb k 131 (h .0 .0 .0 .0 .0 .1),
-      ne-eqb k 132 (h .0 .0 .0 .0 .1),
-      ne-eqb k 133 (h .0 .0 .0 .1),
-      ne-eqb k 134 (h .0 .0 .1),
-      ne-eqb k 140 (h .0 .1),
-      ne-eqb k 141 (h .1),
+      ne-eqb k 14 (λ (e : k ≡ 14). omega arith),
+      ne-eqb k 129 (h .0 .0 .0 .0 .0 .0 .0 .0 .1),
+      ne-eqb k 130 (h .0 .0 .0 .0 .0 .0 .0 .1),
+      ne-eqb k 131 (h .0 .0 .0 .0 .0 .0 .1),
+      ne-eqb k 132 (h .0 .0 .0 .0 .0 .1),
+      ne-eqb k 133 (h .0 .0 .0 .0 .1),
+      ne-eqb k 134 (h .0 .0 .0 .1),
+      ne-eqb k 140 (h .0 .0 .1),
+      ne-eqb k 141 (h .0 .1),
+      ne-eqb k 142 (h .1),
     )
 
 -- ---- the length of a kind's body
@@ -120,7 +124,7 @@ behind-most call e =
       part-most (leb call 2) 4 refl,
       part-most (eqb call 3 || eqb call 12) 3 refl,
       part-most (eqb call 4) 19 refl,
-      part-most (eqb call 5) 2 refl,
+      part-most (eqb call 5 || eqb call 14) 2 refl,
       part-most (eqb call 6 || eqb call 13) 17 refl,
     )
 

@@ -1,4 +1,4 @@
--- The length of the body, or none, for all 256 kinds at each port, as document 01, 2026-01 and 2026-02 give it: one table, which the lengths of
+-- The length of the body, or none, for all 256 kinds at each port, as document 01, 2026-01, 2026-02 and 2026-07 give it: one table, which the lengths of
 -- the rules and those that are worked out from the kind both equal, by proofs that are computed.
 use Prim.Native.Nat.{ℕ}
 use mathlib.Core.Path.{_≡_, refl}
@@ -21,14 +21,14 @@ expectedAbove Host = replicate 128 Unknown
 expectedAbove Service =
     Unknown
     ∷ (map Bytes (23 ∷ 535 ∷ 22 ∷ 38 ∷ 21 ∷ 36 ∷ [])
-    ++ (replicate 5 Unknown ++ (Bytes 22 ∷ Bytes 36 ∷ replicate 114 Unknown)))
+    ++ (replicate 5 Unknown ++ (Bytes 22 ∷ Bytes 36 ∷ Bytes 21 ∷ replicate 113 Unknown)))
 
 -- And for each kind from 0 on.
 abbrev pub expected : Port → List Length
 expected wire =
     Unknown
-    ∷ (map Bytes (23 ∷ 535 ∷ 22 ∷ 38 ∷ 21 ∷ 36 ∷ 23 ∷ 2 ∷ 0 ∷ 8 ∷ 0 ∷ 22 ∷ 36 ∷ [])
-    ++ (replicate 114 Unknown ++ expectedAbove wire))
+    ∷ (map Bytes (23 ∷ 535 ∷ 22 ∷ 38 ∷ 21 ∷ 36 ∷ 23 ∷ 2 ∷ 0 ∷ 8 ∷ 0 ∷ 22 ∷ 36 ∷ 21 ∷ [])
+    ++ (replicate 113 Unknown ++ expectedAbove wire))
 
 pub all-kinds : (wire : Port) → map (bodyLength wire) (numbersBelow (λ kind. true) 256) ≡ expected wire
 unfolding numbersBelow row names kindNumber lengthOf among kindOf kindLength bodyLength

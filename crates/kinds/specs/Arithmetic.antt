@@ -45,7 +45,7 @@ dataSize = 512
 unfoldable pub numberOf : ℕ → ℕ
 numberOf kind = cond (ltb kind 128) kind (kind - 128)
 
--- READ to KEY_READ, ALLOC_CONTIG and KEY_WRITE have one, for the block that they name first.
+-- READ to KEY_READ, ALLOC_CONTIG, KEY_WRITE and DELETE_TREE have one, for the block that they name first.
 unfoldable pub hasCredential : ℕ → Bool
 hasCredential call = leb call 6 || leb 12 call
 
@@ -53,13 +53,13 @@ hasCredential call = leb call 6 || leb 12 call
 unfoldable pub partOf : Bool → ℕ → ℕ
 partOf has size = cond has size 0
 
--- What follows the credential: of READ and WRITE, ALLOC and ALLOC_CONTIG, CREATE, DELETE, KEY_READ and KEY_WRITE.
+-- What follows the credential: of READ and WRITE, ALLOC and ALLOC_CONTIG, CREATE, DELETE and DELETE_TREE, KEY_READ and KEY_WRITE.
 unfoldable pub behindCredential : ℕ → ℕ
 behindCredential call =
     partOf (leb call 2) intervalSize
     + partOf (eqb call 3 || eqb call 12) (blockSize + countSize)
     + partOf (eqb call 4) (blockSize + credentialSize)
-    + partOf (eqb call 5) blockSize
+    + partOf (eqb call 5 || eqb call 14) blockSize
     + partOf (eqb call 6 || eqb call 13) newKeySize
 
 -- The operands of RENEW, of FORCE and of TICK.

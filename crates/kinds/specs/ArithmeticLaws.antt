@@ -10,7 +10,7 @@ use Rattle.kinds.specs.declared.Kind.{Kind}
 use Rattle.kinds.specs.declared.Kind.the-variants.{Known}
 use Rattle.kinds.specs.declared.Lengths.{Lengths}
 use Rattle.kinds.specs.declared.Name.{Name}
-use Rattle.kinds.specs.declared.Name.the-variants.{Read as READ, Write as WRITE, Alloc as ALLOC, Create as CREATE, Delete as DELETE, KeyRead as KEY-READ, Renew as RENEW, Force as FORCE, Free as FREE, Tick as TICK, Audit as AUDIT, AllocContig as ALLOC-CONTIG, KeyWrite as KEY-WRITE}
+use Rattle.kinds.specs.declared.Name.the-variants.{Read as READ, Write as WRITE, Alloc as ALLOC, Create as CREATE, Delete as DELETE, KeyRead as KEY-READ, Renew as RENEW, Force as FORCE, Free as FREE, Tick as TICK, Audit as AUDIT, AllocContig as ALLOC-CONTIG, KeyWrite as KEY-WRITE, DeleteTree as DELETE-TREE}
 
 number-lengths : (port : Port) (name : Name) → lengthsAt (kindNumber port name) ≡ lengthsOf name
 unfolding row kindNumber lengthOf dataLength operandsLength lengthsOf numberOf hasCredential partOf behindCredential withoutCredential operandsAt lengthsNumbered lengthsAt
@@ -27,6 +27,7 @@ number-lengths Host TICK = refl
 number-lengths Host AUDIT = refl
 number-lengths Host ALLOC-CONTIG = refl
 number-lengths Host KEY-WRITE = refl
+number-lengths Host DELETE-TREE = refl
 number-lengths Service READ = refl
 number-lengths Service WRITE = refl
 number-lengths Service ALLOC = refl
@@ -40,6 +41,7 @@ number-lengths Service TICK = refl
 number-lengths Service AUDIT = refl
 number-lengths Service ALLOC-CONTIG = refl
 number-lengths Service KEY-WRITE = refl
+number-lengths Service DELETE-TREE = refl
 
 pub kind-lengths : (wire : Port) (kind : ℕ) {known : Kind} {port : Port} {name : Name} {l : Lengths}
     → known ≡ kindOf wire kind → known ≡ Known port name → l ≡ lengthsAt kind

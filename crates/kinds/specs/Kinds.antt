@@ -1,4 +1,4 @@
--- Document 01, "Call records and the player", 2026-01 and 2026-02: the kinds of records, and the lengths of their bodies.
+-- Document 01, "Call records and the player", 2026-01, 2026-02 and 2026-07: the kinds of records, and the lengths of their bodies.
 use Prim.Native.Nat.{ℕ, _+_, _-_}
 use mathlib.Core.Bool.{Bool, true, false, cond}
 use mathlib.Core.List.{List, [], _∷_, map}
@@ -7,7 +7,7 @@ use Rattle.card.specs.Pointers.{contains}
 use Rattle.card.specs.declared.Port.{Port}
 use Rattle.card.specs.declared.Port.the-variants.{Host, Service}
 use Rattle.kinds.specs.declared.Name.{Name}
-use Rattle.kinds.specs.declared.Name.the-variants.{Read as READ, Write as WRITE, Alloc as ALLOC, Create as CREATE, Delete as DELETE, KeyRead as KEY-READ, Renew as RENEW, Force as FORCE, Free as FREE, Tick as TICK, Audit as AUDIT, AllocContig as ALLOC-CONTIG, KeyWrite as KEY-WRITE}
+use Rattle.kinds.specs.declared.Name.the-variants.{Read as READ, Write as WRITE, Alloc as ALLOC, Create as CREATE, Delete as DELETE, KeyRead as KEY-READ, Renew as RENEW, Force as FORCE, Free as FREE, Tick as TICK, Audit as AUDIT, AllocContig as ALLOC-CONTIG, KeyWrite as KEY-WRITE, DeleteTree as DELETE-TREE}
 use Rattle.kinds.specs.declared.Kind.{Kind}
 use Rattle.kinds.specs.declared.Kind.the-variants.{Known, Unknown}
 use Rattle.kinds.specs.declared.Lengths.{Lengths}
@@ -34,14 +34,15 @@ row TICK = 10 body 8 payload 0
 row AUDIT = 11 body 0 payload 0
 row ALLOC-CONTIG = 12 body 22 payload 0
 row KEY-WRITE = 13 body 36 payload 0
+row DELETE-TREE = 14 body 21 payload 0
 
 -- The calls that have a kind at each port.
 unfoldable pub names : Port → List Name
-names Host = READ ∷ WRITE ∷ ALLOC ∷ CREATE ∷ DELETE ∷ KEY-READ ∷ RENEW ∷ FORCE ∷ FREE ∷ TICK ∷ AUDIT ∷ ALLOC-CONTIG ∷ KEY-WRITE ∷ []
-names Service = READ ∷ WRITE ∷ ALLOC ∷ CREATE ∷ DELETE ∷ KEY-READ ∷ ALLOC-CONTIG ∷ KEY-WRITE ∷ []
+names Host = READ ∷ WRITE ∷ ALLOC ∷ CREATE ∷ DELETE ∷ KEY-READ ∷ RENEW ∷ FORCE ∷ FREE ∷ TICK ∷ AUDIT ∷ ALLOC-CONTIG ∷ KEY-WRITE ∷ DELETE-TREE ∷ []
+names Service = READ ∷ WRITE ∷ ALLOC ∷ CREATE ∷ DELETE ∷ KEY-READ ∷ ALLOC-CONTIG ∷ KEY-WRITE ∷ DELETE-TREE ∷ []
 
 -- Document 01, "Kinds 129 to 134 are 1 to 6 at the service port."; 2026-01, "host kind 12 and service kind 140";
--- 2026-02, "Kinds 6 and 134 become KEY_READ, 13 and 141 KEY_WRITE, with a body of 36".
+-- 2026-02, "Kinds 6 and 134 become KEY_READ, 13 and 141 KEY_WRITE, with a body of 36"; 2026-07, "Kinds 14 and 142, body 21".
 abbrev pub kindAt : Port → Row → ℕ
 kindAt Host (kind body length payload extra) = kind
 kindAt Service (kind body length payload extra) = 128 + kind

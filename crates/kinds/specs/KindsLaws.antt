@@ -12,7 +12,7 @@ use Rattle.kinds.specs.Kinds.{row, names, kindNumber, lengthOf, dataLeng
 use Rattle.kinds.specs.declared.Kind.{Kind}
 use Rattle.kinds.specs.declared.Kind.the-variants.{Known, Unknown}
 use Rattle.kinds.specs.declared.Name.{Name}
-use Rattle.kinds.specs.declared.Name.the-variants.{Read as READ, Write as WRITE, Alloc as ALLOC, Create as CREATE, Delete as DELETE, KeyRead as KEY-READ, Renew as RENEW, Force as FORCE, Free as FREE, Tick as TICK, Audit as AUDIT, AllocContig as ALLOC-CONTIG, KeyWrite as KEY-WRITE}
+use Rattle.kinds.specs.declared.Name.the-variants.{Read as READ, Write as WRITE, Alloc as ALLOC, Create as CREATE, Delete as DELETE, KeyRead as KEY-READ, Renew as RENEW, Force as FORCE, Free as FREE, Tick as TICK, Audit as AUDIT, AllocContig as ALLOC-CONTIG, KeyWrite as KEY-WRITE, DeleteTree as DELETE-TREE}
 
 -- ---- the call of a kind
 
@@ -63,6 +63,7 @@ data-most TICK = omega arith
 data-most AUDIT = omega arith
 data-most ALLOC-CONTIG = omega arith
 data-most KEY-WRITE = omega arith
+data-most DELETE-TREE = omega arith
 
 pub data-right : (name : Name) → dataLength name ≡ lengthOf name - operandsLength name
 unfolding operandsLength

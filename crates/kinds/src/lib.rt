@@ -48,6 +48,7 @@ pub enum Name {
     Audit,
     AllocContig,
     KeyWrite,
+    DeleteTree,
 }
 
 // What the byte of kind says.
@@ -88,6 +89,7 @@ fn host_kind_of(kind: u8) -> Kind
         11 => Kind::Known(Port::Host, Name::Audit),
         12 => Kind::Known(Port::Host, Name::AllocContig),
         13 => Kind::Known(Port::Host, Name::KeyWrite),
+        14 => Kind::Known(Port::Host, Name::DeleteTree),
         _ => Kind::Unknown,
     }
 }
@@ -106,6 +108,7 @@ fn service_kind_of(kind: u8) -> Kind
         134 => Kind::Known(Port::Service, Name::KeyRead),
         140 => Kind::Known(Port::Service, Name::AllocContig),
         141 => Kind::Known(Port::Service, Name::KeyWrite),
+        142 => Kind::Known(Port::Service, Name::DeleteTree),
         _ => Kind::Unknown,
     }
 }
@@ -138,7 +141,7 @@ fn number_of(kind: u8) -> u8
     if kind < 128 { kind } else { kind - 128 }
 }
 
-// READ to KEY_READ, ALLOC_CONTIG and KEY_WRITE have one, for the block that they name first.
+// READ to KEY_READ, ALLOC_CONTIG, KEY_WRITE and DELETE_TREE have one, for the block that they name first.
 fn has_credential(call: u8) -> bool
     ensures { λ r. ⌜ r ≡ hasCredential call ⌝ }
 {
@@ -152,14 +155,14 @@ fn part_of(has: bool, size: usize) -> usize
     if has { size } else { 0 }
 }
 
-// What follows the credential: of READ and WRITE, ALLOC and ALLOC_CONTIG, CREATE, DELETE, KEY_READ and KEY_WRITE.
+// What follows the credential: of READ and WRITE, ALLOC and ALLOC_CONTIG, CREATE, DELETE and DELETE_TREE, KEY_READ and KEY_WRITE.
 fn behind_credential(call: u8) -> usize
     ensures { λ r. ⌜ r ≡ behindCredential call ⌝ }
 {
     part_of(call <= 2, INTERVAL)
         + part_of((call == 3) | (call == 12), BLOCK + COUNT)
         + part_of(call == 4, BLOCK + CREDENTIAL)
-        + part_of(call == 5, BLOCK)
+        + part_of((call == 5) | (call == 14), BLOCK)
         + part_of((call == 6) | (call == 13), NEW_KEY)
 }
 

@@ -6,7 +6,7 @@ use lib.ListN.{length, take}
 use Rattle.card.specs.Session.{Reply, traits, shownValues}
 use Rattle.card.specs.declared.Answer.{Answer}
 use Rattle.card.specs.declared.Call.{Call}
-use Rattle.card.specs.declared.Call.the-variants.{Read, Write, Alloc, AllocContig, Create, Delete, KeyRead, KeyWrite, Renew, Force, Free, Tick, Audit}
+use Rattle.card.specs.declared.Call.the-variants.{Read, Write, Alloc, AllocContig, Create, Delete, DeleteTree, KeyRead, KeyWrite, Renew, Force, Free, Tick, Audit}
 use Rattle.lines.specs.declared.Filled.{Filled}
 use Rattle.lines.specs.declared.Filled.the-variants.{Neither, Bytes, Blocks}
 
@@ -26,6 +26,7 @@ filledBy (Alloc o) = Blocks (o .count)
 filledBy (AllocContig o) = Blocks (o .count)
 filledBy (Create o) = Neither
 filledBy (Delete o) = Neither
+filledBy (DeleteTree o) = Neither
 filledBy (KeyRead o) = Neither
 filledBy (KeyWrite o) = Neither
 filledBy (Renew o) = Neither
@@ -47,6 +48,7 @@ values-filled (Alloc o) r = refl
 values-filled (AllocContig o) r = refl
 values-filled (Create o) r = refl
 values-filled (Delete o) r = refl
+values-filled (DeleteTree o) r = refl
 values-filled (KeyRead o) r = refl
 values-filled (KeyWrite o) r = refl
 values-filled (Renew o) r = refl

@@ -117,6 +117,7 @@ pub fn refusal_number(r: Refusal) -> u64
         Refusal::TimeEnds => 12,
         Refusal::BadRecord => 13,
         Refusal::NoRun => 14,
+        Refusal::HasWriteKey => 15,
     }
 }
 

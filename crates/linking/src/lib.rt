@@ -14,10 +14,12 @@ ghost use mathlib.Core.List.{[]};
 ghost use Rattle.card.specs.Lent.{Performs, lent, atEntry};
 ghost use Rattle.card.specs.Card.{card, multiplicity};
 ghost use Rattle.card.specs.SoundCard.{SoundCard};
+ghost use Rattle.card.specs.Plan.{first};
 ghost use Rattle.card.specs.Session.{request, performSound};
 ghost use Rattle.card.specs.declared.Call.the-variants.{Create, Delete};
-ghost use Rattle.checks.specs.Checked.{checked};
+ghost use Rattle.checks.specs.Checked.{byRefusal, checked};
 ghost use Rattle.tables.specs.InUse.{Sorted, Paired};
+ghost use Rattle.linking.specs.Removal.{removal};
 
 // How often the source points to the destination.
 fn multiplicity(
@@ -144,8 +146,8 @@ pub fn create_sound(
 
 // ---- DELETE
 
-// The checks of DELETE.
-fn delete_check(
+// The checks that DELETE and DELETE_TREE have in common.
+pub fn removal_check(
     info: Info,
     flags: &[u8],
     keys: &[u64],
@@ -158,7 +160,7 @@ fn delete_check(
     o: DeleteOperands,
 ) -> Checked
     requires { ⌜ SoundCard (lent info flags keys counts pointers multiplicities windows contents) ⌝ }
-    ensures { λ r. ⌜ r ≡ checked port (atEntry info flags keys counts pointers multiplicities windows contents) (request (Delete o) [] [] []) ⌝ }
+    ensures { λ r. ⌜ r ≡ byRefusal (first (removal port (atEntry info flags keys counts pointers multiplicities windows contents) o)) ⌝ }
 {
     let credential = o.credential;
     let from = o.source as usize;
@@ -188,13 +190,48 @@ fn delete_check(
     if multiplicity(info, pointers, multiplicities, o.source, o.destination) == 0 {
         return Checked::Refused(Refusal::NoPointer);
     }
-    if counts[to] != 1 {
-        return Checked::Passed;
-    }
-    if tables::points_from(pointers, info.used, o.destination) {
-        return Checked::Refused(Refusal::HasPointers);
-    }
     Checked::Passed
+}
+
+// The checks of DELETE.
+fn delete_check(
+    info: Info,
+    flags: &[u8],
+    keys: &[u64],
+    counts: &[u32],
+    pointers: &[u32],
+    multiplicities: &[u16],
+    windows: &[u64],
+    contents: &[u8],
+    port: Port,
+    o: DeleteOperands,
+) -> Checked
+    requires { ⌜ SoundCard (lent info flags keys counts pointers multiplicities windows contents) ⌝ }
+    ensures { λ r. ⌜ r ≡ checked port (atEntry info flags keys counts pointers multiplicities windows contents) (request (Delete o) [] [] []) ⌝ }
+{
+    match removal_check(
+        info,
+        flags,
+        keys,
+        counts,
+        pointers,
+        multiplicities,
+        windows,
+        contents,
+        port,
+        o,
+    ) {
+        Checked::Refused(why) => Checked::Refused(why),
+        Checked::Passed => {
+            if counts[o.destination as usize] != 1 {
+                return Checked::Passed;
+            }
+            if tables::points_from(pointers, info.used, o.destination) {
+                return Checked::Refused(Refusal::HasPointers);
+            }
+            Checked::Passed
+        }
+    }
 }
 
 // DELETE on a card that has been audited.

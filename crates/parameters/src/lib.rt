@@ -1,13 +1,21 @@
 // What C passes: the card's record as lent numbers, a port as a number, credentials and new keys as the bytes that records have.
+use card::Call;
+use card::ForceOperands;
 use card::Info;
+use card::Mode;
 use card::Port;
+use card::TickOperands;
 use fields::ParsedCredential;
 use fields::ParsedKey;
 use records::Decoding;
 use records::Parsed;
 ghost use mathlib.Core.Path.{_≡_};
 ghost use lib.ListN.{length};
+ghost use Rattle.card.specs.declared.Port.the-variants.{Host};
+ghost use Rattle.card.specs.declared.Call.the-variants.{Force, Tick, Free, Audit};
+ghost use Rattle.records.specs.Decode.{readWith, writeWith, allocWith, allocContigWith, createWith, deleteWith, deleteTreeWith, keyWith, renewWith};
 ghost use Rattle.records.specs.Parsed.{ParsedIs};
+ghost use Rattle.records.specs.declared.Decoding.the-variants.{Decoded};
 ghost use Rattle.parameters.specs.Numbers.{recordLength, recordOf, numbersOf, credentialOf, newKeyOf, wireOf, atPort, decodeAt};
 
 // How many numbers the record has: N, R, B, M and T.
@@ -100,4 +108,110 @@ pub fn decode_at(port: u8, kind: u8, body: &[u8]) -> Parsed
         return records::bad();
     };
     records::decode(wire, kind, body)
+}
+
+// ---- the calls of what C passes
+
+pub fn read_at(port: u8, block: u16, credential: &[u8], interval: u32) -> Decoding
+    ensures { λ r. ⌜ r ≡ atPort port (readWith Host block (credentialOf (now (credential .entry))) interval) ⌝ }
+{
+    let parsed = credential_of(credential);
+    let made = records::read_with(Port::Host, block, parsed, interval);
+    at_port(port, made)
+}
+
+pub fn write_at(port: u8, block: u16, credential: &[u8], interval: u32) -> Decoding
+    ensures { λ r. ⌜ r ≡ atPort port (writeWith Host block (credentialOf (now (credential .entry))) interval) ⌝ }
+{
+    let parsed = credential_of(credential);
+    let made = records::write_with(Port::Host, block, parsed, interval);
+    at_port(port, made)
+}
+
+pub fn alloc_at(port: u8, block: u16, credential: &[u8], hint: u16, count: u8) -> Decoding
+    ensures { λ r. ⌜ r ≡ atPort port (allocWith Host block (credentialOf (now (credential .entry))) hint count) ⌝ }
+{
+    let parsed = credential_of(credential);
+    let made = records::alloc_with(Port::Host, block, parsed, hint, count);
+    at_port(port, made)
+}
+
+pub fn alloc_contig_at(port: u8, block: u16, credential: &[u8], hint: u16, count: u8) -> Decoding
+    ensures { λ r. ⌜ r ≡ atPort port (allocContigWith Host block (credentialOf (now (credential .entry))) hint count) ⌝ }
+{
+    let parsed = credential_of(credential);
+    let made = records::alloc_contig_with(Port::Host, block, parsed, hint, count);
+    at_port(port, made)
+}
+
+pub fn create_at(
+    port: u8,
+    source: u16,
+    credential: &[u8],
+    destination: u16,
+    second: &[u8],
+) -> Decoding
+    ensures { λ r. ⌜ r ≡ atPort port (createWith Host source (credentialOf (now (credential .entry))) destination (credentialOf (now (second .entry)))) ⌝ }
+{
+    let first = credential_of(credential);
+    let other = credential_of(second);
+    let made = records::create_with(Port::Host, source, first, destination, other);
+    at_port(port, made)
+}
+
+pub fn delete_at(port: u8, source: u16, credential: &[u8], destination: u16) -> Decoding
+    ensures { λ r. ⌜ r ≡ atPort port (deleteWith Host source (credentialOf (now (credential .entry))) destination) ⌝ }
+{
+    let parsed = credential_of(credential);
+    let made = records::delete_with(Port::Host, source, parsed, destination);
+    at_port(port, made)
+}
+
+pub fn delete_tree_at(port: u8, source: u16, credential: &[u8], destination: u16) -> Decoding
+    ensures { λ r. ⌜ r ≡ atPort port (deleteTreeWith Host source (credentialOf (now (credential .entry))) destination) ⌝ }
+{
+    let parsed = credential_of(credential);
+    let made = records::delete_tree_with(Port::Host, source, parsed, destination);
+    at_port(port, made)
+}
+
+// KEY_READ or KEY_WRITE, by the mode whose key it sets.
+pub fn key_at(mode: Mode, port: u8, block: u16, credential: &[u8], key: &[u8]) -> Decoding
+    ensures { λ r. ⌜ r ≡ atPort port (keyWith Host mode block (credentialOf (now (credential .entry))) (newKeyOf (now (key .entry)))) ⌝ }
+{
+    let parsed = credential_of(credential);
+    let new = new_key_of(key);
+    let made = records::key_with(Port::Host, mode, block, parsed, new);
+    at_port(port, made)
+}
+
+pub fn renew_call(mode: u8, block: u16, key: &[u8], interval: u32) -> Decoding
+    ensures { λ r. ⌜ r ≡ renewWith Host mode block (credentialOf (now (key .entry))) interval ⌝ }
+{
+    let parsed = credential_of(key);
+    records::renew_with(Port::Host, mode, block, parsed, interval)
+}
+
+pub fn force_call(block: u16) -> Decoding
+    ensures { λ r. ⌜ r ≡ Decoded Host (Force (record { block = block })) ⌝ }
+{
+    Decoding::Decoded(Port::Host, Call::Force(ForceOperands { block }))
+}
+
+pub fn tick_call(seconds: u64) -> Decoding
+    ensures { λ r. ⌜ r ≡ Decoded Host (Tick (record { seconds = seconds })) ⌝ }
+{
+    Decoding::Decoded(Port::Host, Call::Tick(TickOperands { seconds }))
+}
+
+pub fn free_call() -> Decoding
+    ensures { λ r. ⌜ r ≡ Decoded Host Free ⌝ }
+{
+    Decoding::Decoded(Port::Host, Call::Free)
+}
+
+pub fn audit_call() -> Decoding
+    ensures { λ r. ⌜ r ≡ Decoded Host Audit ⌝ }
+{
+    Decoding::Decoded(Port::Host, Call::Audit)
 }

@@ -15,7 +15,8 @@ use Rattle.card.specs.declared.Answer.the-variants.{Refused, Value}
 use Rattle.card.specs.declared.Refusal.the-variants.{BadOperand}
 use Rattle.report.specs.Report.{given, badKeys, withinReach, listing, reachPlan, lentPlaces}
 use Rattle.report.specs.ReportLaws.{listing-done}
-use Rattle.reach.specs.Within.{markedBelow, Within}
+use Rattle.walks.specs.Walk.{markedBelow}
+use Rattle.reach.specs.Within.{Within}
 
 module _ (words places : List ℕ) (c : Card) where
   -- The report's answer, and its places at exit.

@@ -1,8 +1,8 @@
--- The marked blocks put into the first places, one after the other; and how many they are.
+-- The marked blocks put into the first places, one after the other.
 use Prim.Native.Nat.{ℕ, zero, suc, _+_, _≤_, _<_}
 use mathlib.Core.Path.{_≡_, refl, sym, ap, _∙_}
 use mathlib.Core.Logic.{_⊎_, ⊎-elim}
-use mathlib.Core.Bool.{Bool, false}
+use mathlib.Core.Bool.{Bool}
 use mathlib.Core.List.{List, [], _∷_, _++_, append-nil}
 use native.Mathlib.Nat.{le-of-suc-le-suc, not-suc-le-zero}
 use native.Mathlib.Numerals.{add-one}
@@ -13,9 +13,8 @@ use borrow.Author.Tests.{eq-eqb, ne-eqb}
 use Rattle.card.specs.ListsLaws.{below-or-not}
 use Rattle.card.specs.Lists.{numbersBelow}
 use Rattle.card.specs.Contents.{overwrite}
-use Rattle.report.specs.NumbersLaws.{one, numbers-more, numbers-most}
-use Rattle.walks.specs.Walk.{mark, marked}
-use Rattle.reach.specs.Within.{markedBelow}
+use Rattle.card.specs.NumbersLaws.{numbers-more, numbers-most}
+use Rattle.walks.specs.Walk.{mark, markedBelow}
 
 -- ---- places
 
@@ -104,31 +103,3 @@ listed-whole {marks} {places₀} {n = n} {b = b} h l =
     h .whole
     ∙ ap (λ (k : ℕ). markedBelow marks k ++ drop (length (markedBelow marks k)) places₀) e
     ∙ ap (λ (k : ℕ). markedBelow marks n ++ drop k places₀) all
-
--- ---- how many are marked
-
-numbers-front : (q : ℕ → Bool) (m : ℕ) → length (numbersBelow q (suc m)) ≡ one (q 0) + length (numbersBelow (λ b. q (suc b)) m)
-unfolding numbersBelow
-numbers-front q zero = omega (arith, numbers-more q 0)
-numbers-front q (suc m) = omega (arith, numbers-more q (suc m), numbers-front q m, numbers-more (λ b. q (suc b)) m)
-
-marked-length : (marks : List ℕ) → marked marks ≡ length (markedBelow marks (length marks))
-unfolding marked numbersBelow
-marked-length [] = refl
-marked-length (x ∷ xs) = omega (arith, marked-length xs, numbers-front (λ b. eqb (mark (x ∷ xs) b) 1) (length xs))
-
-numbers-beyond : (q : ℕ → Bool) (m n : ℕ) → m ≤ n → ((b : ℕ) → m ≤ b → b < n → q b ≡ false) → numbersBelow q n ≡ numbersBelow q m
-unfolding numbersBelow
-numbers-beyond q m zero l f = let e : m ≡ 0 = omega arith in rw e
-numbers-beyond q m (suc n) l f =
-    ⊎-elim
-    (λ (k : m < suc n). rw (f n (omega arith) (omega arith)) (append-nil _ ∙ numbers-beyond q m n (omega arith) (λ b i j. f b i (omega arith))))
-    (λ (k : suc n ≤ m). let e : m ≡ suc n = omega arith in rw e)
-    (below-or-not m (suc n))
-
--- With no mark from n on, as many blocks are marked as stand below n.
-pub marked-below : (marks : List ℕ) (n : ℕ) → n ≤ length marks → ((b : ℕ) → mark marks b ≡ 1 → b < n) → marked marks ≡ length (markedBelow marks n)
-marked-below marks n l f =
-    marked-length marks
-    ∙ ap length
-    (numbers-beyond (λ b. eqb (mark marks b) 1) n (length marks) l (λ b i j. ne-eqb (mark marks b) 1 (λ e. omega (arith, f b e))))

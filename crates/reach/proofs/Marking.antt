@@ -16,11 +16,11 @@ use Rattle.card.specs.Reach.{keyPresented, sealed}
 use Rattle.card.specs.declared.Info.{Info}
 use Rattle.report.specs.Report.{given, rootUnsealed, someKey, someWindow, withinByItself, withinReach}
 use Rattle.report.specs.ReportLaws.{within-itself, within-step, within-in, within-own}
-use Rattle.walks.specs.Walk.{Edge, mark, Walking, Led, begins, leads, Spread}
+use Rattle.walks.specs.Walk.{Edge, mark, markedBelow, Walking, Led, begins, leads, Spread}
+use Rattle.walks.specs.WalkLaws.{marked-below}
 use Rattle.walks.specs.declared.Direction.the-variants.{Along}
-use Rattle.reach.specs.Within.{markedBelow, Begun, Within}
+use Rattle.reach.specs.Within.{Begun, Within}
 use Rattle.reach.specs.WithinLaws.{Opens, along-opens, opens-along}
-use Rattle.reach.proofs.Listing.{marked-below}
 
 -- With nothing settled yet, a walk may go along any edges.
 pub walking-start : {edge : ℕ → ℕ → Type 0} {marks queue : List ℕ} {tail : ℕ} → Walking (λ a b. ⊥) marks queue 0 tail → Walking edge marks queue 0 tail

@@ -3,19 +3,13 @@ use Prim.Native.Nat.{ℕ, _*_, _≤_, _<_}
 use mathlib.Core.Path.{_≡_}
 use mathlib.Core.Bool.{true, false, cond}
 use mathlib.Core.List.{List}
-use lib.Dec.{eqb}
 use lib.ListN.{length, getD, replicate}
-use Rattle.card.specs.Lists.{numbersBelow}
 use Rattle.card.specs.Card.{Card}
 use Rattle.card.specs.Reach.{sealed}
 use Rattle.card.specs.declared.Info.{Info}
 use Rattle.report.specs.Report.{given, withinByItself, withinReach}
-use Rattle.walks.specs.Walk.{mark, Walking}
+use Rattle.walks.specs.Walk.{mark, markedBelow, Walking}
 use Rattle.reach.specs.declared.Standing.{Standing}
-
--- The marked blocks below n, ascending.
-abbrev pub markedBelow : List ℕ → ℕ → List ℕ
-markedBelow marks n = numbersBelow (λ b. eqb (mark marks b) 1) n
 
 -- The tables that are looked at have the card's lengths.
 pub record Sized (info : Info) (flags keys windows : List ℕ) : Type 0 where

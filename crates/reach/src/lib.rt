@@ -16,7 +16,8 @@ ghost use Rattle.card.specs.SoundCard.{SoundCard};
 ghost use Rattle.card.specs.Reach.{keyPresented};
 ghost use Rattle.report.specs.Report.{given, badKeys, reachReport};
 ghost use Rattle.report.specs.Contracts.{reachSound, Reports};
-ghost use Rattle.reach.specs.Within.{markedBelow, StandingOf, Sized, Begun, Within, Fresh};
+ghost use Rattle.walks.specs.Walk.{markedBelow};
+ghost use Rattle.reach.specs.Within.{StandingOf, Sized, Begun, Within, Fresh};
 
 // How many words 64 keys have.
 const MOST_WORDS: usize = 128;

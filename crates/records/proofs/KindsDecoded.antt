@@ -12,7 +12,7 @@ use Rattle.kinds.specs.Kinds.{row, lengthOf, kindOf, kindLength, bodyLength}
 use Rattle.kinds.specs.AllKinds.{expected}
 use Rattle.kinds.specs.AllKindsLaws.{expected-at}
 use Rattle.kinds.specs.declared.Name.{Name}
-use Rattle.kinds.specs.declared.Name.the-variants.{Read as READ, Write as WRITE, Alloc as ALLOC, Create as CREATE, Delete as DELETE, KeyRead as KEY-READ, Renew as RENEW, Force as FORCE, Free as FREE, Tick as TICK, Audit as AUDIT, AllocContig as ALLOC-CONTIG, KeyWrite as KEY-WRITE}
+use Rattle.kinds.specs.declared.Name.the-variants.{Read as READ, Write as WRITE, Alloc as ALLOC, Create as CREATE, Delete as DELETE, KeyRead as KEY-READ, Renew as RENEW, Force as FORCE, Free as FREE, Tick as TICK, Audit as AUDIT, AllocContig as ALLOC-CONTIG, KeyWrite as KEY-WRITE, DeleteTree as DELETE-TREE}
 use Rattle.kinds.specs.declared.Kind.{Kind}
 use Rattle.kinds.specs.declared.Kind.the-variants.{Known, Unknown as UnknownKind}
 use Rattle.kinds.specs.declared.Length.{Length}
@@ -82,6 +82,7 @@ zeros-call port TICK = refl
 zeros-call port AUDIT = refl
 zeros-call port ALLOC-CONTIG = refl
 zeros-call port KEY-WRITE = refl
+zeros-call port DELETE-TREE = refl
 
 zeros-kind : (k : Kind) (n : ℕ) → kindLength k ≡ Bytes n → isCall (zerosOf k n) ≡ true
 unfolding kindLength

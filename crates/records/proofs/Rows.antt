@@ -65,7 +65,7 @@ kinds-decoded-tested wire kind h xs = decoded-tested (getD (expected wire) kind 
 
 -- ---- rows
 
-pub unknown-kind-taken-for-audit : kindsDecodedTest Host 14 [] ≡ true
+pub unknown-kind-taken-for-audit : kindsDecodedTest Host 15 [] ≡ true
 unfolding row names kindNumber lengthOf dataLength operandsLength among kindOf decodeCall decodeKnown decodeBody nameOf dataOf nextOf decode sameList
 unknown-kind-taken-for-audit = refl
 

@@ -12,13 +12,14 @@ use Rattle.card.specs.declared.Mode.the-variants.{Reading, Writing}
 use Rattle.card.specs.declared.Credential.{Credential}
 use Rattle.card.specs.declared.Credential.the-variants.{Nothing, Reference, Key as KeyCredential}
 use Rattle.card.specs.declared.AllocOperands.{AllocOperands}
+use Rattle.card.specs.declared.DeleteOperands.{DeleteOperands}
 use Rattle.card.specs.declared.Call.{Call}
-use Rattle.card.specs.declared.Call.the-variants.{Read, Write, Alloc, AllocContig, Create, Delete, KeyRead, KeyWrite, Renew, Force, Free, Tick, Audit}
+use Rattle.card.specs.declared.Call.the-variants.{Read, Write, Alloc, AllocContig, Create, Delete, DeleteTree, KeyRead, KeyWrite, Renew, Force, Free, Tick, Audit}
 use Rattle.fields.specs.Bytes.{number}
 use Rattle.fields.specs.Fields.{credential, newKey}
 use Rattle.kinds.specs.Kinds.{lengthOf, dataLength, operandsLength, kindOf}
 use Rattle.kinds.specs.declared.Name.{Name}
-use Rattle.kinds.specs.declared.Name.the-variants.{Read as READ, Write as WRITE, Alloc as ALLOC, Create as CREATE, Delete as DELETE, KeyRead as KEY-READ, Renew as RENEW, Force as FORCE, Free as FREE, Tick as TICK, Audit as AUDIT, AllocContig as ALLOC-CONTIG, KeyWrite as KEY-WRITE}
+use Rattle.kinds.specs.declared.Name.the-variants.{Read as READ, Write as WRITE, Alloc as ALLOC, Create as CREATE, Delete as DELETE, KeyRead as KEY-READ, Renew as RENEW, Force as FORCE, Free as FREE, Tick as TICK, Audit as AUDIT, AllocContig as ALLOC-CONTIG, KeyWrite as KEY-WRITE, DeleteTree as DELETE-TREE}
 use Rattle.kinds.specs.declared.Kind.{Kind}
 use Rattle.kinds.specs.declared.Kind.the-variants.{Known, Unknown}
 use Rattle.fields.specs.declared.ParsedCredential.{ParsedCredential}
@@ -57,9 +58,15 @@ createWith port source (ValidCredential c) destination (ValidCredential d) =
 createWith port source (ValidCredential c) destination InvalidCredential = Bad
 createWith port source InvalidCredential destination second = Bad
 
+-- DELETE and DELETE_TREE have the same operands.
+abbrev pub deleteOperands : ℕ → Credential → ℕ → DeleteOperands
+deleteOperands source c destination = record { source = source; credential = c; destination = destination }
+
 abbrev pub deleteWith : Port → ℕ → ParsedCredential → ℕ → Decoding
-deleteWith port source p destination =
-    withCredential port (λ c. Delete (record { source = source; credential = c; destination = destination })) p
+deleteWith port source p destination = withCredential port (λ c. Delete (deleteOperands source c destination)) p
+
+abbrev pub deleteTreeWith : Port → ℕ → ParsedCredential → ℕ → Decoding
+deleteTreeWith port source p destination = withCredential port (λ c. DeleteTree (deleteOperands source c destination)) p
 
 -- KEY_READ or KEY_WRITE, by the mode whose key it sets.
 unfoldable pub keyWith : Port → Mode → ℕ → ParsedCredential → ParsedKey → Decoding
@@ -97,6 +104,7 @@ decodeCall port TICK xs = Decoded port (Tick (record { seconds = number 8 xs }))
 decodeCall port AUDIT xs = Decoded port Audit
 decodeCall port ALLOC-CONTIG xs = allocContigWith port (number 2 xs) (credential (drop 2 xs)) (number 2 (drop 19 xs)) (getD xs 21 0)
 decodeCall port KEY-WRITE xs = decodeKey port Writing xs
+decodeCall port DELETE-TREE xs = deleteTreeWith port (number 2 xs) (credential (drop 2 xs)) (number 2 (drop 19 xs))
 
 -- ---- a record
 
@@ -116,6 +124,7 @@ nameOf (Alloc o) = ALLOC
 nameOf (AllocContig o) = ALLOC-CONTIG
 nameOf (Create o) = CREATE
 nameOf (Delete o) = DELETE
+nameOf (DeleteTree o) = DELETE-TREE
 nameOf (KeyRead o) = KEY-READ
 nameOf (KeyWrite o) = KEY-WRITE
 nameOf (Renew o) = RENEW

@@ -23,10 +23,10 @@ use Rattle.fields.specs.Bytes.{number}
 use Rattle.kinds.specs.Kinds.{lengthOf, kindOf, kindLength}
 use Rattle.kinds.specs.KindsLaws.{host-kinds}
 use Rattle.fields.specs.Fields.{credential, newKey}
-use Rattle.records.specs.Decode.{withCredential, readWith, writeWith, allocWith, allocContigWith, createWith, deleteWith, keyWith, renewWith, decodeKey, decodeCall, decodeKnown, decodeBody, nameOf, sent, nextOf, decode}
+use Rattle.records.specs.Decode.{withCredential, readWith, writeWith, allocWith, allocContigWith, createWith, deleteWith, deleteTreeWith, keyWith, renewWith, decodeKey, decodeCall, decodeKnown, decodeBody, nameOf, sent, nextOf, decode}
 use Rattle.kinds.specs.declared.Length.the-variants.{Bytes, Unknown as UnknownLength}
 use Rattle.kinds.specs.declared.Name.{Name}
-use Rattle.kinds.specs.declared.Name.the-variants.{Read as READ, Write as WRITE, Alloc as ALLOC, Create as CREATE, Delete as DELETE, KeyRead as KEY-READ, Renew as RENEW, Force as FORCE, Free as FREE, Tick as TICK, Audit as AUDIT, AllocContig as ALLOC-CONTIG, KeyWrite as KEY-WRITE}
+use Rattle.kinds.specs.declared.Name.the-variants.{Read as READ, Write as WRITE, Alloc as ALLOC, Create as CREATE, Delete as DELETE, KeyRead as KEY-READ, Renew as RENEW, Force as FORCE, Free as FREE, Tick as TICK, Audit as AUDIT, AllocContig as ALLOC-CONTIG, KeyWrite as KEY-WRITE, DeleteTree as DELETE-TREE}
 use Rattle.kinds.specs.declared.Kind.{Kind}
 use Rattle.kinds.specs.declared.Kind.the-variants.{Known, Unknown}
 use Rattle.fields.specs.declared.ParsedCredential.{ParsedCredential}
@@ -68,6 +68,11 @@ module _ (port : Port) (xs : List ℕ) where
       → deleteWith port s p d ≡ decodeCall port DELETE xs
   unfolding decodeCall
   delete s p d = rw (s, p, d)
+
+  pub delete-tree : {s d : ℕ} {p : ParsedCredential} → s ≡ number 2 xs → p ≡ credential (drop 2 xs) → d ≡ number 2 (drop 19 xs)
+      → deleteTreeWith port s p d ≡ decodeCall port DELETE-TREE xs
+  unfolding decodeCall
+  delete-tree s p d = rw (s, p, d)
 
   pub key : (m : Mode) {b : ℕ} {p : ParsedCredential} {k : ParsedKey} → b ≡ number 2 xs → p ≡ credential (drop 2 xs) → k ≡ newKey (drop 19 xs)
       → keyWith port m b p k ≡ decodeKey port m xs
@@ -186,6 +191,7 @@ named port TICK xs = (refl, refl)
 named port AUDIT xs = (refl, refl)
 named port ALLOC-CONTIG xs = named-credential port ALLOC-CONTIG _ (λ c. refl) _
 named port KEY-WRITE xs = named-key port KEY-WRITE Writing (λ o. refl) _ _ _
+named port DELETE-TREE xs = named-credential port DELETE-TREE _ (λ c. refl) _
 
 apart : (p : Port) (call : Call) → Decoded p call ≡ Bad → ⊥
 apart p call e = let z : _≡_ {A = ℕ} 0 1 = cc in omega arith

@@ -8,9 +8,10 @@ use Rattle.card.specs.declared.Credential.the-variants.{Nothing, Reference, Key
 use Rattle.card.specs.declared.NewKey.{NewKey}
 use Rattle.card.specs.declared.NewKey.the-variants.{Absent, Present}
 use Rattle.card.specs.declared.AllocOperands.{AllocOperands}
+use Rattle.card.specs.declared.DeleteOperands.{DeleteOperands}
 use Rattle.card.specs.declared.KeyOperands.{KeyOperands}
 use Rattle.card.specs.declared.Call.{Call}
-use Rattle.card.specs.declared.Call.the-variants.{Read, Write, Alloc, AllocContig, Create, Delete, KeyRead, KeyWrite, Renew, Force, Free, Tick, Audit}
+use Rattle.card.specs.declared.Call.the-variants.{Read, Write, Alloc, AllocContig, Create, Delete, DeleteTree, KeyRead, KeyWrite, Renew, Force, Free, Tick, Audit}
 use Rattle.fields.specs.Bytes.{bytes}
 use Rattle.kinds.specs.Kinds.{kindNumber}
 use Rattle.records.specs.Decode.{nameOf}
@@ -28,6 +29,10 @@ newKeyBytes (Present high low) = 1 ∷ (bytes 8 high ++ bytes 8 low)
 abbrev pub allocBody : AllocOperands → List ℕ → List ℕ
 allocBody o ys = bytes 2 (o .reference) ++ (credentialBytes (o .credential) ++ (bytes 2 (o .hint) ++ (bytes 1 (o .count) ++ ys)))
 
+-- Of DELETE and DELETE_TREE.
+abbrev pub deleteBody : DeleteOperands → List ℕ → List ℕ
+deleteBody o ys = bytes 2 (o .source) ++ (credentialBytes (o .credential) ++ (bytes 2 (o .destination) ++ ys))
+
 -- And of KEY_READ and KEY_WRITE.
 abbrev pub keyBody : KeyOperands → List ℕ → List ℕ
 keyBody o ys = bytes 2 (o .block) ++ (credentialBytes (o .credential) ++ (newKeyBytes (o .key) ++ ys))
@@ -40,7 +45,8 @@ body (Alloc o) ys = allocBody o ys
 body (AllocContig o) ys = allocBody o ys
 body (Create o) ys =
     bytes 2 (o .source) ++ (credentialBytes (o .credential) ++ (bytes 2 (o .destination) ++ (credentialBytes (o .second) ++ ys)))
-body (Delete o) ys = bytes 2 (o .source) ++ (credentialBytes (o .credential) ++ (bytes 2 (o .destination) ++ ys))
+body (Delete o) ys = deleteBody o ys
+body (DeleteTree o) ys = deleteBody o ys
 body (KeyRead o) ys = keyBody o ys
 body (KeyWrite o) ys = keyBody o ys
 body (Renew o) ys =
@@ -73,6 +79,9 @@ FitsNewKey (Present high low) = Fits 8 high × Fits 8 low
 abbrev pub FitsAlloc : AllocOperands → Type 0
 FitsAlloc o = Fits 2 (o .reference) × (FitsCredential (o .credential) × (Fits 2 (o .hint) × Fits 1 (o .count)))
 
+abbrev pub FitsDelete : DeleteOperands → Type 0
+FitsDelete o = Fits 2 (o .source) × (FitsCredential (o .credential) × Fits 2 (o .destination))
+
 abbrev pub FitsKey : KeyOperands → Type 0
 FitsKey o = Fits 2 (o .block) × (FitsCredential (o .credential) × FitsNewKey (o .key))
 
@@ -82,7 +91,8 @@ FitsCall (Write o) = Fits 2 (o .block) × (FitsCredential (o .credential) × Fit
 FitsCall (Alloc o) = FitsAlloc o
 FitsCall (AllocContig o) = FitsAlloc o
 FitsCall (Create o) = Fits 2 (o .source) × (FitsCredential (o .credential) × (Fits 2 (o .destination) × FitsCredential (o .second)))
-FitsCall (Delete o) = Fits 2 (o .source) × (FitsCredential (o .credential) × Fits 2 (o .destination))
+FitsCall (Delete o) = FitsDelete o
+FitsCall (DeleteTree o) = FitsDelete o
 FitsCall (KeyRead o) = FitsKey o
 FitsCall (KeyWrite o) = FitsKey o
 FitsCall (Renew o) = Fits 1 (o .mode) × (Fits 2 (o .block) × (Fits 8 (o .high) × (Fits 8 (o .low) × Fits 4 (o .interval))))

@@ -19,18 +19,19 @@ use Rattle.card.specs.declared.Credential.the-variants.{Nothing, Reference, Key
 use Rattle.card.specs.declared.NewKey.{NewKey}
 use Rattle.card.specs.declared.NewKey.the-variants.{Absent, Present}
 use Rattle.card.specs.declared.AllocOperands.{AllocOperands}
+use Rattle.card.specs.declared.DeleteOperands.{DeleteOperands}
 use Rattle.card.specs.declared.KeyOperands.{KeyOperands}
 use Rattle.card.specs.declared.Call.{Call}
-use Rattle.card.specs.declared.Call.the-variants.{Read, Write, Alloc, AllocContig, Create, Delete, KeyRead, KeyWrite, Renew, Force, Free, Tick, Audit}
+use Rattle.card.specs.declared.Call.the-variants.{Read, Write, Alloc, AllocContig, Create, Delete, DeleteTree, KeyRead, KeyWrite, Renew, Force, Free, Tick, Audit}
 use Rattle.fields.specs.Bytes.{number, bytes, zeroed}
 use Rattle.fields.specs.BytesLaws.{length-bytes, number-bytes}
 use Rattle.kinds.specs.Kinds.{row, names, kindNumber, lengthOf, dataLength, operandsLength, takes, hasKind, among, kindOf}
 use Rattle.fields.specs.Fields.{credential, newKey}
 use Rattle.records.specs.Decode.{withCredential, createWith, keyWith, renewWith, decodeKey, decodeCall, nameOf, dataOf, sent, nextOf, decode}
 use Rattle.records.specs.DecodeLaws as laws
-use Rattle.records.specs.Encode.{credentialBytes, newKeyBytes, allocBody, keyBody, body, encode, Fits, FitsCredential, FitsNewKey, FitsAlloc, FitsKey, FitsCall}
+use Rattle.records.specs.Encode.{credentialBytes, newKeyBytes, allocBody, deleteBody, keyBody, body, encode, Fits, FitsCredential, FitsNewKey, FitsAlloc, FitsDelete, FitsKey, FitsCall}
 use Rattle.kinds.specs.declared.Name.{Name}
-use Rattle.kinds.specs.declared.Name.the-variants.{Read as READ, Write as WRITE, Alloc as ALLOC, Create as CREATE, Delete as DELETE, KeyRead as KEY-READ, Renew as RENEW, Force as FORCE, Free as FREE, Tick as TICK, Audit as AUDIT, AllocContig as ALLOC-CONTIG, KeyWrite as KEY-WRITE}
+use Rattle.kinds.specs.declared.Name.the-variants.{Read as READ, Write as WRITE, Alloc as ALLOC, Create as CREATE, Delete as DELETE, KeyRead as KEY-READ, Renew as RENEW, Force as FORCE, Free as FREE, Tick as TICK, Audit as AUDIT, AllocContig as ALLOC-CONTIG, KeyWrite as KEY-WRITE, DeleteTree as DELETE-TREE}
 use Rattle.kinds.specs.declared.Kind.{Kind}
 use Rattle.kinds.specs.declared.Kind.the-variants.{Known, Unknown}
 use Rattle.fields.specs.declared.ParsedCredential.the-variants.{Valid as ValidCredential}
@@ -115,6 +116,7 @@ behind (Alloc o) ys = then-more (opened _ _ _) (then-more (then-bytes 2 _ _) (th
 behind (AllocContig o) ys = then-more (opened _ _ _) (then-more (then-bytes 2 _ _) (then-bytes 1 _ ys))
 behind (Create o) ys = then-more (opened _ _ _) (then-more (then-bytes 2 _ _) (then-credential _ ys))
 behind (Delete o) ys = then-more (opened _ _ _) (then-bytes 2 _ ys)
+behind (DeleteTree o) ys = then-more (opened _ _ _) (then-bytes 2 _ ys)
 behind (KeyRead o) ys = then-more (opened _ _ _) (then-newKey _ ys)
 behind (KeyWrite o) ys = then-more (opened _ _ _) (then-newKey _ ys)
 behind (Renew o) ys =
@@ -142,6 +144,19 @@ by-parts o ys h law =
     (sym (at credential (then-bytes 2 (o .reference) _) (credential-back (o .credential) _ (h .1 .0))))
     (sym (at (number 2) hinted (number-bytes 2 (o .hint) _ (h .1 .1 .0))))
     (sym (byte-at 21 _ (o .count) ys (then-more hinted (then-bytes 2 (o .hint) _)) (h .1 .1 .1)))
+
+-- The same of DELETE and DELETE_TREE.
+by-ends : {A : Type 0} (o : DeleteOperands) (ys : List ℕ) → FitsDelete o
+    → (o .source ≡ number 2 (deleteBody o ys)
+    → ValidCredential (o .credential) ≡ credential (drop 2 (deleteBody o ys))
+    → o .destination ≡ number 2 (drop 19 (deleteBody o ys))
+    → A)
+    → A
+by-ends o ys h law =
+    law
+    (sym (number-bytes 2 (o .source) _ (h .0)))
+    (sym (at credential (then-bytes 2 (o .source) _) (credential-back (o .credential) _ (h .1 .0))))
+    (sym (at (number 2) (opened (o .source) (o .credential) _) (number-bytes 2 (o .destination) ys (h .1 .1))))
 
 -- KEY_READ and KEY_WRITE.
 decoded-key : (port : Port) (mode : Mode) (o : KeyOperands) (ys : List ℕ) → FitsKey o → Decoded port (keyCall mode o) ≡ decodeKey port mode (keyBody o ys)
@@ -172,11 +187,8 @@ decoded port (Create o) ys h =
     (sym (at credential (then-bytes 2 (o .source) _) (credential-back (o .credential) _ (h .1 .0))))
     (sym (at (number 2) (opened (o .source) (o .credential) _) (number-bytes 2 (o .destination) _ (h .1 .1 .0))))
     (sym (at credential (then-more (opened (o .source) (o .credential) _) (then-bytes 2 (o .destination) _)) (credential-back (o .second) ys (h .1 .1 .1))))
-decoded port (Delete o) ys h =
-    laws.delete port _
-    (sym (number-bytes 2 (o .source) _ (h .0)))
-    (sym (at credential (then-bytes 2 (o .source) _) (credential-back (o .credential) _ (h .1 .0))))
-    (sym (at (number 2) (opened (o .source) (o .credential) _) (number-bytes 2 (o .destination) ys (h .1 .1))))
+decoded port (Delete o) ys h = by-ends o ys h (laws.delete port (deleteBody o ys))
+decoded port (DeleteTree o) ys h = by-ends o ys h (laws.delete-tree port (deleteBody o ys))
 decoded port (KeyRead o) ys h = decoded-key port Reading o ys h ∙ laws.key-read port _
 decoded port (KeyWrite o) ys h = decoded-key port Writing o ys h ∙ laws.key-write port _
 decoded port (Renew o) ys h =
@@ -223,6 +235,7 @@ host-kind TICK = refl
 host-kind AUDIT = refl
 host-kind ALLOC-CONTIG = refl
 host-kind KEY-WRITE = refl
+host-kind DELETE-TREE = refl
 
 service-kind : (name : Name) → hasKind Service name ≡ true → kindOf Service (kindNumber Service name) ≡ Known Service name
 unfolding hasKind contains any kindOf among names kindNumber row
@@ -239,6 +252,7 @@ service-kind TICK e = absurd (false≢true e)
 service-kind AUDIT e = absurd (false≢true e)
 service-kind ALLOC-CONTIG e = refl
 service-kind KEY-WRITE e = refl
+service-kind DELETE-TREE e = refl
 
 known-kind : (wire port : Port) → takes wire port ≡ true → (name : Name) → hasKind port name ≡ true → kindOf wire (kindNumber port name) ≡ Known port name
 unfolding takes kindOf
@@ -263,6 +277,7 @@ parts TICK = refl
 parts AUDIT = refl
 parts ALLOC-CONTIG = refl
 parts KEY-WRITE = refl
+parts DELETE-TREE = refl
 
 body-append : (call : Call) (ys zs : List ℕ) → body call ys ++ zs ≡ body call (ys ++ zs)
 unfolding body
@@ -272,6 +287,7 @@ body-append (Alloc o) ys zs = simp append-assoc
 body-append (AllocContig o) ys zs = simp append-assoc
 body-append (Create o) ys zs = simp append-assoc
 body-append (Delete o) ys zs = simp append-assoc
+body-append (DeleteTree o) ys zs = simp append-assoc
 body-append (KeyRead o) ys zs = simp append-assoc
 body-append (KeyWrite o) ys zs = simp append-assoc
 body-append (Renew o) ys zs = simp append-assoc

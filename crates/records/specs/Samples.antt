@@ -6,7 +6,7 @@ use lib.ListN.{replicate}
 use Rattle.card.specs.declared.Port.the-variants.{Host, Service}
 use Rattle.card.specs.declared.Credential.the-variants.{Nothing, Reference, Key as KeyCredential}
 use Rattle.card.specs.declared.NewKey.the-variants.{Absent, Present}
-use Rattle.card.specs.declared.Call.the-variants.{Read, Alloc, AllocContig, Create, KeyRead, KeyWrite, Renew, Free, Tick}
+use Rattle.card.specs.declared.Call.the-variants.{Read, Alloc, AllocContig, Create, DeleteTree, KeyRead, KeyWrite, Renew, Free, Tick}
 use Rattle.fields.specs.Bytes.{number, zeroed}
 use Rattle.kinds.specs.Kinds.{row, dataLength, names, kindNumber, lengthOf, operandsLength, among, kindOf}
 use Rattle.fields.specs.Fields.{credential, newKey}
@@ -36,9 +36,9 @@ keyBytes = replicate 7 0 ++ (1 ∷ (replicate 7 0 ++ (2 ∷ [])))
 unfoldable pub sampleTable : List Sample
 sampleTable =
     ([] gives ended)
-    -- another kind: 0, 14, and FREE at the service port
+    -- another kind: 0, 15, and FREE at the service port
     ∷ (0 ∷ [] gives refused)
-    ∷ (14 ∷ replicate 60 0 gives refused)
+    ∷ (15 ∷ replicate 60 0 gives refused)
     ∷ (137 ∷ [] gives refused)
     ∷ (9 ∷ 7 ∷ [] gives sent Host Free [] (7 ∷ []))
     -- READ 258 by reference 5, interval 16,909,060; the same one byte short, with filler, and with a wrong first byte
@@ -54,6 +54,10 @@ sampleTable =
     ∷ (140 ∷ 0 ∷ 0 ∷ 0 ∷ (zeros16 ++ (255 ∷ 255 ∷ 2 ∷ [])) gives sent Service (AllocContig (record { reference = 0; credential = Nothing; hint = 65535; count = 2 })) [] [])
     -- CREATE 3 to 4 by a key and a reference
     ∷ (4 ∷ 0 ∷ 3 ∷ 2 ∷ (keyBytes ++ (0 ∷ 4 ∷ 1 ∷ five)) gives sent Host (Create (record { source = 3; credential = KeyCredential 1 2; destination = 4; second = Reference 5 })) [] [])
+    -- DELETE_TREE from 258 to 3 by a key, and the same one byte short; and from 0 to 4 by nothing
+    ∷ (14 ∷ 1 ∷ 2 ∷ 2 ∷ (keyBytes ++ (0 ∷ 3 ∷ 9 ∷ [])) gives sent Host (DeleteTree (record { source = 258; credential = KeyCredential 1 2; destination = 3 })) [] (9 ∷ []))
+    ∷ (14 ∷ 1 ∷ 2 ∷ 2 ∷ (keyBytes ++ (0 ∷ [])) gives refused)
+    ∷ (142 ∷ 0 ∷ 0 ∷ 0 ∷ (zeros16 ++ (0 ∷ 4 ∷ [])) gives sent Service (DeleteTree (record { source = 0; credential = Nothing; destination = 4 })) [] [])
     -- KEY_READ of 1 by nothing, and KEY_WRITE of 258 by a key and by nothing, each with a new key or none
     ∷ (134 ∷ 0 ∷ 1 ∷ 0 ∷ (zeros16 ++ (1 ∷ keyBytes)) gives sent Service (KeyRead (record { block = 1; credential = Nothing; key = Present 1 2 })) [] [])
     ∷ (13 ∷ 1 ∷ 2 ∷ 2 ∷ (keyBytes ++ (0 ∷ (zeros16 ++ (9 ∷ [])))) gives sent Host (KeyWrite (record { block = 258; credential = KeyCredential 1 2; key = Absent })) [] (9 ∷ []))

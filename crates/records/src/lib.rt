@@ -21,7 +21,7 @@ ghost use mathlib.Core.Path.{_≡_};
 ghost use Prim.Native.Nat.{_≤_};
 ghost use lib.ListN.{length};
 ghost use Rattle.kinds.specs.Kinds.{lengthOf};
-ghost use Rattle.records.specs.Decode.{readWith, writeWith, allocOperands, allocWith, allocContigWith, createWith, deleteWith, keyWith, renewWith, decodeKey, decodeCall, decodeBody};
+ghost use Rattle.records.specs.Decode.{readWith, writeWith, allocOperands, allocWith, allocContigWith, createWith, deleteOperands, deleteWith, deleteTreeWith, keyWith, renewWith, decodeKey, decodeCall, decodeBody};
 ghost use Rattle.records.specs.Parsed.{parsedBad, ParsedIs};
 
 // A call at its port, or refusal 13.
@@ -145,18 +145,42 @@ pub fn create_with(
     )
 }
 
+// DELETE and DELETE_TREE have the same operands.
+fn delete_operands(source: u16, credential: Credential, destination: u16) -> DeleteOperands
+    ensures { λ r. ⌜ r ≡ deleteOperands source credential destination ⌝ }
+{
+    DeleteOperands {
+        source,
+        credential,
+        destination,
+    }
+}
+
 pub fn delete_with(port: Port, source: u16, parsed: ParsedCredential, destination: u16) -> Decoding
     ensures { λ r. ⌜ r ≡ deleteWith port source parsed destination ⌝ }
 {
     match parsed {
-        ParsedCredential::Valid(credential) => Decoding::Decoded(
-            port,
-            Call::Delete(DeleteOperands {
-                source,
-                credential,
-                destination,
-            }),
-        ),
+        ParsedCredential::Valid(credential) => {
+            let o = delete_operands(source, credential, destination);
+            Decoding::Decoded(port, Call::Delete(o))
+        }
+        ParsedCredential::Invalid => Decoding::Bad,
+    }
+}
+
+pub fn delete_tree_with(
+    port: Port,
+    source: u16,
+    parsed: ParsedCredential,
+    destination: u16,
+) -> Decoding
+    ensures { λ r. ⌜ r ≡ deleteTreeWith port source parsed destination ⌝ }
+{
+    match parsed {
+        ParsedCredential::Valid(credential) => {
+            let o = delete_operands(source, credential, destination);
+            Decoding::Decoded(port, Call::DeleteTree(o))
+        }
         ParsedCredential::Invalid => Decoding::Bad,
     }
 }
@@ -285,6 +309,16 @@ fn decode_delete(port: Port, body: &[u8]) -> Decoding
     delete_with(port, source, credential, destination)
 }
 
+fn decode_delete_tree(port: Port, body: &[u8]) -> Decoding
+    requires { ⌜ 21 ≤ length (now body) ⌝ }
+    ensures { λ r. ⌜ r ≡ decodeCall port Name.DeleteTree (now (body .entry)) ⌝ }
+{
+    let source = fields::two(body, 0);
+    let credential = fields::credential(body, 2);
+    let destination = fields::two(body, 19);
+    delete_tree_with(port, source, credential, destination)
+}
+
 // KEY_READ and KEY_WRITE have the same body.
 fn decode_key(port: Port, mode: Mode, body: &[u8]) -> Decoding
     requires { ⌜ 36 ≤ length (now body) ⌝ }
@@ -345,6 +379,7 @@ fn decode_call(port: Port, name: Name, body: &[u8]) -> Decoding
         Name::Audit => Decoding::Decoded(port, Call::Audit),
         Name::AllocContig => decode_alloc_contig(port, body),
         Name::KeyWrite => decode_key(port, Mode::Writing, body),
+        Name::DeleteTree => decode_delete_tree(port, body),
     }
 }
 

@@ -24,7 +24,7 @@ use Rattle.card.specs.Calls.{isDone, missing}
 use Rattle.card.specs.declared.Refusal.the-variants.{Misshapen, Unsound, NotAllocated, BadOperand}
 use Rattle.card.specs.declared.Answer.the-variants.{Refused, Value}
 use Rattle.card.proofs.Guarantees.Judged.{judge-cases, RefusedBy, judged-iff}
-use Rattle.report.specs.LeastLaws.{Some, any-member, member-any}
+use Rattle.card.specs.LeastLaws.{Some, any-member, member-any}
 use Rattle.report.specs.Report.{given, badKeys, withinReach, unlocking, listing, reachPlan, unlockingPlan, lentPlaces, reachReport, unlockingReport}
 use Rattle.report.specs.ReportLaws.{missing-unlisted, unlocking-missing}
 

@@ -5,7 +5,7 @@ use mathlib.Core.List.{List, [], _∷_}
 use Rattle.card.specs.Plan.{Result}
 use Rattle.card.specs.Calls.{answerNumber, answerValues}
 use Rattle.card.proofs.Computed.Rows.{computing, nested}
-use Rattle.report.specs.Least.{rounds, least}
+use Rattle.card.specs.Least.{rounds, least}
 use Rattle.report.specs.Report.{given, badKeys, rootUnsealed, someKey, someWindow, withinByItself, withinByPointer, within, withinReach, withWriteKey, unlocks, unlocking, listing, reachPlan, unlockingPlan, reachReport, unlockingReport}
 use Rattle.report.specs.Leading.{leadsOn, leading}
 

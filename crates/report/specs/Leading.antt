@@ -6,7 +6,7 @@ use lib.Dec.{eqb}
 use Rattle.card.specs.Lists.{any}
 use Rattle.card.specs.Card.{Card, pointsTo}
 use Rattle.card.specs.Reach.{sealed}
-use Rattle.report.specs.Least.{least}
+use Rattle.card.specs.Least.{least}
 use Rattle.report.specs.Report.{given, someKey}
 
 module _ (isPresented : ℕ → ℕ → Bool) (c : Card) (chosen : ℕ) where

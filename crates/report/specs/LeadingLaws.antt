@@ -17,7 +17,7 @@ use Rattle.card.specs.Reach.{keyPresented, sealed, Reach, unsealedRoot, byKey, 
 use Rattle.card.specs.declared.Mode.{Mode}
 use Rattle.card.specs.declared.Mode.the-variants.{Reading, Writing}
 use Rattle.card.proofs.Guarantees.PointerSteps.{pointer-right, block-narrow}
-use Rattle.report.specs.LeastLaws.{Some, any-member, member-any, any-within, Monotone, least-in, least-closed}
+use Rattle.card.specs.LeastLaws.{Some, any-member, member-any, any-within, Monotone, least-in, least-closed}
 use Rattle.report.specs.Report.{given, someKey, withinReach, withWriteKey, unlocks, unlocking}
 use Rattle.report.specs.ReportLaws.{some-key, listed-reached, reached-listed}
 use Rattle.report.specs.Leading.{leadsOn, leading, fits}

@@ -1,6 +1,3 @@
-pub mod Least
-pub mod NumbersLaws
-pub mod LeastLaws
 pub mod Report
 pub mod Contracts
 pub mod ReportLaws

@@ -11,7 +11,7 @@ use Rattle.card.specs.Card.{Card, allocated, isRoot, windowOpen, pointsTo, keyH
 use Rattle.card.specs.Plan.{Check, _⇒_, numbers, Plan, Buffers, Result, judge}
 use Rattle.card.specs.Calls.{missing}
 use Rattle.card.specs.Reach.{keyPresented, sealed, Reach}
-use Rattle.report.specs.Least.{least}
+use Rattle.card.specs.Least.{least}
 use Rattle.card.specs.declared.Mode.the-variants.{Reading, Writing}
 use Rattle.card.specs.declared.Refusal.the-variants.{NotAllocated, BadOperand}
 use Rattle.card.specs.declared.Answer.the-variants.{Value}

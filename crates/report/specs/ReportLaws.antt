@@ -21,8 +21,8 @@ use Rattle.card.specs.declared.Mode.{Mode}
 use Rattle.card.specs.declared.Mode.the-variants.{Reading, Writing}
 use Rattle.card.specs.declared.Answer.the-variants.{Value}
 use Rattle.card.proofs.Secrecy.Theorem.{reach-allocated}
-use Rattle.report.specs.NumbersLaws.{numbers-most, numbers-none}
-use Rattle.report.specs.LeastLaws.{Some, any-member, member-any, any-within, Monotone, least-in, least-closed, least-own, least-ascends, least-most}
+use Rattle.card.specs.NumbersLaws.{numbers-most, numbers-none}
+use Rattle.card.specs.LeastLaws.{Some, any-member, member-any, any-within, Monotone, least-in, least-closed, least-own, least-ascends, least-most}
 use Rattle.report.specs.Report.{given, rootUnsealed, someKey, someWindow, withinByItself, withinByPointer, within, withinReach, withWriteKey, unlocks, unlocking, listing, lentPlaces}
 
 module _ (isPresented : ℕ → ℕ → Bool) (c : Card) where

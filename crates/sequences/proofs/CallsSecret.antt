@@ -33,7 +33,7 @@ use Rattle.serving.proofs.BytesSecret.{Told, told, batchAct, take-hosts, only}
 use Rattle.parameters.specs.Numbers.{numbersOf, recordOf, wireOf, callAt, atPort, decodeAt}
 use Rattle.parameters.specs.declared.Wire.{Wire}
 use Rattle.parameters.specs.declared.Wire.the-variants.{At}
-use Rattle.interface.specs.Functions.{Function, read, write, alloc, allocContig, create, delete, keyRead, keyWrite, renew, force, tick, free, audit, serve as serveRecord, Lending, lendingOf, functionPort}
+use Rattle.interface.specs.Functions.{Function, read, write, alloc, allocContig, create, delete, deleteTree, keyRead, keyWrite, renew, force, tick, free, audit, serve as serveRecord, Lending, lendingOf, functionPort}
 use Rattle.interface.specs.Batch.{stopNumber}
 use Rattle.sequences.specs.Sequence.{Memory, cardOf, Step, calls, batches, Returned, fromCall, fromBatch, Called, isFive, sentOf, sentAt, callsOf, callsIn, byReply, callReturns, batchReturns, returnsOf, returnsIn, portNumber, AllAtHost, requestOf, requestsOf, requestsBy, keysBy}
 use Rattle.sequences.proofs.CallsSafe.{CallsSafe, calls-safe}
@@ -88,6 +88,7 @@ at-host (alloc port block credential hint count places) e = at-port port e _
 at-host (allocContig port block credential hint count places) e = at-port port e _
 at-host (create port source credential destination second) e = at-port port e _
 at-host (delete port source credential destination value) e = at-port port e _
+at-host (deleteTree port source credential destination value) e = at-port port e _
 at-host (keyRead port block credential key) e = at-port port e _
 at-host (keyWrite port block credential key) e = at-port port e _
 at-host (renew mode block credential interval) e = at-renew mode block _ interval

@@ -98,7 +98,7 @@ batches =
     ∷ batchSample playerCard Service (allocBytes ++ (keyReadBytes ++ newKeyBytes)) 129 Short (0 ∷ 0 ∷ 1 ∷ 0 ∷ 2 ∷ 0 ∷ []) 2 17
     -- a body cut short, and another kind
     ∷ batchSample playerCard Service (auditBytes ++ (10 ∷ 0 ∷ [])) 100 Short (0 ∷ []) 1 2
-    ∷ batchSample playerCard Service (auditBytes ++ (14 ∷ 0 ∷ [])) 100 Refused (0 ∷ []) 1 2
+    ∷ batchSample playerCard Service (auditBytes ++ (15 ∷ 0 ∷ [])) 100 Refused (0 ∷ []) 1 2
     -- at the host port the service port's kinds do not exist, whole or cut short, and what came before is served
     ∷ batchSample playerCard Host (freeBytes ++ allocBytes) 1000 Refused (0 ∷ (zeros 7 ++ (15 ∷ []))) 1 23
     ∷ batchSample playerCard Host (auditBytes ++ (131 ∷ 0 ∷ [])) 100 Refused (0 ∷ []) 1 2

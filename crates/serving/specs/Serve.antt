@@ -13,7 +13,7 @@ use Rattle.card.specs.declared.Port.{Port}
 use Rattle.card.specs.declared.Answer.{Answer}
 use Rattle.card.specs.declared.Answer.the-variants.{Refused, Done, Value}
 use Rattle.card.specs.declared.Call.{Call}
-use Rattle.card.specs.declared.Call.the-variants.{Read, Write, Alloc, AllocContig, Create, Delete, KeyRead, KeyWrite, Renew, Force, Free, Tick, Audit}
+use Rattle.card.specs.declared.Call.the-variants.{Read, Write, Alloc, AllocContig, Create, Delete, DeleteTree, KeyRead, KeyWrite, Renew, Force, Free, Tick, Audit}
 use Rattle.fields.specs.Bytes.{bytes}
 use Rattle.records.specs.Decode.{Next, ended, refused, sent, decode}
 use Rattle.lines.specs.Replied.{filledBy}
@@ -69,6 +69,7 @@ answerRoom size (Alloc o) = 1 + 2 * lentPlaces
 answerRoom size (AllocContig o) = 1 + 2 * lentPlaces
 answerRoom size (Create o) = 1
 answerRoom size (Delete o) = 1 + 8
+answerRoom size (DeleteTree o) = 1 + 8
 answerRoom size (KeyRead o) = 1
 answerRoom size (KeyWrite o) = 1
 answerRoom size (Renew o) = 1

@@ -17,7 +17,7 @@ use Rattle.card.specs.declared.Answer.the-variants.{Refused, Value}
 use Rattle.card.specs.declared.Refusal.the-variants.{NotAllocated, BadOperand}
 use Rattle.report.specs.Report.{given, badKeys, withinReach, unlocking, listing, unlockingPlan, lentPlaces}
 use Rattle.report.specs.ReportLaws.{missing-unlisted, unlocking-missing, listing-done}
-use Rattle.reach.specs.Within.{markedBelow}
+use Rattle.walks.specs.Walk.{markedBelow}
 use Rattle.unlocking.specs.declared.Found.{Found}
 use Rattle.unlocking.specs.declared.Found.the-variants.{Within, Unlocked}
 use Rattle.unlocking.specs.Unlocking.{Unlocking, FoundOf}

@@ -9,16 +9,14 @@ use native.Mathlib.Nat.{not-suc-le-zero}
 use native.Mathlib.Omega.{arith}
 use lib.Dec.{eqb}
 use lib.ListN.{length, take, getD}
-use lib.Seq.{getD-take, length-take-le}
 use borrow.Author.Tests.{eq-eqb, ne-eqb}
 use Rattle.card.specs.ListsLaws.{or-left, false-unless, absurd-test, same-or-other}
-use Rattle.card.specs.Pointers.{contains}
 use Rattle.card.specs.Card.{keyFlag, keyHigh, keyLow}
 use Rattle.card.specs.Access.{keyIs}
 use Rattle.card.specs.declared.Mode.the-variants.{Reading, Writing}
-use Rattle.report.specs.LeastLaws.{Some, any-member, member-any}
+use Rattle.card.specs.LeastLaws.{Some, any-member, member-any}
 use Rattle.walks.specs.Walk.{mark, Queued}
-use Rattle.reach.specs.WithinLaws.{Place, contains-place, place-contains}
+use Rattle.walks.specs.WalkLaws.{queued-among, among-queued}
 use Rattle.unlocking.specs.Unlocking.{QueuedBelow, hasThisKey, fitsQueued, leadsOrFits}
 
 -- What is computed of a block's keys is what the definition says of them.
@@ -32,19 +30,8 @@ has-this flags keys high low b hr r hw w = rw (hr, r, hw, w)
 -- ---- the first blocks in the queue
 
 module _ {queue : List ℕ} {count n : ℕ} (f : QueuedBelow queue count n) where
-  first-blocks : length (take count queue) ≡ count
-  first-blocks = length-take-le count queue (omega (arith, f .hasQueue, f .most))
-
-  pub queued-among : (b : ℕ) → Queued queue count b → contains b (take count queue) ≡ true
-  queued-among b q =
-      subst (λ (x : ℕ). contains x (take count queue) ≡ true) (getD-take count queue (q .at) 0 (q .low) ∙ q .is)
-      (place-contains (take count queue) (q .at) (omega (arith, q .low, first-blocks)))
-
-  pub among-queued : (b : ℕ) → contains b (take count queue) ≡ true → Queued queue count b
-  among-queued b m =
-      let p : Place (take count queue) b = contains-place b (take count queue) m in
-      let l : p .at < count = omega (arith, p .within, first-blocks) in
-      record { at = p .at; low = l; is = sym (getD-take count queue (p .at) 0 l) ∙ p .is }
+  pub first-few : count ≤ length queue
+  first-few = omega (arith, f .hasQueue, f .most)
 
 -- ---- the turns of the loop
 
@@ -64,7 +51,7 @@ module _ (flags keys queue : List ℕ) (count high low : ℕ) where
     unfolding fitsQueued
     passed-found l e p =
         let q : Queued queue count (getD queue at 0) = record { at = at; low = l; is = refl } in
-        sym (any-member (hasThisKey flags keys high low) (take count queue) _ (queued-among (h .first) _ q) (sym e ∙ p))
+        sym (any-member (hasThisKey flags keys high low) (take count queue) _ (queued-among queue count (first-few (h .first)) _ q) (sym e ∙ p))
 
     pub passed-more : at < count → {t : Bool} → t ≡ hasThisKey flags keys high low (getD queue at 0) → t ≡ false → Passed (at + 1)
     passed-more l e p = record {
@@ -84,7 +71,7 @@ module _ (flags keys queue : List ℕ) (count high low : ℕ) where
         (false-unless _
         (λ e.
         let m : Some (hasThisKey flags keys high low) (take count queue) = member-any (hasThisKey flags keys high low) (take count queue) e in
-        let r : Queued queue count (m .which) = among-queued (h .first) (m .which) (m .within) in
+        let r : Queued queue count (m .which) = among-queued queue count (first-few (h .first)) (m .which) (m .within) in
         absurd-test (ap (hasThisKey flags keys high low) (r .is) ∙ m .passes) (h .others (r .at) (omega (arith, r .low)))))
 
 -- ---- a block that leads on, or whose write key fits

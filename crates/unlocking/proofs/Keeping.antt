@@ -14,7 +14,7 @@ use lib.Seq.{getD-set-same, getD-set-other}
 use borrow.Author.Tests.{eq-eqb, ne-eqb}
 use Rattle.card.specs.Lists.{numbersBelow}
 use Rattle.card.specs.ListsLaws.{and-true, and-false-left, and-false-right, below-or-not, same-or-other, numbersBelow-same}
-use Rattle.report.specs.NumbersLaws.{one, numbers-more, numbers-most}
+use Rattle.card.specs.NumbersLaws.{one, numbers-more, numbers-most}
 use Rattle.unlocking.specs.Unlocking.{leadsOrFits, stays, Kept}
 
 module _ (flags keys marks queued before : List ℕ) where

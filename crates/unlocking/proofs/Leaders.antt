@@ -20,17 +20,17 @@ use Rattle.card.specs.Access.{keyIs}
 use Rattle.card.specs.Calls.{missing}
 use Rattle.card.specs.Reach.{keyPresented, sealed}
 use Rattle.card.specs.declared.Mode.the-variants.{Reading, Writing}
-use Rattle.report.specs.LeastLaws.{Some, any-member, member-any}
+use Rattle.card.specs.LeastLaws.{Some, any-member, member-any}
 use Rattle.report.specs.Report.{given, someKey, withinReach, unlocking}
 use Rattle.report.specs.Leading.{leading, fits}
 use Rattle.report.specs.LeadingLaws.{leading-chosen, leading-step, leading-in, unlocking-walked}
-use Rattle.walks.specs.Walk.{Edge, mark, Queued, Led, begins, leads, Spread}
-use Rattle.walks.specs.WalkLaws.{none-marked, walking-most}
+use Rattle.walks.specs.Walk.{Edge, mark, markedBelow, Queued, Led, begins, leads, Spread}
+use Rattle.walks.specs.WalkLaws.{none-marked, walking-most, queued-among, among-queued}
 use Rattle.walks.specs.declared.Direction.the-variants.{Against}
-use Rattle.reach.specs.Within.{markedBelow, Shut, Within}
+use Rattle.reach.specs.Within.{Shut, Within}
 use Rattle.reach.specs.WithinLaws.{Opens, along-opens, opens-along, turned, turned-back}
 use Rattle.unlocking.specs.Unlocking.{Keyed, QueuedBelow, hasThisKey, fitsQueued, leadsOrFits, stays, Kept, Unlocking}
-use Rattle.unlocking.proofs.Fitting.{queued-among, among-queued}
+use Rattle.unlocking.proofs.Fitting.{first-few}
 
 -- ---- the chosen block alone is marked
 
@@ -122,12 +122,12 @@ module _ (words : List ℕ) (c : Card) (s : SoundCard c) (chosen : ℕ) (there :
       same-test _ _
       (λ e.
       let m : Some q (take count queue) = member-any q (take count queue) e in
-      let r : Queued queue count (m .which) = among-queued queued-below (m .which) (m .within) in
+      let r : Queued queue count (m .which) = among-queued queue count (first-few queued-below) (m .which) (m .within) in
       let leads' : contains (m .which) (leading (given words) c chosen) ≡ true = rw (← r .is) (queued-leads (r .at) (r .low)) in
       any-member p (leading (given words) c chosen) (m .which) leads' (sym (same-key c high low (m .which)) ∙ m .passes))
       (λ e.
       let m : Some p (leading (given words) c chosen) = member-any p (leading (given words) c chosen) e in
-      let member : contains (m .which) (take count queue) ≡ true = queued-among queued-below (m .which) (leads-queued (m .which) (m .within)) in
+      let member : contains (m .which) (take count queue) ≡ true = queued-among queue count (first-few queued-below) (m .which) (leads-queued (m .which) (m .within)) in
       any-member q (take count queue) (m .which) member (same-key c high low (m .which) ∙ m .passes))
 
   -- A sealed block that is marked has its own write key among those of the queue.
@@ -138,7 +138,7 @@ module _ (words : List ℕ) (c : Card) (s : SoundCard c) (chosen : ℕ) (there :
       let high : ℕ = keyHigh (c .keys) Writing b in
       let low : ℕ = keyLow (c .keys) Writing b in
       let has : hasKey (c .public) Reading b && hasKey (c .public) Writing b ≡ true = and-left _ _ t in
-      any-member (hasThisKey (c .public .flags) (c .keys) high low) (take count queue) b (queued-among queued-below b (w .walking .queued b e))
+      any-member (hasThisKey (c .public .flags) (c .keys) high low) (take count queue) b (queued-among queue count (first-few queued-below) b (w .walking .queued b e))
       (or-right (hasKey (c .public) Reading b && keyIs (c .keys) Reading b high low) _
       (and-true (hasKey (c .public) Writing b) _ (and-right (hasKey (c .public) Reading b) _ has)
       (and-true (eqb high high) _ (eq-eqb high high refl) (eq-eqb low low refl))))

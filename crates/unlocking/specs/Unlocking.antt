@@ -11,8 +11,7 @@ use Rattle.card.specs.Card.{Card, keyFlag, keyHigh, keyLow}
 use Rattle.card.specs.Access.{keyIs}
 use Rattle.card.specs.declared.Mode.the-variants.{Reading, Writing}
 use Rattle.report.specs.Report.{given, withinReach, unlocking}
-use Rattle.walks.specs.Walk.{mark}
-use Rattle.reach.specs.Within.{markedBelow}
+use Rattle.walks.specs.Walk.{mark, markedBelow}
 use Rattle.unlocking.specs.declared.Found.{Found}
 use Rattle.unlocking.specs.declared.Found.the-variants.{Within, Unlocked}
 

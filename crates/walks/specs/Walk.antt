@@ -5,6 +5,7 @@ use mathlib.Core.Bool.{cond}
 use mathlib.Core.List.{List, [], _∷_}
 use lib.Dec.{eqb}
 use lib.ListN.{length, getD, set}
+use Rattle.card.specs.Lists.{numbersBelow}
 use Rattle.card.specs.Pointers.{source, destination}
 use Rattle.walks.specs.declared.Direction.{Direction}
 use Rattle.walks.specs.declared.Direction.the-variants.{Along, Against}
@@ -55,6 +56,10 @@ mark marks b = getD marks b 0
 unfoldable pub marked : List ℕ → ℕ
 marked [] = 0
 marked (x ∷ xs) = cond (eqb x 1) 1 0 + marked xs
+
+-- The marked blocks below n, ascending.
+abbrev pub markedBelow : List ℕ → ℕ → List ℕ
+markedBelow marks n = numbersBelow (λ b. eqb (mark marks b) 1) n
 
 -- The block stands in the queue, before its tail.
 pub record Queued (queue : List ℕ) (tail b : ℕ) : Type 0 where

@@ -1,22 +1,51 @@
--- Laws of a walk: its start, a block entered, the block at its head left, the growth of the marks, and its end.
+-- Laws of a walk: that a sound card's pointers can be walked along, its start, a block entered, the block at its head left, the growth of the marks, and its end.
 -- Assumes nothing.
 use Prim.Native.Nat.{ℕ, zero, suc, _+_, _≤_, _<_}
 use mathlib.Core.Path.{_≡_, refl, sym, ap, _∙_, subst}
 use mathlib.Core.Logic.{_⊎_, inl, inr, ⊎-elim}
 use mathlib.Core.Bool.{Bool, true, false, cond}
-use mathlib.Core.List.{List, [], _∷_}
+use mathlib.Core.List.{List, [], _∷_, append-nil}
 use native.Mathlib.Nat.{le-of-suc-le-suc, not-suc-le-zero}
 use native.Mathlib.Omega.{arith}
 use lib.Dec.{eqb}
-use lib.ListN.{length, getD, set, replicate, length-set, length-replicate, List·getD-eq-default}
-use lib.Seq.{getD-set-same, getD-set-other}
+use lib.ListN.{length, take, getD, set, replicate, length-set, length-replicate, List·getD-eq-default}
+use lib.Seq.{getD-set-same, getD-set-other, getD-take, length-take-le}
 use borrow.Author.Tests.{eq-eqb, ne-eqb, eqb-true, eqb-false}
-use Rattle.card.specs.ListsLaws.{not-cases, below-or-not, same-or-other}
-use Rattle.walks.specs.Walk.{mark, marked, Queued, Led, begins, leads, Walking, Grown, Spread, Entered}
+use Rattle.card.specs.Lists.{numbersBelow}
+use Rattle.card.specs.ListsLaws.{not-cases, below-or-not, same-or-other, all-at}
+use Rattle.card.specs.Pointers.{contains}
+use Rattle.card.specs.NearestLaws.{Place, contains-place, place-contains}
+use Rattle.card.specs.NumbersLaws.{one, numbers-more}
+use Rattle.card.specs.Card.{Card, allocated, inUse}
+use Rattle.card.specs.SoundCard.{SoundCard, RightPointer}
+use Rattle.card.specs.SoundnessLaws.{pointerRight-true, allocated-below}
+use Rattle.walks.specs.Walk.{Walkable, mark, marked, markedBelow, Queued, Led, begins, leads, Walking, Grown, Spread, Entered}
+
+-- ---- the pointers of a sound card
+
+module _ (c : Card) (s : SoundCard c) where
+  pub sound-right : (k : ℕ) → k < length (inUse (c .public)) → RightPointer (c .public) (getD (inUse (c .public)) k 0)
+  sound-right k l = pointerRight-true _ _ (all-at _ (inUse (c .public)) (s .isSound .pointersRight) k l)
+
+  right-used : (k : ℕ) → k < c .public .info .used → RightPointer (c .public) (getD (c .public .pointers) k 0)
+  right-used k l =
+      subst (λ (w : ℕ). RightPointer (c .public) w) (getD-take (c .public .info .used) (c .public .pointers) k 0 l)
+      (sound-right k (omega (arith, length-take-le (c .public .info .used) (c .public .pointers) (s .shaped .usedHigh))))
+
+  low : (b : ℕ) → allocated (c .public) b ≡ true → b < 4096
+  low b a = omega (arith, allocated-below (c .public) b a, s .shaped .inRanges .blocksHigh)
+
+  pub sound-walkable : Walkable (c .public .pointers) (c .public .info .used)
+  sound-walkable = record {
+    within = s .shaped .usedHigh;
+    few = omega (arith, s .shaped .usedHigh, s .shaped .hasLengths .placesHigh);
+    sourceLow = λ k l. low _ (right-used k l .sourceAllocated);
+    destinationLow = λ k l. low _ (right-used k l .destinationAllocated);
+  }
 
 -- ---- how many blocks are marked
 
-marked-none : (n : ℕ) → marked (replicate n 0) ≡ 0
+pub marked-none : (n : ℕ) → marked (replicate n 0) ≡ 0
 unfolding marked
 marked-none zero = refl
 marked-none (suc n) = omega (arith, marked-none n)
@@ -46,6 +75,33 @@ unfolding marked
 marked-set [] i l n = absurd (not-suc-le-zero l)
 marked-set (x ∷ xs) zero l n = rw (ne-eqb x 1 n) (omega arith)
 marked-set (x ∷ xs) (suc i) l n = omega (arith, marked-set xs i (le-of-suc-le-suc l) n)
+
+-- The marked blocks below a bound are as many.
+numbers-front : (q : ℕ → Bool) (m : ℕ) → length (numbersBelow q (suc m)) ≡ one (q 0) + length (numbersBelow (λ b. q (suc b)) m)
+unfolding numbersBelow
+numbers-front q zero = omega (arith, numbers-more q 0)
+numbers-front q (suc m) = omega (arith, numbers-more q (suc m), numbers-front q m, numbers-more (λ b. q (suc b)) m)
+
+marked-length : (marks : List ℕ) → marked marks ≡ length (markedBelow marks (length marks))
+unfolding marked numbersBelow
+marked-length [] = refl
+marked-length (x ∷ xs) = omega (arith, marked-length xs, numbers-front (λ b. eqb (mark (x ∷ xs) b) 1) (length xs))
+
+numbers-beyond : (q : ℕ → Bool) (m n : ℕ) → m ≤ n → ((b : ℕ) → m ≤ b → b < n → q b ≡ false) → numbersBelow q n ≡ numbersBelow q m
+unfolding numbersBelow
+numbers-beyond q m zero l f = let e : m ≡ 0 = omega arith in rw e
+numbers-beyond q m (suc n) l f =
+    ⊎-elim
+    (λ (k : m < suc n). rw (f n (omega arith) (omega arith)) (append-nil _ ∙ numbers-beyond q m n (omega arith) (λ b i j. f b i (omega arith))))
+    (λ (k : suc n ≤ m). let e : m ≡ suc n = omega arith in rw e)
+    (below-or-not m (suc n))
+
+-- With no mark from n on, as many blocks are marked as stand below n.
+pub marked-below : (marks : List ℕ) (n : ℕ) → n ≤ length marks → ((b : ℕ) → mark marks b ≡ 1 → b < n) → marked marks ≡ length (markedBelow marks n)
+marked-below marks n l f =
+    marked-length marks
+    ∙ ap length
+    (numbers-beyond (λ b. eqb (mark marks b) 1) n (length marks) l (λ b i j. ne-eqb (mark marks b) 1 (λ e. omega (arith, f b e))))
 
 -- ---- no block is marked
 
@@ -78,7 +134,8 @@ pub entered-new : (marks queue : List ℕ) (tail b : ℕ)
 entered-new marks queue tail b n = let t = ne-eqb (mark marks b) 1 n in record { isMarks = rw t; isQueue = rw t; isTail = rw t }
 
 module _ {marks queue : List ℕ} {tail b : ℕ} {marks' queue' : List ℕ} {tail' : ℕ} (r : Entered marks queue tail b marks' queue' tail') where
-  entered-by : (P : List ℕ → List ℕ → ℕ → Type 0) → (mark marks b ≡ 1 → P marks queue tail)
+  -- By cases: it was marked, or it was not.
+  pub entered-by : (P : List ℕ → List ℕ → ℕ → Type 0) → (mark marks b ≡ 1 → P marks queue tail)
       → ((mark marks b ≡ 1 → ⊥) → P (set marks b 1) (set queue tail b) (tail + 1)) → P marks' queue' tail'
   entered-by P was new =
       ⊎-elim
@@ -106,6 +163,19 @@ module _ {marks queue : List ℕ} {tail b : ℕ} {marks' queue' : List ℕ} {tai
   entered-queue k l = entered-by (λ ms qs t. getD qs k 0 ≡ getD queue k 0) (λ e. refl) (λ n. getD-set-other queue tail k b 0 (λ q. omega arith))
 
 -- ---- the queue
+
+-- The blocks before a place of the queue are those that it contains there.
+module _ (queue : List ℕ) (count : ℕ) (few : count ≤ length queue) where
+  pub queued-among : (b : ℕ) → Queued queue count b → contains b (take count queue) ≡ true
+  queued-among b q =
+      subst (λ (x : ℕ). contains x (take count queue) ≡ true) (getD-take count queue (q .at) 0 (q .low) ∙ q .is)
+      (place-contains (take count queue) (q .at) (omega (arith, q .low, length-take-le count queue few)))
+
+  pub among-queued : (b : ℕ) → contains b (take count queue) ≡ true → Queued queue count b
+  among-queued b m =
+      let p : Place (take count queue) b = contains-place b (take count queue) m in
+      let l : p .at < count = omega (arith, p .within, length-take-le count queue few) in
+      record { at = p .at; low = l; is = sym (getD-take count queue (p .at) 0 l) ∙ p .is }
 
 module _ {edge : ℕ → ℕ → Type 0} {marks queue : List ℕ} {head tail : ℕ} (h : Walking edge marks queue head tail) where
   pub walking-most : tail ≤ 4096

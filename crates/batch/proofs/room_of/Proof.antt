@@ -8,7 +8,7 @@ use denote.Enum.Declared.{tagOf}
 use borrow.Author.Needs.{needs}
 use Rattle.card.proofs.Call.{the-type}
 use Rattle.card.specs.declared.Call.{Call}
-use Rattle.card.specs.declared.Call.the-variants.{Read, Write, Alloc, AllocContig, Create, Delete, KeyRead, KeyWrite, Renew, Force, Free, Tick, Audit}
+use Rattle.card.specs.declared.Call.the-variants.{Read, Write, Alloc, AllocContig, Create, Delete, DeleteTree, KeyRead, KeyWrite, Renew, Force, Free, Tick, Audit}
 use Rattle.serving.specs.Serve.{answerRoom}
 use Rattle.batch.proofs.AnswerBytesLaws.{lent-most, room-read}
 use Rattle.batch.proofs.room_of.Statement.{statement}
@@ -16,7 +16,7 @@ use Rattle.batch.proofs.room_of.Tie as tie
 
 -- The places among the variants of the calls that have no results.
 abbrev callsWithoutResults : List ℕ
-callsWithoutResults = 1 ∷ 4 ∷ 6 ∷ 7 ∷ 8 ∷ 9 ∷ 12 ∷ []
+callsWithoutResults = 1 ∷ 4 ∷ 7 ∷ 8 ∷ 9 ∷ 10 ∷ 13 ∷ []
 
 room-other : (size : ℕ) (call : Call) → OneOf callsWithoutResults (tagOf the-type call) → 1 ≡ answerRoom size call
 unfolding answerRoom
@@ -26,12 +26,13 @@ room-other size (Alloc o) h = absurd (miss callsWithoutResults 2 tt h)
 room-other size (AllocContig o) h = absurd (miss callsWithoutResults 3 tt h)
 room-other size (Create o) h = refl
 room-other size (Delete o) h = absurd (miss callsWithoutResults 5 tt h)
+room-other size (DeleteTree o) h = absurd (miss callsWithoutResults 6 tt h)
 room-other size (KeyRead o) h = refl
 room-other size (KeyWrite o) h = refl
 room-other size (Renew o) h = refl
 room-other size (Force o) h = refl
-room-other size Free h = absurd (miss callsWithoutResults 10 tt h)
-room-other size (Tick o) h = absurd (miss callsWithoutResults 11 tt h)
+room-other size Free h = absurd (miss callsWithoutResults 11 tt h)
+room-other size (Tick o) h = absurd (miss callsWithoutResults 12 tt h)
 room-other size Audit h = refl
 
 enum-told : tie.Need-enum-told
@@ -60,6 +61,9 @@ enum-told-5 c = search needs
 enum-told-6 : tie.Need-enum-told-6
 enum-told-6 c = search needs
 
+enum-told-7 : tie.Need-enum-told-7
+enum-told-7 c = search needs
+
 returns : tie.Need-returns
 returns c = search room-read
 
@@ -84,7 +88,11 @@ unfolding answerRoom
 returns-6 c = search needs
 
 returns-7 : tie.Need-returns-7
-returns-7 c = search room-other
+unfolding answerRoom
+returns-7 c = search needs
+
+returns-8 : tie.Need-returns-8
+returns-8 c = search room-other
 
 pub room-of-spec : {M : Type 1} → statement M
 room-of-spec =
@@ -98,10 +106,12 @@ room-of-spec =
     enum-told-4
     enum-told-5
     enum-told-6
+    enum-told-7
     returns
     returns-2
     returns-3
     returns-4
     returns-5
     returns-6
-    returns-7)
+    returns-7
+    returns-8)

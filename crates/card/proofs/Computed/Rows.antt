@@ -5,8 +5,9 @@ use mathlib.Core.Path.{_≡_, refl}
 use mathlib.Core.Bool.{Bool, true, false, _&&_}
 use mathlib.Core.List.{List, [], _∷_, _++_}
 use mathlib.Core.Option.{orElse}
-use lib.Dec.{eqb, leb}
+use lib.Dec.{eqb, ltb, leb}
 use lib.ListN.{length, replicate}
+use Rattle.card.specs.Pointers.{pointer}
 use Rattle.card.specs.Contents.{zeros}
 use Rattle.card.specs.Card.{Card, card}
 use Rattle.card.specs.Plan.{withUsed, withTime}
@@ -15,7 +16,7 @@ use Rattle.card.specs.Lists.{sumBelow}
 use Rattle.card.specs.Ledger.{made, taken, madeInAll, takenInAll}
 use Rattle.card.specs.Session.{Request, Sent, performed, refusals, portOf, replies, afterAll, traits}
 use Rattle.card.specs.Reach.{shows, someShows, presents, presented, keyPresented, sealed, isOne, takesLast, lastTaken}
-use Rattle.card.specs.Trials.{rules, blankCard, playerCard, lending, send, key, read, writeAll, alloc, create, delete, free, trialTable, trialReports}
+use Rattle.card.specs.Trials.{rules, blankCard, playerCard, lending, send, key, read, writeAll, alloc, create, delete, deleteTree, free, trialTable, trialReports}
 use Rattle.card.specs.declared.Port.the-variants.{Host, Service}
 use Rattle.card.specs.declared.Mode.{Mode}
 use Rattle.card.specs.declared.Mode.the-variants.{Reading, Writing}
@@ -24,13 +25,14 @@ use Rattle.card.specs.declared.Credential.the-variants.{Nothing, Referen
 use Rattle.card.specs.declared.NewKey.{NewKey}
 use Rattle.card.specs.declared.NewKey.the-variants.{Absent, Present}
 use Rattle.card.specs.declared.AllocOperands.{AllocOperands}
+use Rattle.card.specs.declared.DeleteOperands.{DeleteOperands}
 use Rattle.card.specs.declared.KeyOperands.{KeyOperands}
 use Rattle.card.specs.declared.Call.the-variants.{Alloc, Delete, Renew, Force, Free, Tick}
 use Rattle.card.proofs.Guarantees.Windows.{byRead, byWrite, byRenew}
 use Rattle.card.proofs.Secrecy.Bounds.{bounds}
 use Rattle.card.proofs.Secrecy.Example.{hosted}
 use Rattle.card.proofs.Computed.Same.{sameList, sameLists, replyNumbers, allLines}
-use Rattle.card.proofs.Computed.Tests.{refusalUnchangedTest, portsAlikeTest, doneSoundTest, countsRightTest, pointersAscendingTest, formatSoundTest, untouchedTest, firstNumber, refusedIffTest, noneHold, madeAndTakenTest, ledgerTest, countsLedgerTest, runFoundTest, runAdjoinsTest, runNearestTest, oneKeyUnsealedTest, otherKeyKeptTest, ownKeySetTest, bothWindowsClosedTest, writeAccessNeededTest, windowSetByTest, windowLaterTest, intervalZeroKeptTest, isSound, endsSooner, windowsKeptTest, withContents, sameHiddenTest, secrecyTest, trialsTest}
+use Rattle.card.proofs.Computed.Tests.{refusalUnchangedTest, portsAlikeTest, doneSoundTest, countsRightTest, pointersAscendingTest, formatSoundTest, untouchedTest, firstNumber, refusedIffTest, noneHold, madeAndTakenTest, ledgerTest, countsLedgerTest, runFoundTest, runAdjoinsTest, runNearestTest, treeLeastTest, treeSparesTest, treeCycleTest, treeKeyedTest, treeHidesTest, oneKeyUnsealedTest, otherKeyKeptTest, ownKeySetTest, bothWindowsClosedTest, writeAccessNeededTest, windowSetByTest, windowLaterTest, intervalZeroKeptTest, isSound, endsSooner, windowsKeptTest, withContents, sameHiddenTest, secrecyTest, trialsTest}
 
 -- To compute a row, its proof unfolds this one name. A wrong rule makes use of `orElse`.
 unfoldable pub computing : Unit {0}
@@ -60,6 +62,30 @@ chain = drawn 2 (1 ∷ 1 ∷ 1 ∷ zeros 13) (zeros 64) (0 ∷ 1 ∷ 1 ∷ zeros
 -- The root points to blocks 1 and 2, and block 1 to block 2.
 abbrev twice : Card
 twice = drawn 3 (1 ∷ 1 ∷ 1 ∷ zeros 13) (zeros 64) (0 ∷ 1 ∷ 2 ∷ zeros 13) (1 ∷ 2 ∷ 65538 ∷ zeros 29) (zeros 8192)
+
+-- The root points to block 1, and that to block 2, which has a write key.
+abbrev chainKeyed : Card
+chainKeyed = drawn 2 (1 ∷ 1 ∷ 5 ∷ zeros 13) (zeros 10 ++ (3 ∷ 4 ∷ zeros 52)) (0 ∷ 1 ∷ 1 ∷ zeros 13) (1 ∷ 65538 ∷ zeros 30) (zeros 8192)
+
+-- A chain of pointers through all blocks, from each to the next.
+abbrev path : Card
+path =
+    drawn 15 (replicate 16 1) (zeros 64) (0 ∷ replicate 15 1)
+    (pointer 0 1 ∷ pointer 1 2 ∷ pointer 2 3 ∷ pointer 3 4 ∷ pointer 4 5 ∷ pointer 5 6 ∷ pointer 6 7 ∷ pointer 7 8 ∷ pointer 8 9
+    ∷ pointer 9 10 ∷ pointer 10 11 ∷ pointer 11 12 ∷ pointer 12 13 ∷ pointer 13 14 ∷ pointer 14 15 ∷ zeros 17)
+    (zeros 8192)
+
+-- The root points to block 1, and blocks 1 and 2 to each other.
+abbrev cycle : Card
+cycle = drawn 3 (1 ∷ 1 ∷ 1 ∷ zeros 13) (zeros 64) (0 ∷ 2 ∷ 1 ∷ zeros 13) (1 ∷ 65538 ∷ 131073 ∷ zeros 29) (zeros 8192)
+
+-- The root points to blocks 1 and 2, and those to block 3, block 1 twice.
+abbrev shared : Card
+shared =
+    card (withUsed (freshInfo 16 1 512) 4) (1 ∷ 1 ∷ 1 ∷ 1 ∷ zeros 12) (zeros 64) (0 ∷ 1 ∷ 1 ∷ 3 ∷ zeros 12) (1 ∷ 2 ∷ 65539 ∷ 131075 ∷ zeros 28)
+    (1 ∷ 1 ∷ 2 ∷ 1 ∷ zeros 28)
+    (zeros 32)
+    (zeros 8192)
 
 -- The root points to block 2, so many times, and no other block is taken.
 abbrev often : ℕ → Card
@@ -131,6 +157,10 @@ pub delete-answers-a-refusal-and-deletes : refusalUnchangedTest twoBelow (delete
 unfolding computing
 delete-answers-a-refusal-and-deletes = refl
 
+pub tree-deleted-before-fifteen-is-judged : refusalUnchangedTest (keyed (zeros 8192)) (deleteTree Service 0 1) ≡ true
+unfolding computing
+tree-deleted-before-fifteen-is-judged = refl
+
 -- ---- ports-alike
 
 pub service-free-answers-nothing : portsAlikeTest playerCard Free (lending []) ≡ true
@@ -190,6 +220,10 @@ allotted-block-pointed-to-twice = refl
 pub multiplicities-not-shifted : ledgerTest (often 2) (alloc Service 0 65535 1 ∷ delete Service 0 2 ∷ []) 0 2 ≡ true
 unfolding computing
 multiplicities-not-shifted = refl
+
+pub removed-pointer-taken-once : madeAndTakenTest (often 2) (deleteTree Service 0 2) 0 2 ≡ true
+unfolding computing
+removed-pointer-taken-once = refl
 
 pub raised-pointer-counted-twice : countsLedgerTest twoBelow (create Service 0 Nothing 1 Nothing ∷ []) 1 ≡ true
 unfolding computing
@@ -279,6 +313,76 @@ nearest-block-for-the-first = refl
 pub hint-passed-over : runNearestTest Service playerCard (below0 8 3) (lending []) 8 ≡ true
 unfolding computing
 hint-passed-over = refl
+
+-- ---- tree-least, tree-spares, tree-cycle and tree-keyed: a pointer removed, by its ends, and with it a tree
+
+abbrev treeOf : ℕ → ℕ → DeleteOperands
+treeOf a b = record { source = a; credential = Nothing; destination = b }
+
+abbrev noRoot : ℕ → Bool
+noRoot b = ltb 0 b
+
+pub one-generation-only : treeLeastTest Service chain (treeOf 0 1) (lending []) noRoot ≡ true
+unfolding computing
+one-generation-only = refl
+
+pub two-rounds-too-few : treeLeastTest Service path (treeOf 0 1) (lending []) noRoot ≡ true
+unfolding computing
+two-rounds-too-few = refl
+
+pub pointer-from-outside-overlooked : treeLeastTest Service twice (treeOf 0 1) (lending []) (λ b. eqb b 1) ≡ true
+unfolding computing
+pointer-from-outside-overlooked = refl
+
+pub root-freed-with-its-tree : treeLeastTest Service chain (treeOf 0 1) (lending []) noRoot ≡ true
+unfolding computing
+root-freed-with-its-tree = refl
+
+pub counts-left-with-freed-sources : treeSparesTest Service twice (treeOf 0 1) (lending []) ≡ true
+unfolding computing
+counts-left-with-freed-sources = refl
+
+pub freed-blocks-keep-their-pointers : treeSparesTest Service twice (treeOf 0 1) (lending []) ≡ true
+unfolding computing
+freed-blocks-keep-their-pointers = refl
+
+pub multiplicities-left-in-their-places : treeSparesTest Service shared (treeOf 0 1) (lending []) ≡ true
+unfolding computing
+multiplicities-left-in-their-places = refl
+
+pub greatest-set-freed : treeCycleTest Service cycle (treeOf 0 1) (lending []) noRoot ≡ true
+unfolding computing
+greatest-set-freed = refl
+
+pub destination-freed-though-pointed-to : treeCycleTest Service cycle (treeOf 0 1) (lending []) noRoot ≡ true
+unfolding computing
+destination-freed-though-pointed-to = refl
+
+pub fifteen-judged-on-read-keys : treeKeyedTest Service writeKeyed (treeOf 0 1) (lending []) ≡ true
+unfolding computing
+fifteen-judged-on-read-keys = refl
+
+pub fifteen-judged-on-the-destination-alone : treeKeyedTest Service chainKeyed (treeOf 0 1) (lending []) ≡ true
+unfolding computing
+fifteen-judged-on-the-destination-alone = refl
+
+-- ---- tree-hides
+
+-- The root points to block 1, and that to block 2, which has both keys. The root's window for writing is open.
+abbrev belowOpen : Card
+belowOpen =
+    timed (drawn 2 (1 ∷ 1 ∷ 7 ∷ zeros 13) (zeros 8 ++ (5 ∷ 6 ∷ 7 ∷ 8 ∷ zeros 52)) (0 ∷ 1 ∷ 1 ∷ zeros 13) (1 ∷ 65538 ∷ zeros 30) (below 5)) 0 (0 ∷ 10 ∷ zeros 30)
+
+abbrev treeFrom1 : Credential → DeleteOperands
+treeFrom1 credential = record { source = 1; credential = credential; destination = 2 }
+
+pub fifteen-never-judged : treeHidesTest nested (treeFrom1 (KeyCredential 3 4)) (lending []) atMostOne ≡ true
+unfolding computing
+fifteen-never-judged = refl
+
+pub fifteen-judged-on-the-source : treeHidesTest belowOpen (treeFrom1 (Reference 0)) (lending []) atMostOne ≡ true
+unfolding computing
+fifteen-judged-on-the-source = refl
 
 -- ---- one-key-unsealed
 

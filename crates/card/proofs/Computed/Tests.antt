@@ -1,7 +1,7 @@
 -- For each theorem about the rules a test: what it says of given cards and calls, or a part of it, as a value that can be computed.
 -- Each test is shown to hold of everything by its theorem. So where a test is false, its theorem is false.
-use Prim.Native.Nat.{ℕ, _+_, max}
-use mathlib.Core.Path.{_≡_, refl, sym, ap, _∙_}
+use Prim.Native.Nat.{ℕ, _+_, _<_, max}
+use mathlib.Core.Path.{_≡_, refl, sym, ap, _∙_, subst}
 use mathlib.Core.Logic.{_⊎_, inl, inr, ⊎-elim}
 use mathlib.Core.Bool.{Bool, true, false, _&&_, _||_, not, cond}
 use mathlib.Core.List.{List, [], _∷_, map}
@@ -9,22 +9,25 @@ use lib.Dec.{eqb, ltb, leb}
 use lib.ListN.{length, take, drop, getD}
 use native.Mathlib.Omega.{arith}
 use borrow.Author.Tests.{lt-ltb, ltb-true, le-leb, leb-true, eqb-true, eqb-false, eq-eqb, not-true}
-use Rattle.card.specs.Lists.{every, all, allBelow, sumBelow}
-use Rattle.card.specs.ListsLaws.{and-left, and-right, and-true, or-left, or-right, or-cases, or-else, absurd-test, false-unless, not-cases, every-true, allBelow-true, true-allBelow}
-use Rattle.card.specs.Pointers.{ascending, pointersTo}
+use Rattle.card.specs.Lists.{every, all, any, allBelow, numbersBelow, sumBelow}
+use Rattle.card.specs.ListsLaws.{and-left, and-right, and-true, or-left, or-right, or-cases, or-else, absurd-test, false-unless, not-cases, same-test, Holds, every-true, true-every, allBelow-true, true-allBelow}
+use Rattle.card.specs.Pointers.{pointer, source, destination, ascending, contains, pointersTo}
+use Rattle.card.specs.PointersLaws.{source-pointer, destination-pointer, contains-all, all-contains}
+use Rattle.card.specs.LeastLaws.{Some, any-member, member-any, least-own}
 use Rattle.card.specs.Contents.{zeros}
-use Rattle.card.specs.Card.{Public, Card, allocated, hasKey, isRoot, freeBlocks, windowEnd, windowOpen, count, inUse, timesInUse, multiplicity, pointsTo, keyHigh, keyLow, block}
+use Rattle.card.specs.Card.{Public, Card, flag, allocated, hasKey, isRoot, freeBlocks, windowEnd, windowOpen, count, inUse, timesInUse, multiplicity, pointsTo, keyHigh, keyLow, block}
+use Rattle.card.specs.Tree.{orphaned, orphans}
 use Rattle.card.specs.Soundness.{ranges, lengths, shape, sound}
 use Rattle.card.specs.SoundCard.{SoundCard}
-use Rattle.card.specs.SoundnessLaws.{shape-true, true-shape, sound-true, true-sound}
-use Rattle.card.specs.Plan.{Check, _⇒_, FirstHolds, here, later, NoneHolds, isPresent, highWord, lowWord, otherMode, keyBit, Buffers, Result}
+use Rattle.card.specs.SoundnessLaws.{shape-true, true-shape, sound-true, true-sound, allocated-below}
+use Rattle.card.specs.Plan.{Check, _⇒_, FirstHolds, here, later, NoneHolds, isPresent, highWord, lowWord, otherMode, keyBit, changePublic, Buffers, Result}
 use Rattle.card.specs.ChangesLaws.{other-mode}
-use Rattle.card.specs.Calls.{refusalNumber, answerNumber, answerValues, isDone, format, noHint, distance, isRun}
+use Rattle.card.specs.Calls.{refusalNumber, answerNumber, answerValues, isDone, format, noHint, distance, isRun, freedWith}
 use Rattle.card.specs.RunsLaws.{run-blocks, blocks-run}
 use Rattle.card.specs.Ledger.{made as madeBy, taken as takenBy, madeInAll, takenInAll}
 use Rattle.card.specs.Session.{Request, Sent, portOf, EitherPort, refusals, perform, performed, reply, replies, afterAll, hostSession}
 use Rattle.card.specs.SessionLaws.{ports-alike}
-use Rattle.card.specs.Reach.{presented, keyPresented, sealed, Reach, unsealedRoot, byKey, Hidden, lastTaken}
+use Rattle.card.specs.Reach.{presents, presented, keyPresented, sealed, Reach, unsealedRoot, byKey, Hidden, lastTaken}
 use Rattle.card.specs.Trials.{Trial, trialTable, trialReports, trials}
 use Rattle.card.specs.declared.Port.{Port}
 use Rattle.card.specs.declared.Port.the-variants.{Host, Service}
@@ -36,10 +39,11 @@ use Rattle.card.specs.declared.NewKey.{NewKey}
 use Rattle.card.specs.declared.Refusal.{Refusal}
 use Rattle.card.specs.declared.Answer.{Answer}
 use Rattle.card.specs.declared.Answer.the-variants.{Refused, Done, Value}
-use Rattle.card.specs.declared.Refusal.the-variants.{Misshapen, Unsound, NotAllocated, BadOperand, NotOpened, IsRoot, CannotPoint, NoPointer, HasPointers, TooFewBlocks, TooFewPlaces, TimeEnds, BadRecord, NoRun}
+use Rattle.card.specs.declared.Refusal.the-variants.{Misshapen, Unsound, NotAllocated, BadOperand, NotOpened, IsRoot, CannotPoint, NoPointer, HasPointers, TooFewBlocks, TooFewPlaces, TimeEnds, BadRecord, NoRun, HasWriteKey}
 use Rattle.card.specs.declared.Call.{Call}
-use Rattle.card.specs.declared.Call.the-variants.{Read, Write, Alloc, AllocContig, Create, Delete, KeyRead, KeyWrite, Renew, Force, Free, Tick, Audit}
+use Rattle.card.specs.declared.Call.the-variants.{Read, Write, Alloc, AllocContig, Create, Delete, DeleteTree, KeyRead, KeyWrite, Renew, Force, Free, Tick, Audit}
 use Rattle.card.specs.declared.AllocOperands.{AllocOperands}
+use Rattle.card.specs.declared.DeleteOperands.{DeleteOperands}
 use Rattle.card.specs.declared.KeyOperands.{KeyOperands}
 use Rattle.card.proofs.Guarantees.Judged.{RefusedBy}
 use Rattle.card.proofs.Guarantees.Unchanged.{Unchanged, refusal-unchanged}
@@ -49,9 +53,13 @@ use Rattle.card.proofs.Guarantees.Format.{format-sound}
 use Rattle.card.proofs.Guarantees.Untouched.{LeftAlone, AllottedZeroed, untouched}
 use Rattle.card.proofs.Guarantees.RefusedIff.{RefusedIff, refused-iff}
 use Rattle.card.proofs.Guarantees.Runs.{Run, contig, some-blocks, run-found, run-adjoins, run-nearest}
+use Rattle.card.proofs.Guarantees.PointerSteps.{block-narrow}
+use Rattle.card.proofs.Guarantees.Severing.{Spared}
+use Rattle.card.proofs.Guarantees.Trees.{deletingTree, Freed, removed, HoldsDestination, HoldsFollowers, LeastFreed, RestSpared, PointedWithin, true-removed, removed-true, DoneTree, done-tree, removed-points, tree-least, tree-spares, tree-cycle, tree-keyed}
 use Rattle.card.proofs.Guarantees.Keys.{setting, WriteAccess, byWriteKey, byReference, one-key-unsealed, other-key-kept, own-key-set, both-windows-closed, write-access-needed}
 use Rattle.card.proofs.Guarantees.Windows.{SetsWindow, SetBy, Shortens, byForce, byKeyRead, byKeyWrite, byFreeing, window-set-by, window-later, interval-zero-kept, windows-kept}
 use Rattle.card.proofs.Secrecy.Theorem.{EqualBut, HiddenOrFree, Secret, same-hidden, secrecy}
+use Rattle.card.proofs.Secrecy.Trees.{Survives, tree-hides}
 use Rattle.card.proofs.Secrecy.Bounds.{bounds, reach-inside}
 use Rattle.card.proofs.Computed.Same.{sameList, sameList-true, true-sameList, sameLists, true-sameLists, cardNumbers, replyNumbers, allLines}
 
@@ -153,7 +161,7 @@ madeAndTakenTest c s a b =
     let r = performed c s in
     let call = s .request .call in
     implies (ltb b 65536)
-    (eqb (multiplicity (r .after .public) a b + takenBy call (reply r) a b) (multiplicity (c .public) a b + madeBy call (reply r) a b))
+    (eqb (multiplicity (r .after .public) a b + takenBy c call (reply r) a b) (multiplicity (c .public) a b + madeBy call (reply r) a b))
 
 pub made-and-taken-tested : (c : Card) (s : Sent) (a b : ℕ) → madeAndTakenTest c s a b ≡ true
 made-and-taken-tested c s a b = true-implies (ltb b 65536) _ (λ h. eq-eqb _ _ (made-and-taken (s .port) c (s .request) a b (ltb-true _ _ h)))
@@ -287,6 +295,7 @@ refusal-14 TooFewPlaces e = absurd (omega (arith, e))
 refusal-14 TimeEnds e = absurd (omega (arith, e))
 refusal-14 BadRecord e = absurd (omega (arith, e))
 refusal-14 NoRun e = refl
+refusal-14 HasWriteKey e = absurd (omega (arith, e))
 
 answer-14 : (a : Answer) → answerNumber a ≡ 14 → a ≡ Refused NoRun
 answer-14 (Refused r) e = ap Refused (refusal-14 r e)
@@ -373,6 +382,329 @@ run-nearest-tested port c o lent other =
     let near = r .hinted (eqb-false _ _ (not-true _ n)) in
     and-true _ _ (le-leb _ _ (near .0)) (true-implies (ltb other (given port c o lent 0)) _ (λ l. lt-ltb _ _ (near .1 (ltb-true _ _ l))))))
     (true-implies (eqb (o .hint) noHint) _ (λ e. le-leb _ _ (r .unhinted (eqb-true _ _ e)))))
+
+-- ---- tree-least, tree-spares, tree-cycle and tree-keyed
+
+-- A block's flags, the words of its keys, its windows and its contents.
+abbrev blockNumbers : Card → ℕ → List ℕ
+blockNumbers c b =
+    flag (c .public) b
+    ∷ keyHigh (c .keys) Reading b
+    ∷ keyLow (c .keys) Reading b
+    ∷ keyHigh (c .keys) Writing b
+    ∷ keyLow (c .keys) Writing b
+    ∷ windowEnd (c .public) Reading b
+    ∷ windowEnd (c .public) Writing b
+    ∷ block c b
+
+-- The tests are worked out apart from the rules' own `freedWith`: from the pointers before the call, and from what is allocated before and after it.
+-- Which pointers are there once the one is removed, of which tree-least and tree-cycle speak, is told by `removed-points`.
+module _ (port : Port) (c : Card) (o : DeleteOperands) (lent : Buffers) where
+  abbrev treeResult : Result
+  treeResult = perform port c (deletingTree o lent)
+
+  abbrev treeLeft : Card
+  treeLeft = treeResult .after
+
+  abbrev isFreed : ℕ → Bool
+  isFreed b = allocated (c .public) b && not (allocated (treeLeft .public) b)
+
+  -- Of a pointer in use: it leads to the block, and is not the one that is removed.
+  abbrev leads : ℕ → ℕ → Bool
+  leads b w = eqb (destination w) b && not (eqb (source w) (o .source) && eqb b (o .destination))
+
+  -- An allocated block that is no root and has a pointer, every one from a block of the set.
+  abbrev followsTests : (ℕ → Bool) → ℕ → List Bool
+  followsTests G b =
+      allocated (c .public) b
+      ∷ not (isRoot (c .public) b)
+      ∷ any (leads b) (inUse (c .public))
+      ∷ all (λ w. implies (leads b w) (G (source w))) (inUse (c .public))
+      ∷ []
+
+  -- The set holds the destination, where no pointer leads to it, and each block that follows.
+  abbrev holds : (ℕ → Bool) → Bool
+  holds G =
+      implies (not (any (leads (o .destination)) (inUse (c .public)))) (G (o .destination))
+      && allBelow (λ b. implies (every (followsTests G b)) (G b)) (c .public .info .blocks)
+
+  -- The freed blocks are such a set, within the given set if that is one, and the answer is how many they are.
+  abbrev leastTests : (ℕ → Bool) → List Bool
+  leastTests named =
+      holds isFreed
+      ∷ implies (holds named) (allBelow (λ b. implies (isFreed b) (named b)) (c .public .info .blocks))
+      ∷ sameList (answerValues (treeResult .answer)) (length (numbersBelow isFreed (c .public .info .blocks)) ∷ [])
+      ∷ []
+
+  abbrev pub treeLeastTest : (ℕ → Bool) → Bool
+  treeLeastTest named = implies (isDone (treeResult .answer)) (every (leastTests named))
+
+  abbrev isGone : ℕ → ℕ → Bool
+  isGone a b = (eqb (o .source) a && eqb (o .destination) b) || isFreed a
+
+  -- A pointer that goes is not there after the call, and any other is as before.
+  abbrev timesLeft : ℕ → Bool
+  timesLeft w =
+      eqb (multiplicity (treeLeft .public) (source w) (destination w))
+      (cond (isGone (source w) (destination w)) 0 (multiplicity (c .public) (source w) (destination w)))
+
+  abbrev isSpared : ℕ → Bool
+  isSpared b = isFreed b || sameList (blockNumbers treeLeft b) (blockNumbers c b)
+
+  abbrev isCounted : ℕ → Bool
+  isCounted b = eqb (count (treeLeft .public) b) (pointersTo b (inUse (treeLeft .public)) (timesInUse (treeLeft .public)))
+
+  abbrev sparesTests : List Bool
+  sparesTests =
+      allBelow isSpared (c .public .info .blocks)
+      ∷ allBelow isCounted (treeLeft .public .info .blocks)
+      ∷ all timesLeft (inUse (c .public))
+      ∷ all timesLeft (inUse (treeLeft .public))
+      ∷ []
+
+  abbrev pub treeSparesTest : Bool
+  treeSparesTest = implies (isDone (treeResult .answer)) (every sparesTests)
+
+  -- Where each allocated block of the given set has a pointer from such a block, all of them stay.
+  module _ (named : ℕ → Bool) where
+    abbrev inside : ℕ → Bool
+    inside b = allocated (c .public) b && named b
+
+    abbrev ledFromInside : ℕ → Bool
+    ledFromInside b = implies (inside b) (any (λ w. leads b w && inside (source w)) (inUse (c .public)))
+
+    abbrev pub treeCycleTest : Bool
+    treeCycleTest =
+        implies (isDone (treeResult .answer) && allBelow ledFromInside (c .public .info .blocks))
+        (allBelow (λ b. implies (inside b) (allocated (treeLeft .public) b)) (c .public .info .blocks))
+
+  abbrev keyedStays : ℕ → Bool
+  keyedStays b = implies (allocated (c .public) b && hasKey (c .public) Writing b) (allocated (treeLeft .public) b)
+
+  abbrev pub treeKeyedTest : Bool
+  treeKeyedTest = allBelow keyedStays (c .public .info .blocks)
+
+  freed-is : (b : ℕ) → Freed c treeLeft b → isFreed b ≡ true
+  freed-is b f = and-true _ _ (f .before) (ap not (f .after))
+
+  is-freed : (b : ℕ) → isFreed b ≡ true → Freed c treeLeft b
+  is-freed b e = record { before = and-left _ _ e; after = not-true _ (and-right (allocated (c .public) b) _ e) }
+
+  module _ (e : isDone (treeResult .answer) ≡ true) where
+    known : DoneTree port c o lent treeResult
+    known = done-tree port c o lent e
+
+    narrow : (b : ℕ) → b < c .public .info .blocks → b < 65536
+    narrow b l = block-narrow (known .sound) l
+
+    -- The pointers that lead to the block are those that are there once the one is removed.
+    leads-points : (b w : ℕ) → contains w (inUse (c .public)) ≡ true → leads b w ≡ true → pointsTo (removed c o) (source w) b ≡ true
+    unfolding pointsTo
+    leads-points b w h l =
+        let to : destination w ≡ b = eqb-true _ _ (and-left _ _ l) in
+        let whole : pointer (source w) b ≡ w = omega arith in
+        removed-points port c o lent e (source w) b (omega arith)
+        ∙ and-true (contains (pointer (source w) b) (inUse (c .public))) _ (rw whole h) (and-right (eqb (destination w) b) _ l)
+
+    points-leads : (a b : ℕ) → b < 65536 → pointsTo (removed c o) a b ≡ true
+        → (contains (pointer a b) (inUse (c .public)) ≡ true) × (leads b (pointer a b) ≡ true)
+    unfolding pointsTo
+    points-leads a b low h =
+        let both : contains (pointer a b) (inUse (c .public)) && not (eqb a (o .source) && eqb b (o .destination)) ≡ true =
+        sym (removed-points port c o lent e a b low) ∙ h in (
+          and-left _ _ both,
+          and-true _ _ (eq-eqb (destination (pointer a b)) b (destination-pointer a b low))
+              (subst (λ (k : ℕ). not (eqb k (o .source) && eqb b (o .destination)) ≡ true) (sym (source-pointer a b low))
+              (and-right (contains (pointer a b) (inUse (c .public))) _ both)),
+        )
+
+    true-holds : (G : ℕ → Bool) → HoldsDestination c o (λ b. G b ≡ true) → HoldsFollowers c o (λ b. G b ≡ true) → holds G ≡ true
+    true-holds G first next =
+        let ws : List ℕ = inUse (c .public) in
+        let d : ℕ = o .destination in
+        and-true _ _
+        (true-implies (not (any (leads d) ws)) _
+        (λ none.
+        first
+        (λ a q.
+        let there : (contains (pointer a d) ws ≡ true) × (leads d (pointer a d) ≡ true) = points-leads a d (narrow d (allocated-below (c .public) d (known .held))) q in
+        absurd-test (any-member (leads d) ws (pointer a d) (there .0) (there .1)) (not-true _ none))))
+        (true-allBelow (λ b. implies (every (followsTests G b)) (G b)) (c .public .info .blocks)
+        (λ b l.
+        true-implies (every (followsTests G b)) _
+        (λ h.
+        let t : Holds (followsTests G b) = every-true (followsTests G b) h in
+        let some : Some (leads b) ws = member-any (leads b) ws (t .1 .1 .0) in
+        next b (t .0) (not-true _ (t .1 .0)) (source (some .which)) (leads-points b (some .which) (some .within) (some .passes))
+        (λ a q.
+        let there : (contains (pointer a b) ws ≡ true) × (leads b (pointer a b) ≡ true) = points-leads a b (narrow b l) q in
+        subst (λ (k : ℕ). G k ≡ true) (source-pointer a b (narrow b l))
+        (or-else (not (leads b (pointer a b))) _
+        (contains-all (λ w. implies (leads b w) (G (source w))) (pointer a b) ws (there .0) (t .1 .1 .1 .0))
+        (ap not (there .1)))))))
+
+    holds-destination : (G : ℕ → Bool) → holds G ≡ true → HoldsDestination c o (λ b. G b ≡ true)
+    holds-destination G h none =
+        let ws : List ℕ = inUse (c .public) in
+        let d : ℕ = o .destination in
+        or-else (not (not (any (leads d) ws))) _ (and-left _ _ h)
+        (ap (λ (t : Bool). not (not t))
+        (false-unless _
+        (λ q.
+        let some : Some (leads d) ws = member-any (leads d) ws q in
+        none (source (some .which)) (leads-points d (some .which) (some .within) (some .passes)))))
+
+    holds-followers : (G : ℕ → Bool) → holds G ≡ true → HoldsFollowers c o (λ b. G b ≡ true)
+    holds-followers G h b held noRoot a q from =
+        let ws : List ℕ = inUse (c .public) in
+        let l : b < c .public .info .blocks = allocated-below (c .public) b held in
+        let there : (contains (pointer a b) ws ≡ true) × (leads b (pointer a b) ≡ true) = points-leads a b (narrow b l) q in
+        or-else (not (every (followsTests G b))) _
+        (allBelow-true (λ b. implies (every (followsTests G b)) (G b)) (c .public .info .blocks)
+        (and-right (implies (not (any (leads (o .destination)) ws)) (G (o .destination))) _ h)
+        b
+        l)
+        (ap not
+        (true-every (followsTests G b) (
+          held,
+          (
+            ap not noRoot,
+            (
+              any-member (leads b) ws (pointer a b) (there .0) (there .1),
+              (
+                all-contains (λ w. implies (leads b w) (G (source w))) ws (λ w m. true-implies (leads b w) _ (λ t. from (source w) (leads-points b w m t))),
+                tt,
+              ),
+            ),
+          ),
+        )))
+
+    -- The blocks that are freed, in order, are those that the rules list.
+    freed-numbers : LeastFreed c treeLeft o (treeResult .answer) → numbersBelow isFreed (c .public .info .blocks) ≡ freedWith (c .public) (o .source) (o .destination)
+    unfolding freedWith orphans changePublic
+    freed-numbers t =
+        least-own (orphaned (removed c o)) (c .public .info .blocks) isFreed
+        (λ b l. same-test _ _ (λ f. t .listed b .1 (is-freed b f)) (λ f. freed-is b (t .listed b .0 f)))
+
+    least-tests : (named : ℕ → Bool) → Holds (leastTests named)
+    least-tests named =
+        let t : LeastFreed c treeLeft o (treeResult .answer) = tree-least port c o lent e in (
+          true-holds isFreed (λ none. freed-is (o .destination) (t .destinationFreed none))
+              (λ b held noRoot a q from. freed-is b (t .followersFreed b held noRoot (λ a q. is-freed a (from a q)))),
+          (
+            true-implies (holds named) _
+                (λ h.
+                true-allBelow (λ b. implies (isFreed b) (named b)) _
+                (λ b l. true-implies (isFreed b) _ (λ f. t .least (λ b. named b ≡ true) (holds-destination named h) (holds-followers named h) b (is-freed b f)))),
+            (true-sameList (ap answerValues (t .answers) ∙ ap (λ (bs : List ℕ). length bs ∷ []) (sym (freed-numbers t))), tt),
+          ),
+        )
+
+    times-left : RestSpared c treeLeft o → (w : ℕ) → timesLeft w ≡ true
+    times-left r w = go (source w) (destination w) (omega arith) (isGone (source w) (destination w)) refl
+      where
+        go : (a b : ℕ) → b < 65536 → (t : Bool) → isGone a b ≡ t → eqb (multiplicity (treeLeft .public) a b) (cond t 0 (multiplicity (c .public) a b)) ≡ true
+        go a b low true q = eq-eqb _ _ (r .gone a b low (removed-true o a b _ (is-freed a) q))
+        go a b low false q = eq-eqb _ _ (r .left a b low (λ g. absurd-test (true-removed o a b _ (freed-is a) g) q))
+
+    is-spared : RestSpared c treeLeft o → (b : ℕ) → isSpared b ≡ true
+    is-spared r b = go (isFreed b) refl
+      where
+        go : (t : Bool) → isFreed b ≡ t → t || sameList (blockNumbers treeLeft b) (blockNumbers c b) ≡ true
+        go true q = refl
+        go false q =
+            let s : Spared c treeLeft b = r .spared b (λ f. absurd-test (freed-is b f) q) in
+            true-sameList
+            (λ i.
+            s .flags i
+            ∷ s .high Reading i
+            ∷ s .low Reading i
+            ∷ s .high Writing i
+            ∷ s .low Writing i
+            ∷ s .window Reading i
+            ∷ s .window Writing i
+            ∷ s .contents i)
+
+    spares-tests : Holds sparesTests
+    spares-tests =
+        let r : RestSpared c treeLeft o = tree-spares port c o lent e in (
+          true-allBelow isSpared _ (λ b l. is-spared r b),
+          (
+            true-allBelow isCounted _ (λ b l. eq-eqb _ _ (r .counted b l)),
+            (all-contains timesLeft (inUse (c .public)) (λ w h. times-left r w), (all-contains timesLeft (inUse (treeLeft .public)) (λ w h. times-left r w), tt)),
+          ),
+        )
+
+    led-within : (named : ℕ → Bool) → allBelow (ledFromInside named) (c .public .info .blocks) ≡ true
+        → (b : ℕ) → inside named b ≡ true → PointedWithin (removed c o) (λ b. inside named b ≡ true) b
+    led-within named h b i =
+        let q : ℕ → Bool = λ w. leads b w && inside named (source w) in
+        let some : Some q (inUse (c .public)) =
+        member-any q (inUse (c .public))
+        (or-else (not (inside named b)) _
+        (allBelow-true (ledFromInside named) (c .public .info .blocks) h b (allocated-below (c .public) b (and-left _ _ i)))
+        (ap not i)) in
+        record {
+          from = source (some .which);
+          within = and-right (leads b (some .which)) _ (some .passes);
+          points = leads-points b (some .which) (some .within) (and-left _ _ (some .passes));
+        }
+
+pub tree-least-tested : (port : Port) (c : Card) (o : DeleteOperands) (lent : Buffers) (named : ℕ → Bool) → treeLeastTest port c o lent named ≡ true
+tree-least-tested port c o lent named =
+    true-implies (isDone (treeResult port c o lent .answer)) _ (λ e. true-every (leastTests port c o lent named) (least-tests port c o lent e named))
+
+pub tree-spares-tested : (port : Port) (c : Card) (o : DeleteOperands) (lent : Buffers) → treeSparesTest port c o lent ≡ true
+tree-spares-tested port c o lent =
+    true-implies (isDone (treeResult port c o lent .answer)) _ (λ e. true-every (sparesTests port c o lent) (spares-tests port c o lent e))
+
+pub tree-cycle-tested : (port : Port) (c : Card) (o : DeleteOperands) (lent : Buffers) (named : ℕ → Bool) → treeCycleTest port c o lent named ≡ true
+tree-cycle-tested port c o lent named =
+    let n = c .public .info .blocks in
+    let cycle = inside port c o lent named in
+    true-implies (isDone (treeResult port c o lent .answer) && allBelow (ledFromInside port c o lent named) n) _
+    (λ h.
+    let e : isDone (treeResult port c o lent .answer) ≡ true = and-left _ _ h in
+    true-allBelow (λ b. implies (cycle b) (allocated (treeLeft port c o lent .public) b)) n
+    (λ b l.
+    true-implies (cycle b) _
+    (tree-cycle port c o lent e (λ b. cycle b ≡ true) (λ b i. and-left _ _ i)
+    (led-within port c o lent e named (and-right (isDone (treeResult port c o lent .answer)) _ h))
+    b)))
+
+pub tree-keyed-tested : (port : Port) (c : Card) (o : DeleteOperands) (lent : Buffers) → treeKeyedTest port c o lent ≡ true
+tree-keyed-tested port c o lent =
+    true-allBelow (keyedStays port c o lent) _
+    (λ b l.
+    true-implies (allocated (c .public) b && hasKey (c .public) Writing b) _
+    (λ h. tree-keyed port c o lent b (and-left _ _ h) (and-right (allocated (c .public) b) _ h)))
+
+-- ---- tree-hides
+
+-- Where the named blocks bound what is within reach of the key that is presented, an allocated block that is not named survives a host's DELETE_TREE.
+module _ (c : Card) (o : DeleteOperands) (lent : Buffers) (named : ℕ → Bool) where
+  abbrev hostLeft : Card
+  hostLeft = treeLeft Host c o lent
+
+  abbrev survives : ℕ → Bool
+  survives b = implies (allocated (c .public) b && not (named b)) (allocated (hostLeft .public) b && sameList (block hostLeft b) (block c b))
+
+  abbrev pub treeHidesTest : Bool
+  treeHidesTest = implies (bounds (presents (DeleteTree o)) c named) (allBelow survives (c .public .info .blocks))
+
+pub tree-hides-tested : (c : Card) (o : DeleteOperands) (lent : Buffers) (named : ℕ → Bool) → treeHidesTest c o lent named ≡ true
+tree-hides-tested c o lent named =
+    let K = presents (DeleteTree o) in
+    true-implies (bounds K c named) _
+    (λ h.
+    true-allBelow (survives c o lent named) _
+    (λ b l.
+    true-implies (allocated (c .public) b && not (named b)) _
+    (λ g.
+    let out : named b ≡ false = not-true _ (and-right (allocated (c .public) b) _ g) in
+    let kept : Survives c (hostLeft c o lent named) b =
+    tree-hides K c o lent (λ high low p. p) b (record { isAllocated = and-left _ _ g; outOfReach = λ r. absurd-test (reach-inside K c named h r) out }) in
+    and-true _ _ (kept .stillAllocated) (true-sameList (kept .sameBlock)))))
 
 -- ---- one-key-unsealed, other-key-kept, own-key-set, both-windows-closed and write-access-needed
 
@@ -508,6 +840,7 @@ closesBlock (Alloc o) b = false
 closesBlock (AllocContig o) b = false
 closesBlock (Create o) b = false
 closesBlock (Delete o) b = false
+closesBlock (DeleteTree o) b = false
 closesBlock (KeyRead o) b = eqb (o .block) b
 closesBlock (KeyWrite o) b = eqb (o .block) b
 closesBlock (Renew o) b = false

@@ -16,7 +16,7 @@ use Rattle.card.specs.Soundness.{timeLimit}
 use Rattle.card.specs.SoundCard.{SoundCard}
 use Rattle.card.specs.SoundnessLaws.{multiplicityRight-low, allocated-below}
 use Rattle.card.specs.Plan.{NoneHolds, setWindow, freeBlock, addPointer, raisePointer, lowerPointer, dropPointer, withFlags, changePublic, change, changes, Buffers, Result, settle}
-use Rattle.card.specs.Calls.{missing, windowAfter, opensWindow, wanted, picks, takeAll, closeWindows, modeOf, readPlan, writePlan, allocPlan, runStarts, nearestRun, allocContigPlan, createPlan, deletePlan, keyPlan, renewPlan, forcePlan, freePlan, tickPlan, auditPlan}
+use Rattle.card.specs.Calls.{missing, windowAfter, opensWindow, wanted, picks, takeAll, closeWindows, modeOf, readPlan, writePlan, allocPlan, runStarts, nearestRun, allocContigPlan, createPlan, deletePlan, deleteTreePlan, keyPlan, renewPlan, forcePlan, freePlan, tickPlan, auditPlan}
 use Rattle.card.specs.Session.{Request, plan, perform}
 use Rattle.card.specs.declared.Port.{Port}
 use Rattle.card.specs.declared.Port.the-variants.{Host, Service}
@@ -34,10 +34,11 @@ use Rattle.card.specs.declared.TickOperands.{TickOperands}
 use Rattle.card.specs.declared.Refusal.{Refusal}
 use Rattle.card.specs.declared.Answer.the-variants.{Refused}
 use Rattle.card.specs.declared.Call.{Call}
-use Rattle.card.specs.declared.Call.the-variants.{Read, Write, Alloc, AllocContig, Create, Delete, KeyRead, KeyWrite, Renew, Force, Free, Tick, Audit}
+use Rattle.card.specs.declared.Call.the-variants.{Read, Write, Alloc, AllocContig, Create, Delete, DeleteTree, KeyRead, KeyWrite, Renew, Force, Free, Tick, Audit}
 use Rattle.card.proofs.Guarantees.Steps.{allocated-set, allocated-other, unallocated-flag, setWindow-sound, setBlock-sound, setKey-sound, setTime-sound}
 use Rattle.card.specs.ChangesLaws.{keyed-allocated, inserted-length}
 use Rattle.card.proofs.Guarantees.PointerSteps.{sound-but, addPointer-sound, takeAdd-sound, raise-sound, lower-sound, times-right, times-counted, dropOne-sound, dropLast-sound}
+use Rattle.card.proofs.Guarantees.Severing.{deleted-sound}
 use Rattle.card.specs.Takeable.{Without, Takeable}
 use Rattle.card.specs.PicksLaws.{distinct-head, distinct-tail, picks-takeable, picks-length}
 use Rattle.card.specs.RunsLaws.{run-takeable, run-length}
@@ -174,6 +175,13 @@ delete-sound port c opened o s h =
         absurd (several (omega (arith, low, counted)))
     go false false m e f = lower-sound (o .source) (o .destination) s held there (eqb-false _ _ m)
 
+-- ---- DELETE_TREE
+
+tree-sound : (port : Port) (c : Card) (opened : Bool) (o : DeleteOperands) → SoundCard c
+    → NoneHolds (deleteTreePlan port (c .public) opened o .checks) → SoundCard (changes c (deleteTreePlan port (c .public) opened o .steps))
+unfolding deleteTreePlan
+tree-sound port c opened o s h = deleted-sound c (o .source) (o .destination) s (not-missing _ _ (h .1 .0)) (not-false _ (h .1 .1 .1 .1 .0))
+
 -- ---- ALLOC
 
 -- The first of the blocks that can be taken.
@@ -262,6 +270,7 @@ call-sound port c (Alloc o) lent = alloc-sound port c _ o _
 call-sound port c (AllocContig o) lent = contig-sound port c _ o _
 call-sound port c (Create o) lent = create-sound port c _ _ o
 call-sound port c (Delete o) lent = delete-sound port c _ o
+call-sound port c (DeleteTree o) lent = tree-sound port c _ o
 call-sound port c (KeyRead o) lent = key-sound port c _ Reading o
 call-sound port c (KeyWrite o) lent = key-sound port c _ Writing o
 call-sound port c (Renew o) lent = renew-sound c _ o

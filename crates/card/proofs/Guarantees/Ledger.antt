@@ -1,6 +1,6 @@
 -- Each call changes multiplicities by just the pointers that it made and took away, and so does a list of calls.
 use Prim.Native.Nat.{ℕ, zero, suc, _+_, _-_, _≤_, _<_}
-use mathlib.Core.Path.{_≡_, refl, sym, ap, _∙_, subst}
+use mathlib.Core.Path.{_≡_, refl, sym, ap, ap₂, _∙_, subst}
 use mathlib.Core.Logic.{⊎-elim}
 use mathlib.Core.Bool.{Bool, true, false, _&&_, _||_, not, cond}
 use mathlib.Core.List.{List, [], _∷_}
@@ -20,16 +20,16 @@ use Rattle.card.specs.Card.{Public, Card, allocated, freeBlocks, count, 
 use Rattle.card.specs.SoundCard.{SoundCard}
 use Rattle.card.specs.SoundnessLaws.{allocated-below, pointerRight-true, multiplicityRight-low}
 use Rattle.card.specs.Soundness.{pointerRight}
-use Rattle.card.specs.Plan.{NoneHolds, Change, setWindow, setBlock, setKey, takeBlock, freeBlock, addPointer, raisePointer, lowerPointer, dropPointer, setTime, changePublic, change, changes, Buffers, Result, refused, placesAfter, settle}
+use Rattle.card.specs.Plan.{NoneHolds, Change, setWindow, setBlock, setKey, takeBlock, freeBlock, addPointer, raisePointer, lowerPointer, dropPointer, dropFrom, setTime, changePublic, change, changes, Buffers, Result, refused, placesAfter, settle}
 use Rattle.card.specs.ChangesLaws.{used-in-step, inserted-take, insertedTimes-take, setTimes-take, removed-take, removedTimes-take}
-use Rattle.card.specs.Calls.{freshCard, windowAfter, opensWindow, wanted, picks, takeAll, readPlan, writePlan, allocPlan, runStarts, nearestRun, allocContigPlan, createPlan, deletePlan, keyPlan, renewPlan, forcePlan, freePlan, tickPlan, auditPlan}
+use Rattle.card.specs.Calls.{freshCard, windowAfter, opensWindow, wanted, picks, takeAll, readPlan, writePlan, allocPlan, runStarts, nearestRun, allocContigPlan, createPlan, deletePlan, freedWith, deleteTreePlan, keyPlan, renewPlan, forcePlan, freePlan, tickPlan, auditPlan}
 use Rattle.card.specs.Takeable.{Without, Takeable}
 use Rattle.card.specs.PicksLaws.{distinct-head, picks-takeable, picks-length}
 use Rattle.card.specs.RunsLaws.{run-takeable, run-length}
 use Rattle.card.specs.Access.{admits}
 use Rattle.card.specs.SessionLaws.{afterAll-blocks}
 use Rattle.card.specs.Session.{Request, Sent, reply, plan, perform, performed, afterAll}
-use Rattle.card.specs.Ledger.{once, made, taken, madeInAll, takenInAll}
+use Rattle.card.specs.Ledger.{once, made, goes, taken, madeInAll, takenInAll}
 use Rattle.card.specs.declared.Port.{Port}
 use Rattle.card.specs.declared.Port.the-variants.{Host, Service}
 use Rattle.card.specs.declared.Mode.{Mode}
@@ -39,15 +39,16 @@ use Rattle.card.specs.declared.AllocOperands.{AllocOperands}
 use Rattle.card.specs.declared.CreateOperands.{CreateOperands}
 use Rattle.card.specs.declared.DeleteOperands.{DeleteOperands}
 use Rattle.card.specs.declared.Call.{Call}
-use Rattle.card.specs.declared.Call.the-variants.{Read, Write, Alloc, AllocContig, Create, Delete, KeyRead, KeyWrite, Renew, Force, Free, Tick, Audit}
+use Rattle.card.specs.declared.Call.the-variants.{Read, Write, Alloc, AllocContig, Create, Delete, DeleteTree, KeyRead, KeyWrite, Renew, Force, Free, Tick, Audit}
 use Rattle.card.proofs.Guarantees.PointerSteps.{block-narrow, no-pointer, times-right}
+use Rattle.card.proofs.Guarantees.Severing.{treeDeleted, deleted-multiplicity}
 use Rattle.card.proofs.Guarantees.KeepsSound.{not-missing, takeable-below, takeable-free, taken-sound, taken-allocated, taken-rest, taken-room, done-sound}
 use Rattle.card.proofs.Guarantees.Judged.{judge-cases}
 
 -- ---- two pointers
 
 -- Two pointers are the same where their ends are.
-pointer-same : (x y a b : ℕ) → y < 65536 → b < 65536 → eqb (pointer x y) (pointer a b) ≡ eqb x a && eqb y b
+pub pointer-same : (x y a b : ℕ) → y < 65536 → b < 65536 → eqb (pointer x y) (pointer a b) ≡ eqb x a && eqb y b
 pointer-same x y a b low narrow =
     same-test (eqb (pointer x y) (pointer a b)) (eqb x a && eqb y b)
     (λ e.
@@ -89,6 +90,7 @@ Plain (addPointer a b) = ⊥
 Plain (raisePointer a b) = ⊥
 Plain (lowerPointer a b) = ⊥
 Plain (dropPointer a b) = ⊥
+Plain (dropFrom bs) = ⊥
 Plain (setTime t) = Unit {0}
 
 plain-kept : (p : Public) (step : Change) → Plain step → (a b : ℕ) → multiplicity (changePublic step p) a b ≡ multiplicity p a b
@@ -102,6 +104,7 @@ plain-kept p (addPointer a b) h x y = absurd h
 plain-kept p (raisePointer a b) h x y = absurd h
 plain-kept p (lowerPointer a b) h x y = absurd h
 plain-kept p (dropPointer a b) h x y = absurd h
+plain-kept p (dropFrom bs) h x y = absurd h
 plain-kept p (setTime t) h x y = refl
 
 abbrev PlainAll : List Change → Type 0
@@ -170,9 +173,9 @@ module _ (p : Public) (x y : ℕ) (linked : Linked p) (low : y < 65536) (a b : �
       let moved : Moved (pointer x y) times (times - 1) (inUse p) (timesInUse p) (inUse q) (timesInUse q) = rw timed (moved-set (pointer x y) (times - 1) step there) in
       fewer-by-one it times (times - 1) _ _ (omega (arith, least)) (multiplicity-moved p q x y times (times - 1) (linked .ascends) (linked .ascends) moved a b low narrow)
 
-  dropped : pointsTo p x y ≡ true → multiplicity p x y ≡ 1 → once it + multiplicity (changePublic (dropPointer x y) p) a b ≡ multiplicity p a b
+  dropped : pointsTo p x y ≡ true → cond it (multiplicity p x y) 0 + multiplicity (changePublic (dropPointer x y) p) a b ≡ multiplicity p a b
   unfolding changePublic pointsTo multiplicity
-  dropped there single =
+  dropped there =
       let q : Public = changePublic (dropPointer x y) p in
       let times : ℕ = multiplicity p x y in
       let listed : inUse q ≡ remove (pointer x y) (inUse p) = removed-take (pointer x y) (p .info .used) (p .pointers) (linked .fit) there in
@@ -180,7 +183,23 @@ module _ (p : Public) (x y : ℕ) (linked : Linked p) (low : y < 65536) (a b : �
       removedTimes-take (pointer x y) (p .info .used) (p .pointers) (p .multiplicities) (linked .fit) (linked .same) there in
       let moved : Moved (pointer x y) times 0 (inUse p) (timesInUse p) (inUse q) (timesInUse q) = rw (listed, timed) (moved-remove (pointer x y) step there) in
       let up : ascending (inUse q) ≡ true = rw listed (remove-ascending (pointer x y) (inUse p) (linked .ascends)) in
-      fewer-by-one it times 0 _ _ single (multiplicity-moved p q x y times 0 (linked .ascends) up moved a b low narrow)
+      multiplicity-moved p q x y times 0 (linked .ascends) up moved a b low narrow ∙ none it
+    where
+      none : (t : Bool) → cond t 0 0 + multiplicity p a b ≡ multiplicity p a b
+      none true = omega arith
+      none false = omega arith
+
+  -- The pointer that is dropped goes wholly, and every other stays as it was.
+  dropped-wholly : pointsTo p x y ≡ true → multiplicity (changePublic (dropPointer x y) p) a b ≡ cond it 0 (multiplicity p a b)
+  dropped-wholly there = go it refl (dropped there)
+    where
+      go : (t : Bool) → it ≡ t → cond t (multiplicity p x y) 0 + multiplicity (changePublic (dropPointer x y) p) a b ≡ multiplicity p a b
+          → multiplicity (changePublic (dropPointer x y) p) a b ≡ cond t 0 (multiplicity p a b)
+      go true e h =
+          let same : multiplicity p x y ≡ multiplicity p a b =
+          ap₂ (λ (m n : ℕ). multiplicity p m n) (eqb-true x a (and-left (eqb x a) _ e)) (eqb-true y b (and-right (eqb x a) _ e)) in
+          omega arith
+      go false e h = omega arith
 
 -- ---- CREATE and DELETE
 
@@ -220,12 +239,18 @@ delete-taken port c opened o s h a b narrow =
     least : 1 ≤ multiplicity (c .public) (o .source) (o .destination)
     least = multiplicityRight-low _ (times-right (o .source) (o .destination) s there)
 
-    goes : (once-only : Bool) → eqb (multiplicity (c .public) (o .source) (o .destination)) 1 ≡ once-only
+    lessened : (once-only : Bool) → eqb (multiplicity (c .public) (o .source) (o .destination)) 1 ≡ once-only
         → once (eqb (o .source) a && eqb (o .destination) b)
         + multiplicity (changePublic (cond once-only (dropPointer (o .source) (o .destination)) (lowerPointer (o .source) (o .destination))) (c .public)) a b
         ≡ multiplicity (c .public) a b
-    goes true e = dropped (c .public) (o .source) (o .destination) (sound-linked s) low a b narrow there (eqb-true _ _ e)
-    goes false e = lowered (c .public) (o .source) (o .destination) (sound-linked s) low a b narrow there least
+    lessened true e =
+        subst
+        (λ (n : ℕ).
+        cond (eqb (o .source) a && eqb (o .destination) b) n 0 + multiplicity (changePublic (dropPointer (o .source) (o .destination)) (c .public)) a b
+        ≡ multiplicity (c .public) a b)
+        (eqb-true _ _ e)
+        (dropped (c .public) (o .source) (o .destination) (sound-linked s) low a b narrow there)
+    lessened false e = lowered (c .public) (o .source) (o .destination) (sound-linked s) low a b narrow there least
 
     go : (once-only last : Bool) → eqb (multiplicity (c .public) (o .source) (o .destination)) 1 ≡ once-only
         → once (eqb (o .source) a && eqb (o .destination) b)
@@ -234,8 +259,32 @@ delete-taken port c opened o s h a b narrow =
     go once-only true e =
         ap (λ (n : ℕ). once (eqb (o .source) a && eqb (o .destination) b) + n)
         (plain-kept (changePublic (cond once-only (dropPointer (o .source) (o .destination)) (lowerPointer (o .source) (o .destination))) (c .public)) (freeBlock (o .destination)) tt a b)
-        ∙ goes once-only e
-    go once-only false e = goes once-only e
+        ∙ lessened once-only e
+    go once-only false e = lessened once-only e
+
+-- ---- DELETE_TREE
+
+-- A done DELETE_TREE leaves every pointer but those that go as it was.
+pub tree-left : (c : Card) (o : DeleteOperands) → SoundCard c → allocated (c .public) (o .destination) ≡ true
+    → pointsTo (c .public) (o .source) (o .destination) ≡ true
+    → (a b : ℕ) → b < 65536
+    → multiplicity (treeDeleted c (o .source) (o .destination) .public) a b ≡ cond (goes c o a b) 0 (multiplicity (c .public) a b)
+tree-left c o s held there a b narrow =
+    let low : o .destination < 65536 = block-narrow s (allocated-below (c .public) (o .destination) held) in
+    deleted-multiplicity c (o .source) (o .destination) s held there a b narrow
+    ∙ ap (λ (n : ℕ). cond (contains a (freedWith (c .public) (o .source) (o .destination))) 0 n)
+    (dropped-wholly (c .public) (o .source) (o .destination) (sound-linked s) low a b narrow there)
+    ∙ either (eqb (o .source) a && eqb (o .destination) b) (contains a (freedWith (c .public) (o .source) (o .destination)))
+  where
+    either : (t u : Bool) → cond u 0 (cond t 0 (multiplicity (c .public) a b)) ≡ cond (t || u) 0 (multiplicity (c .public) a b)
+    either true true = refl
+    either true false = refl
+    either false true = refl
+    either false false = refl
+
+tree-taken : (t : Bool) (after before : ℕ) → after ≡ cond t 0 before → cond t before 0 + after ≡ before
+tree-taken true after before e = omega arith
+tree-taken false after before e = omega arith
 
 -- ---- ALLOC
 
@@ -314,7 +363,7 @@ contig-made port c opened o places s h a b narrow =
 -- From card c to a result, each multiplicity changed by just what the call made and took away.
 abbrev Booked : Card → Call → Result → ℕ → ℕ → Type 0
 Booked c call result a b =
-    multiplicity (result .after .public) a b + taken call (reply result) a b ≡ multiplicity (c .public) a b + made call (reply result) a b
+    multiplicity (result .after .public) a b + taken c call (reply result) a b ≡ multiplicity (c .public) a b + made call (reply result) a b
 
 made-booked : (after before n : ℕ) → after ≡ n + before → after + 0 ≡ before + n
 made-booked after before n e = omega arith
@@ -331,6 +380,7 @@ refused-booked c (Alloc o) lent r a b = refl
 refused-booked c (AllocContig o) lent r a b = refl
 refused-booked c (Create o) lent r a b = refl
 refused-booked c (Delete o) lent r a b = refl
+refused-booked c (DeleteTree o) lent r a b = refl
 refused-booked c (KeyRead o) lent r a b = refl
 refused-booked c (KeyWrite o) lent r a b = refl
 refused-booked c (Renew o) lent r a b = refl
@@ -345,13 +395,16 @@ module _ (port : Port) (c : Card) (lent : Buffers) (s : SoundCard c) (a b : ℕ)
   plain-booked steps h = ap (λ (n : ℕ). n + 0) (plain-all c steps h a b)
 
   call-booked : (call : Call) → NoneHolds (plan port c call lent .checks) → Booked c call (settle c lent (plan port c call lent) none) a b
-  unfolding plan settle made taken readPlan writePlan allocPlan allocContigPlan createPlan deletePlan keyPlan renewPlan forcePlan freePlan tickPlan auditPlan changes
+  unfolding plan settle made taken readPlan writePlan allocPlan allocContigPlan createPlan deletePlan deleteTreePlan keyPlan renewPlan forcePlan freePlan tickPlan auditPlan changes
   call-booked (Read o) h = plain-booked (plan port c (Read o) lent .steps) (opensWindow-plain port (c .public) _ (o .block) (o .interval))
   call-booked (Write o) h = plain-booked (plan port c (Write o) lent .steps) (tt, opensWindow-plain port (c .public) _ (o .block) (o .interval))
   call-booked (Alloc o) h = made-booked _ _ _ (alloc-made port c (admits port c Writing (o .reference) (o .credential)) o (lent .places) s h a b narrow)
   call-booked (AllocContig o) h = made-booked _ _ _ (contig-made port c (admits port c Writing (o .reference) (o .credential)) o (lent .places) s h a b narrow)
   call-booked (Create o) h = made-booked _ _ _ (create-made port c (admits port c Writing (o .source) (o .credential)) (admits port c Writing (o .destination) (o .second)) o s h a b narrow)
   call-booked (Delete o) h = taken-booked _ _ _ (delete-taken port c (admits port c Writing (o .source) (o .credential)) o s h a b narrow)
+  call-booked (DeleteTree o) h =
+      taken-booked _ _ _
+      (tree-taken (goes c o a b) _ _ (tree-left c o s (not-missing (c .public) (o .destination) (h .1 .0)) (not-false _ (h .1 .1 .1 .1 .0)) a b narrow))
   call-booked (KeyRead o) h = plain-booked (plan port c (KeyRead o) lent .steps) (tt, (tt, (tt, tt)))
   call-booked (KeyWrite o) h = plain-booked (plan port c (KeyWrite o) lent .steps) (tt, (tt, (tt, tt)))
   call-booked (Renew o) h = plain-booked (plan port c (Renew o) lent .steps) (tt, tt)
@@ -361,9 +414,9 @@ module _ (port : Port) (c : Card) (lent : Buffers) (s : SoundCard c) (a b : ℕ)
   call-booked Audit h = refl
 
 -- 2026-05: after any call on any card, at either port, done or refused, the multiplicity of the pointer from a to b is what it was,
--- and one more for each that the call made, one less for each that it took away. Block numbers have 16 bits.
+-- and one more for each that the call made, one less for each that it took away: a DELETE_TREE takes the whole multiplicity of each pointer that goes. Block numbers have 16 bits.
 pub made-and-taken : (port : Port) (c : Card) (q : Request) (a b : ℕ) → b < 65536
-    → multiplicity (perform port c q .after .public) a b + taken (q .call) (reply (perform port c q)) a b
+    → multiplicity (perform port c q .after .public) a b + taken c (q .call) (reply (perform port c q)) a b
     ≡ multiplicity (c .public) a b + made (q .call) (reply (perform port c q)) a b
 unfolding perform settle
 made-and-taken port c q a b narrow =

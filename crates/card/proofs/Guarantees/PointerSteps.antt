@@ -2,7 +2,7 @@
 -- Between the two the card is sound but for that block, which no pointer goes to.
 use Prim.Native.Nat.{ℕ, _+_, _-_, _*_, _≤_, _<_}
 use mathlib.Core.Path.{_≡_, refl, sym, ap, _∙_, subst}
-use mathlib.Core.Logic.{⊎-elim}
+use mathlib.Core.Logic.{_⊎_, inl, inr, ⊎-elim}
 use mathlib.Core.Bool.{true, false, _&&_, not, cond}
 use mathlib.Core.List.{List, _∷_, _++_}
 use native.Mathlib.Omega.{arith}
@@ -26,10 +26,10 @@ use Rattle.card.specs.declared.Mode.the-variants.{Reading, Writing}
 use Rattle.card.specs.ChangesLaws.{inserted-take, inserted-drop, inserted-length, removed-take, removed-drop, removed-length, used-in-step, insertedTimes-take, insertedTimes-drop, insertedTimes-length, setTimes-take, setTimes-drop, setTimes-length, removedTimes-take, removedTimes-drop, removedTimes-length, getD-set-either, getD-set-cases, windowAt-block, clearKeys-length, cleared-high, cleared-low, uncleared-high, uncleared-low}
 use Rattle.card.proofs.Guarantees.Steps.{shaped-with, filled-length, keyZero-from, empty-from, not-allocated, allocated-set, allocated-other, right-kept, set-flag-pointers}
 
--- ---- soundness but for one block
+-- ---- soundness but for some blocks
 
--- Sound, but that block x may be allocated without a pointer to it.
-pub record SoundBut (x : ℕ) (c : Card) : Type 0 where
+-- Sound, but that a block of X may be allocated without a pointer to it.
+pub record SoundExcept (X : ℕ → Type 0) (c : Card) : Type 0 where
   pub shaped : Shaped c
   pub flagsLow : (b : ℕ) → b < c .public .info .blocks → flag (c .public) b < 8
   pub rootsAllocated : (b : ℕ) → b < c .public .info .blocks → b < c .public .info .roots → allocatedFlag (flag (c .public) b) ≡ true
@@ -41,8 +41,12 @@ pub record SoundBut (x : ℕ) (c : Card) : Type 0 where
   pub restTimesZero : all (λ n. eqb n 0) (drop (c .public .info .used) (c .public .multiplicities)) ≡ true
   pub pointersRight : all (λ w. pointerRight (c .public) w) (inUse (c .public)) ≡ true
   pub counts : (b : ℕ) → b < c .public .info .blocks → count (c .public) b ≡ pointersTo b (inUse (c .public)) (timesInUse (c .public))
-  pub pointed : (b : ℕ) → (b ≡ x → ⊥) → b < c .public .info .blocks → c .public .info .roots ≤ b → allocatedFlag (flag (c .public) b) ≡ true → 1 ≤ count (c .public) b
+  pub pointed : (b : ℕ) → (X b → ⊥) → b < c .public .info .blocks → c .public .info .roots ≤ b → allocatedFlag (flag (c .public) b) ≡ true → 1 ≤ count (c .public) b
   pub windowsLow : (mode : Mode) (b : ℕ) → b < c .public .info .blocks → windowEnd (c .public) mode b ≤ c .public .info .time + longestInterval
+
+-- Sound, but that block x may be so.
+abbrev pub SoundBut : ℕ → Card → Type 0
+SoundBut x c = SoundExcept (λ b. b ≡ x) c
 
 -- A sound card is sound but for any block.
 pub sound-but : {c : Card} (x : ℕ) → SoundCard c → SoundBut x c
@@ -62,9 +66,10 @@ sound-but x s = record {
   windowsLow = s .isSound .windowsLow;
 }
 
--- With a pointer to that block the card is sound.
-pub but-sound : {c : Card} {x : ℕ} → SoundBut x c → 1 ≤ count (c .public) x → SoundCard c
-but-sound {c} {x} s one = record {
+-- With a pointer to each block of X the card is sound.
+pub except-sound : {c : Card} {X : ℕ → Type 0} → SoundExcept X c
+    → ((b : ℕ) → b < c .public .info .blocks → c .public .info .roots ≤ b → allocatedFlag (flag (c .public) b) ≡ true → (X b → ⊥) ⊎ (1 ≤ count (c .public) b)) → SoundCard c
+except-sound s f = record {
   shaped = s .shaped;
   isSound = record {
     flagsLow = s .flagsLow;
@@ -77,14 +82,19 @@ but-sound {c} {x} s one = record {
     restTimesZero = s .restTimesZero;
     pointersRight = s .pointersRight;
     counts = s .counts;
-    pointed = λ b l r a.
-        ⊎-elim
-        (λ (e : b ≡ x). subst (λ (n : ℕ). 1 ≤ count (c .public) n) (sym e) one)
-        (λ (other : b ≡ x → ⊥). s .pointed b other l r a)
-        (same-or-other b x);
+    pointed = λ b l r a. ⊎-elim (λ other. s .pointed b other l r a) (λ one. one) (f b l r a);
     windowsLow = s .windowsLow;
   };
 }
+
+pub but-sound : {c : Card} {x : ℕ} → SoundBut x c → 1 ≤ count (c .public) x → SoundCard c
+but-sound {c} {x} s one =
+    except-sound s
+    (λ b l r a.
+    ⊎-elim
+    (λ (e : b ≡ x). inr (subst (λ (n : ℕ). 1 ≤ count (c .public) n) (sym e) one))
+    (λ (other : b ≡ x → ⊥). inl other)
+    (same-or-other b x))
 
 -- ---- a block taken, and a pointer added to it
 
@@ -297,14 +307,15 @@ free-pointers p b ws right from to =
     to)
 
 -- Free a block that is no root, with no pointer to it and none of its own.
-pub freeBlock-sound : {c : Card} (b : ℕ) → SoundBut b c
+pub freeBlock-except : {c : Card} {X Y : ℕ → Type 0} (b : ℕ) → SoundExcept X c
+    → ((x : ℕ) → X x → (x ≡ b) ⊎ Y x)
     → b < c .public .info .blocks
     → c .public .info .roots ≤ b
     → count (c .public) b ≡ 0
     → all (λ w. not (eqb (source w) b)) (inUse (c .public)) ≡ true
-    → SoundCard (change c (freeBlock b))
+    → SoundExcept Y (change c (freeBlock b))
 unfolding change changePublic changeKeys changeContents pointerRight allocated
-freeBlock-sound {c} b s below noRoot uncount unpoint =
+freeBlock-except {c} {X} {Y} b s others below noRoot uncount unpoint =
     let p : Public = c .public in
     let inFlags : b < length (p .flags) = omega (arith, s .shaped .hasLengths .flags) in
     let fits : 4 * b + 4 ≤ length (c .keys) = omega (arith, s .shaped .hasLengths .keys) in
@@ -320,46 +331,54 @@ freeBlock-sound {c} b s below noRoot uncount unpoint =
           refl
           (s .shaped .usedHigh)
           (s .shaped .timeHigh);
-      isSound = record {
-        flagsLow = λ x l. getD-set-either (λ (f : ℕ). f < 8) (p .flags) b 0 x (omega arith) (s .flagsLow x l);
-        rootsAllocated = λ x l.
-            getD-set-cases (λ (x f : ℕ). x < p .info .roots → allocatedFlag f ≡ true) (p .flags) b 0 x inFlags
-            (λ r. absurd (omega arith))
-            (λ other. s .rootsAllocated x l);
-        unallocated = λ x l.
-            getD-set-cases (λ (x f : ℕ). allocatedFlag f ≡ false → Empty d x) (p .flags) b 0 x inFlags
-            (λ e. record {
-              flagZero = getD-set-same (p .flags) b 0 0 inFlags;
-              keysZero = noKeys;
-              countZero = uncount;
-              windowZero = closed-same (p .windows) b inWindows;
-            })
-            (λ other e.
-            let h : Empty c x = s .unallocated x l e in
-            record {
-              flagZero = getD-set-other (p .flags) b x 0 0 other ∙ h .flagZero;
-              keysZero = λ m. keysKept m x other (h .keysZero m);
-              countZero = h .countZero;
-              windowZero = λ m. closed-either (λ (n : ℕ). n ≡ 0) (p .windows) b (windowAt m x) refl (h .windowZero m);
-            });
-        absentKey = λ m x l.
-            getD-set-cases (λ (x f : ℕ). keyFlag m f ≡ false → KeyZero d m x) (p .flags) b 0 x inFlags
-            (λ e. noKeys m)
-            (λ other e. keysKept m x other (s .absentKey m x l e));
-        ascends = s .ascends;
-        restZero = s .restZero;
-        timesRight = s .timesRight;
-        restTimesZero = s .restTimesZero;
-        pointersRight = free-pointers p b (inUse p) (s .pointersRight) unpoint (uncounted (λ w. eqb (destination w) b) step (all-map (λ n. multiplicityRight n) (λ n. leb 1 n) (λ n e. le-leb 1 n (multiplicityRight-low n e)) (timesInUse p) (s .timesRight)) (sym (s .counts b below) ∙ uncount));
-        counts = s .counts;
-        pointed = λ x l r.
-            getD-set-cases (λ (x f : ℕ). allocatedFlag f ≡ true → 1 ≤ count p x) (p .flags) b 0 x inFlags
-            (λ e. absurd-test {t = allocatedFlag 0} e refl)
-            (λ other. s .pointed x other l r);
-        windowsLow = λ m x l.
-            closed-either (λ (n : ℕ). n ≤ p .info .time + longestInterval) (p .windows) b (windowAt m x) (omega arith) (s .windowsLow m x l);
-      };
+      flagsLow = λ x l. getD-set-either (λ (f : ℕ). f < 8) (p .flags) b 0 x (omega arith) (s .flagsLow x l);
+      rootsAllocated = λ x l.
+          getD-set-cases (λ (x f : ℕ). x < p .info .roots → allocatedFlag f ≡ true) (p .flags) b 0 x inFlags
+          (λ r. absurd (omega arith))
+          (λ other. s .rootsAllocated x l);
+      unallocated = λ x l.
+          getD-set-cases (λ (x f : ℕ). allocatedFlag f ≡ false → Empty d x) (p .flags) b 0 x inFlags
+          (λ e. record {
+            flagZero = getD-set-same (p .flags) b 0 0 inFlags;
+            keysZero = noKeys;
+            countZero = uncount;
+            windowZero = closed-same (p .windows) b inWindows;
+          })
+          (λ other e.
+          let h : Empty c x = s .unallocated x l e in
+          record {
+            flagZero = getD-set-other (p .flags) b x 0 0 other ∙ h .flagZero;
+            keysZero = λ m. keysKept m x other (h .keysZero m);
+            countZero = h .countZero;
+            windowZero = λ m. closed-either (λ (n : ℕ). n ≡ 0) (p .windows) b (windowAt m x) refl (h .windowZero m);
+          });
+      absentKey = λ m x l.
+          getD-set-cases (λ (x f : ℕ). keyFlag m f ≡ false → KeyZero d m x) (p .flags) b 0 x inFlags
+          (λ e. noKeys m)
+          (λ other e. keysKept m x other (s .absentKey m x l e));
+      ascends = s .ascends;
+      restZero = s .restZero;
+      timesRight = s .timesRight;
+      restTimesZero = s .restTimesZero;
+      pointersRight = free-pointers p b (inUse p) (s .pointersRight) unpoint (uncounted (λ w. eqb (destination w) b) step (all-map (λ n. multiplicityRight n) (λ n. leb 1 n) (λ n e. le-leb 1 n (multiplicityRight-low n e)) (timesInUse p) (s .timesRight)) (sym (s .counts b below) ∙ uncount));
+      counts = s .counts;
+      pointed = λ x none l r.
+          getD-set-cases (λ (x f : ℕ). (Y x → ⊥) → allocatedFlag f ≡ true → 1 ≤ count p x) (p .flags) b 0 x inFlags
+          (λ o e. absurd-test {t = allocatedFlag 0} e refl)
+          (λ other o. s .pointed x (λ z. ⊎-elim other o (others x z)) l r)
+          none;
+      windowsLow = λ m x l.
+          closed-either (λ (n : ℕ). n ≤ p .info .time + longestInterval) (p .windows) b (windowAt m x) (omega arith) (s .windowsLow m x l);
     }
+
+pub freeBlock-sound : {c : Card} (b : ℕ) → SoundBut b c
+    → b < c .public .info .blocks
+    → c .public .info .roots ≤ b
+    → count (c .public) b ≡ 0
+    → all (λ w. not (eqb (source w) b)) (inUse (c .public)) ≡ true
+    → SoundCard (change c (freeBlock b))
+freeBlock-sound b s below noRoot uncount unpoint =
+    except-sound (freeBlock-except {Y = λ x. ⊥} b s (λ x e. inl e) below noRoot uncount unpoint) (λ x l r a. inl (λ z. z))
 
 -- ---- pairs of changes
 

@@ -9,14 +9,15 @@ use lib.ListN.{length, set, length-set, length-replicate}
 use lib.Seq.{getD-set-same}
 use borrow.Author.Tests.{eqb-true, ltb-true, not-false}
 use Rattle.card.specs.Lists.{all}
-use Rattle.card.specs.ListsLaws.{absurd-test, or-false-left, same-or-other, all-head, all-tail}
+use Rattle.card.specs.ListsLaws.{absurd-test, false-unless, or-false-left, same-or-other, all-head, all-tail}
+use Rattle.card.specs.Pointers.{contains}
 use Rattle.card.specs.Contents.{zeros}
 use Rattle.card.specs.ContentsLaws.{fill-length, part-fill-same, part-fill-other}
 use Rattle.card.specs.Card.{Public, Card, allocatedFlag, allocated, count, multiplicity, pointsTo, block}
 use Rattle.card.specs.SoundCard.{SoundCard}
 use Rattle.card.specs.SoundnessLaws.{allocated-below, flag-allocated}
 use Rattle.card.specs.Plan.{NoneHolds, setWindow, setBlock, takeBlock, freeBlock, addPointer, raisePointer, lowerPointer, dropPointer, withFlags, changePublic, changeContents, change, changes, Buffers}
-use Rattle.card.specs.Calls.{windowAfter, opensWindow, wanted, takeAll, readPlan, writePlan, allocPlan, allocContigPlan, createPlan, deletePlan, keyPlan, renewPlan, forcePlan, freePlan, tickPlan, auditPlan}
+use Rattle.card.specs.Calls.{windowAfter, opensWindow, wanted, takeAll, freedWith, readPlan, writePlan, allocPlan, allocContigPlan, createPlan, deletePlan, deleteTreePlan, keyPlan, renewPlan, forcePlan, freePlan, tickPlan, auditPlan}
 use Rattle.card.specs.Session.{Request, plan, perform}
 use Rattle.card.specs.declared.Port.{Port}
 use Rattle.card.specs.declared.Port.the-variants.{Host, Service}
@@ -26,11 +27,12 @@ use Rattle.card.specs.declared.WriteOperands.{WriteOperands}
 use Rattle.card.specs.declared.DeleteOperands.{DeleteOperands}
 use Rattle.card.specs.declared.KeyOperands.{KeyOperands}
 use Rattle.card.specs.declared.Call.{Call}
-use Rattle.card.specs.declared.Call.the-variants.{Read, Write, Alloc, AllocContig, Create, Delete, KeyRead, KeyWrite, Renew, Force, Free, Tick, Audit}
+use Rattle.card.specs.declared.Call.the-variants.{Read, Write, Alloc, AllocContig, Create, Delete, DeleteTree, KeyRead, KeyWrite, Renew, Force, Free, Tick, Audit}
 use Rattle.card.proofs.Guarantees.Steps.{block-within, allocated-other}
 use Rattle.card.specs.Takeable.{Takeable}
 use Rattle.card.specs.PicksLaws.{picks-takeable}
 use Rattle.card.specs.RunsLaws.{run-takeable}
+use Rattle.card.proofs.Guarantees.Severing.{freed-allocated, deleted-allocated, deleted-contents}
 use Rattle.card.proofs.Guarantees.KeepsSound.{not-missing}
 use Rattle.card.proofs.Guarantees.Judged.{judge-after}
 
@@ -82,7 +84,7 @@ write-left port c opened o input b free s h =
           (other-block (c .public) free held);
     }
 
--- ---- DELETE, KEY_READ and KEY_WRITE
+-- ---- DELETE, DELETE_TREE, CREATE, KEY_READ and KEY_WRITE
 
 delete-left : (port : Port) (c : Card) (opened : Bool) (o : DeleteOperands) (b : ℕ) → allocated (c .public) b ≡ false
     → NoneHolds (deletePlan port (c .public) opened o .checks) → LeftAlone c (changes c (deletePlan port (c .public) opened o .steps)) b
@@ -98,6 +100,14 @@ delete-left port c opened o b free h = go (eqb (multiplicity (c .public) (o .sou
     go true false = record { notAllocated = free; same = refl }
     go false true = record { notAllocated = freed; same = refl }
     go false false = record { notAllocated = free; same = refl }
+
+tree-left : (port : Port) (c : Card) (opened : Bool) (o : DeleteOperands) (b : ℕ) → allocated (c .public) b ≡ false
+    → LeftAlone c (changes c (deleteTreePlan port (c .public) opened o .steps)) b
+unfolding deleteTreePlan
+tree-left port c opened o b free =
+    let other : contains b (freedWith (c .public) (o .source) (o .destination)) ≡ false =
+    false-unless _ (λ e. absurd-test (freed-allocated c (o .source) (o .destination) b e) free) in
+    record { notAllocated = deleted-allocated c (o .source) (o .destination) b other ∙ free; same = deleted-contents c (o .source) (o .destination) b }
 
 create-left : (c : Card) (a d b : ℕ) (t : Bool) → allocated (c .public) b ≡ false → LeftAlone c (changes c (cond t (raisePointer a d) (addPointer a d) ∷ [])) b
 unfolding changes change changePublic changeContents allocated
@@ -210,6 +220,7 @@ call-untouched port c (Alloc o) lent b free s h = allotted-untouched c (o .refer
 call-untouched port c (AllocContig o) lent b free s h = allotted-untouched c (o .reference) _ b free s (run-takeable (c .public) (o .count) (wanted (o .hint)))
 call-untouched port c (Create o) lent b free s h = inl (create-left c (o .source) (o .destination) b (pointsTo (c .public) (o .source) (o .destination)) free)
 call-untouched port c (Delete o) lent b free s h = inl (delete-left port c _ o b free h)
+call-untouched port c (DeleteTree o) lent b free s h = inl (tree-left port c _ o b free)
 call-untouched port c (KeyRead o) lent b free s h = inl (key-left port c _ Reading o b free h)
 call-untouched port c (KeyWrite o) lent b free s h = inl (key-left port c _ Writing o b free h)
 call-untouched port c (Renew o) lent b free s h = inl (record { notAllocated = free; same = refl })

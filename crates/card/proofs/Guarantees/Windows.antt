@@ -1,7 +1,7 @@
 -- What moves the end of a window. A host's READ, WRITE or RENEW of the block, done by an interval that is not 0, sets it: by the request 2026-04 to the later
 -- of its present end and T + interval. FORCE, a key change and freeing set it to 0, and so shorten it. Nothing else moves it.
 use Prim.Native.Nat.{ℕ, _+_, _≤_, _<_, max}
-use mathlib.Core.Path.{_≡_, refl, ap, ap₂, _∙_, subst}
+use mathlib.Core.Path.{_≡_, refl, sym, ap, ap₂, _∙_, subst}
 use mathlib.Core.Logic.{_⊎_, inl, inr, ⊎-elim}
 use mathlib.Core.Bool.{Bool, true, false, _&&_, cond}
 use mathlib.Core.List.{List, [], _∷_}
@@ -10,14 +10,15 @@ use native.Mathlib.Omega.{arith}
 use lib.Dec.{eqb, ltb}
 use lib.ListN.{length, getD, set}
 use lib.Seq.{getD-set-same}
-use borrow.Author.Tests.{eq-eqb, ne-eqb}
-use Rattle.card.specs.ListsLaws.{and-false-right, or-false-left, or-false-right, absurd-test, same-or-other}
+use borrow.Author.Tests.{eq-eqb, ne-eqb, not-false}
+use Rattle.card.specs.ListsLaws.{and-false-right, or-false-left, or-false-right, absurd-test, not-cases, same-or-other}
+use Rattle.card.specs.Pointers.{contains}
 use Rattle.card.specs.Card.{Public, Card, allocatedFlag, allocated, freeBlocks, longestInterval, windowAt, windowEnd, count, multiplicity, pointsTo}
 use Rattle.card.specs.SoundCard.{SoundCard}
 use Rattle.card.specs.SoundnessLaws.{allocated-below}
 use Rattle.card.specs.Plan.{NoneHolds, setWindow, setBlock, takeBlock, freeBlock, addPointer, raisePointer, lowerPointer, dropPointer, changePublic, change, changes, Buffers, Result, done, settle}
 use Rattle.card.specs.ChangesLaws.{getD-set-raised, getD-set-changed, windowAt-block, windowAt-mode, windowAt-within}
-use Rattle.card.specs.Calls.{isDone, windowAfter, opensWindow, wanted, picks, takeAll, modeOf, readPlan, writePlan, allocPlan, runStarts, nearestRun, allocContigPlan, createPlan, deletePlan, keyPlan, renewPlan, forcePlan, freePlan, tickPlan, auditPlan}
+use Rattle.card.specs.Calls.{isDone, windowAfter, opensWindow, wanted, picks, takeAll, freedWith, modeOf, readPlan, writePlan, allocPlan, runStarts, nearestRun, allocContigPlan, createPlan, deletePlan, deleteTreePlan, keyPlan, renewPlan, forcePlan, freePlan, tickPlan, auditPlan}
 use Rattle.card.specs.Session.{Request, plan, portOf, perform}
 use Rattle.card.specs.declared.Port.{Port}
 use Rattle.card.specs.declared.Port.the-variants.{Host, Service}
@@ -30,7 +31,9 @@ use Rattle.card.specs.declared.RenewOperands.{RenewOperands}
 use Rattle.card.specs.declared.ForceOperands.{ForceOperands}
 use Rattle.card.specs.declared.Answer.the-variants.{Done}
 use Rattle.card.specs.declared.Call.{Call}
-use Rattle.card.specs.declared.Call.the-variants.{Read, Write, Alloc, AllocContig, Create, Delete, KeyRead, KeyWrite, Renew, Force, Free, Tick, Audit}
+use Rattle.card.specs.declared.Call.the-variants.{Read, Write, Alloc, AllocContig, Create, Delete, DeleteTree, KeyRead, KeyWrite, Renew, Force, Free, Tick, Audit}
+use Rattle.card.proofs.Guarantees.Steps.{unallocated-flag}
+use Rattle.card.proofs.Guarantees.Severing.{treeDeleted, freed-allocated, deleted-frees, deleted-spares, deleted-blocks, deleted-sound}
 use Rattle.card.proofs.Guarantees.KeepsSound.{not-missing}
 use Rattle.card.proofs.Guarantees.PointerSteps.{closed, closed-either, closed-other}
 use Rattle.card.proofs.Guarantees.Judged.{judge-cases, judge-after}
@@ -61,12 +64,13 @@ pub data Shortens (p q : Public) (b : ℕ) : Call → Type 0 where
 
 -- ---- the table of windows that a done call leaves
 
--- As it was; or with one window set; or with both windows of a block closed.
+-- As it was; or with one window set; or with both windows of a block closed; or with some windows closed, each for a reason of its own.
 data WindowsLeft (port : Port) (c d : Card) (call : Call) : Type 0 where
   same : d .public .windows ≡ c .public .windows → WindowsLeft port c d call
   oneSet : {m : Mode} {a interval : ℕ} → portOf port call ≡ Host → SetsWindow call m a interval
       → d .public .windows ≡ set (c .public .windows) (windowAt m a) (windowAfter (c .public) m a interval) → WindowsLeft port c d call
   bothClosed : (a : ℕ) → Shortens (c .public) (d .public) a call → d .public .windows ≡ closed (c .public .windows) a → WindowsLeft port c d call
+  someClosed : ((m : Mode) (b : ℕ) → (windowEnd (d .public) m b ≡ windowEnd (c .public) m b) ⊎ (Shortens (c .public) (d .public) b call × (windowEnd (d .public) m b ≡ 0))) → WindowsLeft port c d call
 
 -- What a READ or a WRITE does, at the host port alone.
 opens-left : (port : Port) (c : Card) (p : Public) (mode : Mode) (a interval : ℕ)
@@ -90,9 +94,23 @@ takes-left c reference (b ∷ bs) = takes-left (change (change c (takeBlock b)) 
 freed : (c : Card) (flags : List ℕ) (b : ℕ) → b < length flags → ltb b (c .public .info .blocks) && allocatedFlag (getD (set flags b 0) b 0) ≡ false
 freed c flags b l = and-false-right (ltb b (c .public .info .blocks)) _ (ap allocatedFlag (getD-set-same flags b 0 0 l))
 
+-- A block that a DELETE_TREE frees is unallocated then, so its windows are closed; another's stay.
+tree-closed : (c : Card) (a b : ℕ) → SoundCard c → allocated (c .public) b ≡ true → pointsTo (c .public) a b ≡ true → (call : Call) (m : Mode) (x : ℕ)
+    → (windowEnd (treeDeleted c a b .public) m x ≡ windowEnd (c .public) m x)
+    ⊎ (Shortens (c .public) (treeDeleted c a b .public) x call × (windowEnd (treeDeleted c a b .public) m x ≡ 0))
+tree-closed c a b s held there call m x =
+    ⊎-elim
+    (λ (e : contains x (freedWith (c .public) a b) ≡ true).
+    let was : allocated (c .public) x ≡ true = freed-allocated c a b x e in
+    let gone : allocated (treeDeleted c a b .public) x ≡ false = deleted-frees c a b x (s .shaped .hasLengths .flags) e in
+    let below : x < treeDeleted c a b .public .info .blocks = subst (λ (n : ℕ). x < n) (sym (deleted-blocks c a b)) (allocated-below (c .public) x was) in
+    inr (byFreeing was gone, deleted-sound c a b s held there .isSound .unallocated x below (unallocated-flag (treeDeleted c a b .public) x below gone) .windowZero m))
+    (λ (e : contains x (freedWith (c .public) a b) ≡ false). inl (deleted-spares c a b x e .window m))
+    (not-cases (contains x (freedWith (c .public) a b)))
+
 plan-left : (port : Port) (c : Card) (call : Call) (lent : Buffers) → SoundCard c → NoneHolds (plan port c call lent .checks)
     → WindowsLeft port c (changes c (plan port c call lent .steps)) call
-unfolding plan portOf readPlan writePlan allocPlan allocContigPlan createPlan deletePlan keyPlan renewPlan forcePlan freePlan tickPlan auditPlan changes change changePublic allocated
+unfolding plan portOf readPlan writePlan allocPlan allocContigPlan createPlan deletePlan deleteTreePlan keyPlan renewPlan forcePlan freePlan tickPlan auditPlan changes change changePublic allocated
 plan-left port c (Read o) lent s h =
     ⊎-elim (λ e. same e) (λ r. oneSet (r .0) (byRead o) (r .1)) (opens-left port c (c .public) Reading (o .block) (o .interval))
 plan-left port c (Write o) lent s h =
@@ -120,6 +138,9 @@ plan-left port c (Delete o) lent s h = go (eqb (multiplicity (c .public) (o .sou
     go true false = same refl
     go false true = bothClosed (o .destination) (byFreeing held gone) refl
     go false false = same refl
+plan-left port c (DeleteTree o) lent s h =
+    someClosed
+    (tree-closed c (o .source) (o .destination) s (not-missing (c .public) (o .destination) (h .1 .0)) (not-false _ (h .1 .1 .1 .1 .0)) (DeleteTree o))
 plan-left port c (KeyRead o) lent s h = bothClosed (o .block) (byKeyRead o refl) refl
 plan-left port c (KeyWrite o) lent s h = bothClosed (o .block) (byKeyWrite o refl) refl
 plan-left port c (Renew o) lent s h = oneSet refl (byRenew o) refl
@@ -159,6 +180,7 @@ left-set port c call lent m b (bothClosed a why e) changed notZero =
     absurd
     (⊎-elim changed notZero
     (rw e (closed-either (λ (n : ℕ). (n ≡ windowEnd (c .public) m b) ⊎ (n ≡ 0)) (c .public .windows) a (windowAt m b) (inr refl) (inl refl))))
+left-set port c call lent m b (someClosed f) changed notZero = absurd (⊎-elim changed (λ e. notZero (e .1)) (f m b))
 
 -- On any card, at either port: a window that a call leaves with another end than it had, and not 0, is set by that call.
 pub window-set-by : (port : Port) (c : Card) (q : Request) (m : Mode) (b : ℕ)
@@ -253,6 +275,7 @@ left-kept port c d call m b (bothClosed a why e) =
     (λ (q : a ≡ b). inr (subst (λ (x : ℕ). Shortens (c .public) (d .public) x call) q why))
     (λ (other : a ≡ b → ⊥). inl (rw (e, closed-other (c .public .windows) a b m other) (le-refl _)))
     (same-or-other a b)
+left-kept port c d call m b (someClosed f) = ⊎-elim (λ e. inl (rw e (le-refl _))) (λ e. inr (e .0)) (f m b)
 
 -- "Only FORCE, a key change, freeing and FORMAT shorten a window": on any card, at either port, whatever the call and its answer, no window of any block ends
 -- sooner than before, but by FORCE or a key change of that block, or because the block is freed.

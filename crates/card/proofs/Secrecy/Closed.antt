@@ -11,15 +11,16 @@ use lib.Seq.{getD-set-same, getD-set-other, set-out}
 use borrow.Author.Tests.{lt-ltb, ltb-true, eq-eqb}
 use Rattle.card.specs.Lists.{all}
 use Rattle.card.specs.ListsLaws.{and-right, absurd-test, same-or-other, below-or-not}
-use Rattle.card.specs.Pointers.{pointer, source, destination, contains, insert, remove}
+use Rattle.card.specs.Pointers.{pointer, source, destination, contains, insert, remove, keep, notFrom}
 use Rattle.card.specs.PointersLaws.{source-pointer, destination-pointer, contains-insert, contains-remove, contains-all}
+use Rattle.card.specs.KeepLaws.{keep-contains}
 use Rattle.card.specs.Contents.{zeros}
 use Rattle.card.specs.ContentsLaws.{fill-length, block-fits}
 use Rattle.card.specs.Card.{Public, Card, flag, allocated, hasKey, isRoot, windowAt, windowEnd, windowOpen, inUse, pointsTo, keyHigh, keyLow}
 use Rattle.card.specs.SoundnessLaws.{allocated-below}
-use Rattle.card.specs.Plan.{Change, setWindow, setBlock, setKey, takeBlock, freeBlock, addPointer, raisePointer, lowerPointer, dropPointer, setTime, changePublic, changeKeys, changeContents, change}
-use Rattle.card.specs.ChangesLaws.{windowAt-block, kept-high, kept-low, uncleared-high, uncleared-low, inserted-long, inserted-take, removed-take, removed-length}
-use Rattle.card.specs.Reach.{keyPresented, sealed}
+use Rattle.card.specs.Plan.{Change, setWindow, setBlock, setKey, takeBlock, freeBlock, addPointer, raisePointer, lowerPointer, dropPointer, dropFrom, setTime, changePublic, changeKeys, changeContents, change}
+use Rattle.card.specs.ChangesLaws.{windowAt-block, kept-high, kept-low, uncleared-high, uncleared-low, inserted-long, inserted-take, removed-take, removed-length, inUse-kept}
+use Rattle.card.specs.Reach.{keyPresented, sealed, Reach, unsealedRoot, byKey, openWindow, pointed}
 use Rattle.card.specs.declared.Mode.{Mode}
 use Rattle.card.specs.declared.Mode.the-variants.{Reading, Writing}
 use Rattle.card.specs.declared.NewKey.{NewKey}
@@ -30,6 +31,15 @@ pub record Closed (K : ℕ → ℕ → Bool) (G : ℕ → Type 0) (c : Card) : T
   pub key : (mode : Mode) (b : ℕ) → allocated (c .public) b ≡ true → keyPresented K c mode b ≡ true → G b
   pub window : (mode : Mode) (b : ℕ) → allocated (c .public) b ≡ true → windowOpen (c .public) mode b ≡ true → G b
   pub pointed : (a b : ℕ) → G a → allocated (c .public) b ≡ true → pointsTo (c .public) a b ≡ true → sealed K c b ≡ false → G b
+
+-- The blocks within reach are closed under reach.
+pub reach-closed : (K : ℕ → ℕ → Bool) (c : Card) → Closed K (Reach K c) c
+reach-closed K c = record {
+  root = λ b a r s. unsealedRoot a r s;
+  key = λ mode b a k. byKey mode a k;
+  window = λ mode b a o. openWindow mode a o;
+  pointed = λ a b g h p s. pointed g h p s;
+}
 
 -- The lengths and bounds that every change keeps, a sound card's among them.
 pub record Regular (c : Card) : Type 0 where
@@ -49,6 +59,7 @@ Allowed G p (addPointer a b) = G b × (b < p .info .blocks)
 Allowed G p (raisePointer a b) = Unit {0}
 Allowed G p (lowerPointer a b) = Unit {0}
 Allowed G p (dropPointer a b) = contains (pointer a b) (inUse p) ≡ true
+Allowed G p (dropFrom bs) = Unit {0}
 Allowed G p (setTime t) = p .info .time ≤ t
 
 -- A block that is taken joins the set.
@@ -62,6 +73,7 @@ TakenBy (addPointer a b) x = ⊥
 TakenBy (raisePointer a b) x = ⊥
 TakenBy (lowerPointer a b) x = ⊥
 TakenBy (dropPointer a b) x = ⊥
+TakenBy (dropFrom bs) x = ⊥
 TakenBy (setTime t) x = ⊥
 
 abbrev pub Grown : (ℕ → Type 0) → Change → ℕ → Type 0
@@ -86,6 +98,10 @@ module _ (p : Public) (a b : ℕ) (h : p .info .used ≤ length (p .pointers)) w
       → changePublic (dropPointer a b) p .info .used ≤ length (changePublic (dropPointer a b) p .pointers)
   unfolding changePublic
   used-dropped e = omega (arith, removed-length (pointer a b) (p .info .used) (p .pointers) h e)
+
+used-kept : (p : Public) (bs : List ℕ) → changePublic (dropFrom bs) p .info .used ≤ length (changePublic (dropFrom bs) p .pointers)
+unfolding changePublic
+used-kept p bs = simp length-append (omega arith)
 
 -- ---- lengths are kept
 
@@ -130,6 +146,7 @@ regular-change G c (dropPointer a b) r h = record {
   contents = r .contents;
   usedHigh = used-dropped (c .public) a b (r .usedHigh) h;
 }
+regular-change G c (dropFrom bs) r h = record { blocksHigh = r .blocksHigh; flags = r .flags; contents = r .contents; usedHigh = used-kept (c .public) bs }
 regular-change G c (setTime t) r h = record { blocksHigh = r .blocksHigh; flags = r .flags; contents = r .contents; usedHigh = r .usedHigh }
 
 -- ---- the frame
@@ -381,6 +398,20 @@ module _ (K : ℕ → ℕ → Bool) (G : ℕ → Type 0) (c : Card) (r : Regular
             (same-set G y g, contains-remove (pointer y x) (pointer a b) (inUse (c .public)) (rw (inUse-dropped (c .public) a b (r .usedHigh) h) at p));
       }))
 
+  closed-dropFrom : (bs : List ℕ) → Closed K (Grown G (dropFrom bs)) (change c (dropFrom bs))
+  unfolding change changePublic changeKeys changeContents allocated sealed keyPresented hasKey windowOpen pointsTo
+  closed-dropFrom bs =
+      frame K G (Grown G (dropFrom bs)) c (change c (dropFrom bs)) closed refl (λ x g. inl g)
+      (λ x al.
+      inr
+      (record {
+        wasAllocated = al;
+        wasUnsealed = λ s. s;
+        wasPresented = λ m k. k;
+        wasOpen = λ m o. o;
+        wasPointed = λ y g p. (same-set G y g, keep-contains (notFrom bs) (pointer y x) (inUse (c .public)) (rw (inUse-kept (c .public) bs) at p));
+      }))
+
   closed-setTime : (t : ℕ) → Allowed G (c .public) (setTime t) → Closed K (Grown G (setTime t)) (change c (setTime t))
   unfolding change changePublic changeKeys changeContents allocated sealed keyPresented hasKey windowOpen pointsTo
   closed-setTime t h =
@@ -409,4 +440,5 @@ module _ (K : ℕ → ℕ → Bool) (G : ℕ → Type 0) (c : Card) (r : Regular
   closed-change (raisePointer a b) h = closed-raisePointer a b
   closed-change (lowerPointer a b) h = closed-lowerPointer a b
   closed-change (dropPointer a b) h = closed-dropPointer a b h
+  closed-change (dropFrom bs) h = closed-dropFrom bs
   closed-change (setTime t) h = closed-setTime t h

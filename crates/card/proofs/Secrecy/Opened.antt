@@ -2,7 +2,7 @@
 use Prim.Native.Nat.{ℕ}
 use mathlib.Core.Path.{_≡_, refl}
 use mathlib.Core.Logic.{_⊎_, ⊎-elim}
-use mathlib.Core.Bool.{Bool, true, false, _&&_, not, cond}
+use mathlib.Core.Bool.{Bool, true, false, _&&_, cond}
 use lib.Dec.{eqb}
 use borrow.Author.Tests.{eqb-true, eq-eqb}
 use Rattle.card.specs.ListsLaws.{and-left, and-right, and-true, and-false-left, and-false-right, or-cases, absurd-test}
@@ -23,14 +23,14 @@ shows-itself : (high low : ℕ) → shows (Key high low) high low ≡ true
 unfolding shows
 shows-itself high low = and-true _ _ (eq-eqb high high refl) (eq-eqb low low refl)
 
-module _ (K : ℕ → ℕ → Bool) (G : ℕ → Type 0) (c : Card) (closed : Closed K G c) (b : ℕ) (a : allocated (c .public) b ≡ true) where
-  -- A block that lacks a key for some mode is not sealed.
-  unsealed : (mode : Mode) → hasKey (c .public) mode b ≡ false → sealed K c b ≡ false
-  unfolding sealed
-  unsealed Reading e = and-false-left (hasKey (c .public) Reading b && hasKey (c .public) Writing b) _ (and-false-left _ _ e)
-  unsealed Writing e =
-      and-false-left (hasKey (c .public) Reading b && hasKey (c .public) Writing b) _ (and-false-right (hasKey (c .public) Reading b) _ e)
+-- A block that lacks a key for some mode is not sealed.
+pub unsealed : (K : ℕ → ℕ → Bool) (c : Card) (b : ℕ) (mode : Mode) → hasKey (c .public) mode b ≡ false → sealed K c b ≡ false
+unfolding sealed
+unsealed K c b Reading e = and-false-left (hasKey (c .public) Reading b && hasKey (c .public) Writing b) _ (and-false-left _ _ e)
+unsealed K c b Writing e =
+    and-false-left (hasKey (c .public) Reading b && hasKey (c .public) Writing b) _ (and-false-right (hasKey (c .public) Reading b) _ e)
 
+module _ (K : ℕ → ℕ → Bool) (G : ℕ → Type 0) (c : Card) (closed : Closed K G c) (b : ℕ) (a : allocated (c .public) b ≡ true) where
   within-by-key : (mode : Mode) (high low : ℕ) → hasKey (c .public) mode b ≡ true → keyIs (c .keys) mode b high low ≡ true → K high low ≡ true → G b
   unfolding keyIs keyPresented
   within-by-key mode high low has is k =
@@ -52,7 +52,7 @@ module _ (K : ℕ → ℕ → Bool) (G : ℕ → Type 0) (c : Card) (closed : Cl
 
   within-root : (mode : Mode) (credential : Credential) → hasKey (c .public) mode b ≡ false → isRoot (c .public) b ≡ true → opensRoot credential ≡ true → G b
   unfolding opensRoot
-  within-root mode Nothing no-key root o = closed .root b a root (unsealed mode no-key)
+  within-root mode Nothing no-key root o = closed .root b a root (unsealed K c b mode no-key)
   within-root mode (Reference r) no-key root o = absurd-test {t = false} o refl
   within-root mode (Key high low) no-key root o = absurd-test {t = false} o refl
 
@@ -62,7 +62,7 @@ module _ (K : ℕ → ℕ → Bool) (G : ℕ → Type 0) (c : Card) (closed : Cl
   within-pointed mode (Reference r) no-key o =
       let there : allocated (c .public) r ≡ true = and-left _ _ o in
       let rest : pointsTo (c .public) r b && windowOpen (c .public) mode r ≡ true = and-right (allocated (c .public) r) _ o in
-      closed .pointed r b (closed .window mode r there (and-right (pointsTo (c .public) r b) _ rest)) a (and-left _ _ rest) (unsealed mode no-key)
+      closed .pointed r b (closed .window mode r there (and-right (pointsTo (c .public) r b) _ rest)) a (and-left _ _ rest) (unsealed K c b mode no-key)
   within-pointed mode (Key high low) no-key o = absurd-test {t = false} o refl
 
   pub opened-within : (mode : Mode) (credential : Credential) → opens c mode b credential ≡ true → AllPresented K credential → G b

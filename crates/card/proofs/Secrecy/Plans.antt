@@ -11,7 +11,7 @@ use lib.Seq.{getD-set-other}
 use borrow.Author.Tests.{eqb-true, eqb-false, ltb-true, not-false, not-true, ne-eqb}
 use Rattle.card.specs.Lists.{all}
 use Rattle.card.specs.ListsLaws.{or-right, or-false-left, all-head, all-tail, all-map, absurd-test}
-use Rattle.card.specs.Pointers.{pointer, source}
+use Rattle.card.specs.Pointers.{pointer, source, contains}
 use Rattle.card.specs.PointersLaws.{all-insert, source-pointer}
 use Rattle.card.specs.Card.{Public, Card, allocated, inUse, pointsTo, hasKey, count, multiplicity}
 use Rattle.card.specs.Soundness.{pointerRight}
@@ -19,7 +19,7 @@ use Rattle.card.specs.SoundCard.{SoundCard}
 use Rattle.card.specs.SoundnessLaws.{pointerRight-true, allocated-below}
 use Rattle.card.specs.Access.{admits}
 use Rattle.card.specs.Plan.{NoneHolds, setWindow, setBlock, setKey, takeBlock, freeBlock, addPointer, raisePointer, lowerPointer, dropPointer, changePublic, Shown, nothing, blockPart, numbers, Plan, Buffers}
-use Rattle.card.specs.Calls.{windowAfter, opensWindow, closeWindows, modeOf, wanted, takeAll, readPlan, writePlan, allocPlan, allocContigPlan, createPlan, deletePlan, keyPlan, renewPlan, forcePlan, freePlan, tickPlan, auditPlan}
+use Rattle.card.specs.Calls.{windowAfter, opensWindow, closeWindows, modeOf, wanted, takeAll, readPlan, writePlan, allocPlan, allocContigPlan, createPlan, deletePlan, freedWith, freeEach, deleteTreePlan, keyPlan, renewPlan, forcePlan, freePlan, tickPlan, auditPlan}
 use Rattle.card.specs.Session.{keyCall, plan, traits}
 use Rattle.card.specs.Reach.{shows, presents, someShows}
 use Rattle.card.specs.declared.Port.the-variants.{Host}
@@ -36,7 +36,9 @@ use Rattle.card.specs.declared.RenewOperands.{RenewOperands}
 use Rattle.card.specs.declared.ForceOperands.{ForceOperands}
 use Rattle.card.specs.declared.TickOperands.{TickOperands}
 use Rattle.card.specs.declared.Call.{Call}
-use Rattle.card.specs.declared.Call.the-variants.{Read, Write, Alloc, AllocContig, Create, Delete, KeyRead, KeyWrite, Renew, Force, Free, Tick, Audit}
+use Rattle.card.specs.declared.Call.the-variants.{Read, Write, Alloc, AllocContig, Create, Delete, DeleteTree, KeyRead, KeyWrite, Renew, Force, Free, Tick, Audit}
+use Rattle.card.specs.NearestLaws.{contains-here, contains-there}
+use Rattle.card.specs.TreeLaws.{ordinary-below, orphans-ordinary}
 use Rattle.card.specs.Takeable.{Without, Distinct, none, more, Takeable}
 use Rattle.card.specs.PicksLaws.{picks-takeable}
 use Rattle.card.specs.RunsLaws.{run-takeable}
@@ -158,9 +160,20 @@ ready {c} s reference a (b ∷ bs) l u (more w d) =
       ready s reference a bs (all-tail (λ x. ltb x (c .public .info .blocks)) b bs l) (all-tail (λ x. not (allocated (c .public) x)) b bs u) d,
     )
 
+-- ---- DELETE_TREE frees blocks below N
+
+freed-below : (p : Public) (a d b : ℕ) → contains b (freedWith p a d) ≡ true → b < p .info .blocks
+unfolding freedWith changePublic
+freed-below p a d b h = ordinary-below (changePublic (dropPointer a d) p) b (orphans-ordinary (changePublic (dropPointer a d) p) b h)
+
+freeEach-allowed : (G : ℕ → Type 0) (p : Public) (bs : List ℕ) → ((b : ℕ) → contains b bs ≡ true → b < p .info .blocks) → AllowedAll G p (freeEach bs)
+unfolding freeEach changePublic
+freeEach-allowed G p [] low = tt
+freeEach-allowed G p (b ∷ bs) low = (low b (contains-here b bs), freeEach-allowed _ (changePublic (freeBlock b) p) bs (λ x h. low x (contains-there x b bs h)))
+
 module _ (K : ℕ → ℕ → Bool) (G : ℕ → Type 0) (c : Card) (s : SoundCard c) (closed : Closed K G c) where
   -- A block that is allocated and opened to a presented credential is in the set.
-  within : (mode : Mode) (b : ℕ) (credential : _) → not (allocated (c .public) b) ≡ false → not (admits Host c mode b credential) ≡ false
+  pub within : (mode : Mode) (b : ℕ) (credential : _) → not (allocated (c .public) b) ≡ false → not (admits Host c mode b credential) ≡ false
       → AllPresented K credential → G b
   unfolding admits
   within mode b credential a o k = opened-within K G c closed b (not-false _ a) mode credential (not-false _ o) k
@@ -224,6 +237,19 @@ module _ (K : ℕ → ℕ → Bool) (G : ℕ → Type 0) (c : Card) (s : SoundCa
       go false true = (tt, (below (o .destination) (n .1 .0), tt))
       go false false = (tt, tt)
 
+  safe-delete-tree : (o : DeleteOperands) (lent : Buffers) → NoneHolds (plan Host c (DeleteTree o) lent .checks) → Safe G c (plan Host c (DeleteTree o) lent)
+  unfolding plan deleteTreePlan pointsTo changePublic
+  safe-delete-tree o lent n = record {
+    shownIn = tt;
+    allowed = (
+      not-false _ (n .1 .1 .1 .1 .0),
+      (
+        tt,
+        freeEach-allowed _ _ (freedWith (c .public) (o .source) (o .destination)) (freed-below (c .public) (o .source) (o .destination)),
+      ),
+    );
+  }
+
   closing-allowed : (H : ℕ → Type 0) (p : Public) (b : ℕ) → AllowedAll H p (closeWindows b)
   closing-allowed H p b = (inr (omega arith), (inr (omega arith), tt))
 
@@ -269,6 +295,7 @@ module _ (K : ℕ → ℕ → Bool) (G : ℕ → Type 0) (c : Card) (s : SoundCa
   safe (AllocContig o) lent k n = safe-contig o lent n
   safe (Create o) lent k n = safe-create o lent k n
   safe (Delete o) lent k n = safe-delete o lent n
+  safe (DeleteTree o) lent k n = safe-delete-tree o lent n
   safe (KeyRead o) lent k n = safe-key Reading o lent k n
   safe (KeyWrite o) lent k n = safe-key Writing o lent k n
   safe (Renew o) lent k n = safe-renew o lent k n

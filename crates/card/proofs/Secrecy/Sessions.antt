@@ -12,9 +12,9 @@ use Rattle.card.specs.ListsLaws.{and-true, or-left, or-right, or-false-l
 use Rattle.card.specs.Card.{Public, Card, allocated, freeBlocks, block, count, multiplicity, pointsTo}
 use Rattle.card.specs.SoundCard.{SoundCard}
 use Rattle.card.specs.Access.{opens, admits}
-use Rattle.card.specs.Plan.{setWindow, freeBlock, addPointer, raisePointer, lowerPointer, dropPointer, first, Shown, nothing, blockPart, numbers, Plan, Buffers, Result, refused, done, outAfter, settle, judgeSound}
+use Rattle.card.specs.Plan.{setWindow, freeBlock, addPointer, raisePointer, lowerPointer, dropPointer, NoneHolds, first, Shown, nothing, blockPart, numbers, Plan, Buffers, Result, refused, done, outAfter, settle, judgeSound}
 use Rattle.card.specs.PlanLaws.{first-none, judge-sound}
-use Rattle.card.specs.Calls.{opensWindow, windowAfter, modeOf, wanted, picks, takeAll, readPlan, writePlan, allocPlan, runStarts, nearestRun, allocContigPlan, createPlan, deletePlan, keyPlan, renewPlan, forcePlan, freePlan, tickPlan, auditPlan}
+use Rattle.card.specs.Calls.{opensWindow, windowAfter, modeOf, wanted, picks, takeAll, readPlan, writePlan, allocPlan, runStarts, nearestRun, allocContigPlan, createPlan, deletePlan, deleteTreePlan, keyPlan, renewPlan, forcePlan, freePlan, tickPlan, auditPlan}
 use Rattle.card.specs.Session.{Request, plan, perform, reply, replies, afterAll, hostSession, traits}
 use Rattle.card.specs.Reach.{shows, presents, someShows, takesLast, isOne, lastTaken}
 use Rattle.card.specs.declared.Port.the-variants.{Host}
@@ -24,11 +24,12 @@ use Rattle.card.specs.declared.Credential.{Credential}
 use Rattle.card.specs.declared.Credential.the-variants.{Key as KeyCredential}
 use Rattle.card.specs.declared.Refusal.{Refusal}
 use Rattle.card.specs.declared.Call.{Call}
-use Rattle.card.specs.declared.Call.the-variants.{Read, Write, Alloc, AllocContig, Create, Delete, KeyRead, KeyWrite, Renew, Force, Free, Tick, Audit}
+use Rattle.card.specs.declared.Call.the-variants.{Read, Write, Alloc, AllocContig, Create, Delete, DeleteTree, KeyRead, KeyWrite, Renew, Force, Free, Tick, Audit}
 use Rattle.card.proofs.Secrecy.Closed.{Closed}
 use Rattle.card.proofs.Secrecy.StepsAlike.{Alike, Kept, GrownAll, grows, closed-changes, alike-changes, covered, Frees, FreesNone, KeptApart, apart-changes}
 use Rattle.card.proofs.Secrecy.Opened.{AllPresented}
 use Rattle.card.proofs.Secrecy.Plans.{sound-regular, ShownIn, Safe, CallPresents, safe}
+use Rattle.card.proofs.Secrecy.Trees.{tree-frees-none}
 
 -- A link between the keys of two cards under which no presented credential tells them apart.
 pub record KeyLink (K : ℕ → ℕ → Bool) (L : Public → List ℕ → List ℕ → Type 0) : Type 0 where
@@ -69,6 +70,8 @@ module _ (K : ℕ → ℕ → Bool) (L : Public → List ℕ → List ℕ → Ty
       ap₂ (λ (p : Public) (t : Bool). createPlan Host p t (opens c Writing (o .destination) (o .second)) o) (alike .samePublic) source
       ∙ ap (λ (t : Bool). createPlan Host (d .public) (opens d Writing (o .source) (o .credential)) t o) destination
   plan-same (Delete o) lent k = ap₂ (λ (p : Public) (t : Bool). deletePlan Host p t o) (alike .samePublic) (same-opens Writing (o .source) (o .credential) k)
+  plan-same (DeleteTree o) lent k =
+      ap₂ (λ (p : Public) (t : Bool). deleteTreePlan Host p t o) (alike .samePublic) (same-opens Writing (o .source) (o .credential) k)
   plan-same (KeyRead o) lent k = ap₂ (λ (p : Public) (t : Bool). keyPlan Host p t Reading o) (alike .samePublic) (same-opens Writing (o .block) (o .credential) k)
   plan-same (KeyWrite o) lent k = ap₂ (λ (p : Public) (t : Bool). keyPlan Host p t Writing o) (alike .samePublic) (same-opens Writing (o .block) (o .credential) k)
   plan-same (Renew o) lent k =
@@ -169,44 +172,6 @@ unfolding takeAll
 takes-free-none reference [] x = tt
 takes-free-none reference (b ∷ bs) x = (λ f. f, (λ f. f, takes-free-none reference bs x))
 
--- A call that does not take the block's last pointer away frees it by no change.
-frees-none : (c : Card) (call : Call) (lent : Buffers) (x : ℕ) → takesLast call (plan Host c call lent .answer) x ≡ false → FreesNone (plan Host c call lent .steps) x
-unfolding plan takesLast isOne readPlan writePlan allocPlan allocContigPlan createPlan deletePlan keyPlan renewPlan forcePlan freePlan tickPlan auditPlan opensWindow traits
-frees-none c (Read o) lent x e = go (eqb (o .interval) 0)
-  where
-    go : (t : Bool) → FreesNone (cond t [] (setWindow Reading (o .block) (windowAfter (c .public) Reading (o .block) (o .interval)) ∷ [])) x
-    go true = tt
-    go false = (λ f. f, tt)
-frees-none c (Write o) lent x e = (λ f. f, go (eqb (o .interval) 0))
-  where
-    go : (t : Bool) → FreesNone (cond t [] (setWindow Writing (o .block) (windowAfter (c .public) Writing (o .block) (o .interval)) ∷ [])) x
-    go true = tt
-    go false = (λ f. f, tt)
-frees-none c (Alloc o) lent x e = takes-free-none (o .reference) (picks (wanted (o .hint)) (o .count) (freeBlocks (c .public))) x
-frees-none c (AllocContig o) lent x e = takes-free-none (o .reference) (nearestRun (wanted (o .hint)) (o .count) (runStarts (c .public) (o .count))) x
-frees-none c (Create o) lent x e = (first (pointsTo (c .public) (o .source) (o .destination)), tt)
-  where
-    first : (t : Bool) → Frees (cond t (raisePointer (o .source) (o .destination)) (addPointer (o .source) (o .destination))) x → ⊥
-    first true f = f
-    first false f = f
-frees-none c (Delete o) lent x e =
-    (first (eqb (multiplicity (c .public) (o .source) (o .destination)) 1), go (eqb (count (c .public) (o .destination)) 1) e)
-  where
-    first : (t : Bool) → Frees (cond t (dropPointer (o .source) (o .destination)) (lowerPointer (o .source) (o .destination))) x → ⊥
-    first true f = f
-    first false f = f
-
-    go : (t : Bool) → eqb (o .destination) x && eqb (cond t 1 0) 1 ≡ false → FreesNone (cond t (freeBlock (o .destination) ∷ []) []) x
-    go true h = (λ f. absurd-test (and-true _ _ (eq-eqb (o .destination) x (sym f)) refl) h, tt)
-    go false h = tt
-frees-none c (KeyRead o) lent x e = (λ f. f, (λ f. f, (λ f. f, tt)))
-frees-none c (KeyWrite o) lent x e = (λ f. f, (λ f. f, (λ f. f, tt)))
-frees-none c (Renew o) lent x e = (λ f. f, tt)
-frees-none c (Force o) lent x e = (λ f. f, (λ f. f, tt))
-frees-none c Free lent x e = tt
-frees-none c (Tick o) lent x e = (λ f. f, tt)
-frees-none c Audit lent x e = tt
-
 -- A set closed on the card that a call leaves, and an allocated block outside the set before, as the call leaves it.
 pub record OneNext (K : ℕ → ℕ → Bool) (G : ℕ → Type 0) (c c′ : Card) (x : ℕ) : Type 1 where
   pub G′ : ℕ → Type 0
@@ -214,6 +179,46 @@ pub record OneNext (K : ℕ → ℕ → Bool) (G : ℕ → Type 0) (c c′ : Car
   pub apart : KeptApart G′ c c′ x
 
 module _ (K : ℕ → ℕ → Bool) (G : ℕ → Type 0) (c : Card) (s : SoundCard c) (closed : Closed K G c) (x : ℕ) (a : allocated (c .public) x ≡ true) (out : G x → ⊥) where
+  -- A done call that does not take the last pointer of a block outside the set away frees that block by no change.
+  frees-none : (call : Call) (lent : Buffers) → CallPresents K call → NoneHolds (plan Host c call lent .checks) → takesLast call (plan Host c call lent .answer) x ≡ false
+      → FreesNone (plan Host c call lent .steps) x
+  unfolding plan takesLast isOne readPlan writePlan allocPlan allocContigPlan createPlan deletePlan keyPlan renewPlan forcePlan freePlan tickPlan auditPlan opensWindow traits
+  frees-none (Read o) lent k n e = go (eqb (o .interval) 0)
+    where
+      go : (t : Bool) → FreesNone (cond t [] (setWindow Reading (o .block) (windowAfter (c .public) Reading (o .block) (o .interval)) ∷ [])) x
+      go true = tt
+      go false = (λ f. f, tt)
+  frees-none (Write o) lent k n e = (λ f. f, go (eqb (o .interval) 0))
+    where
+      go : (t : Bool) → FreesNone (cond t [] (setWindow Writing (o .block) (windowAfter (c .public) Writing (o .block) (o .interval)) ∷ [])) x
+      go true = tt
+      go false = (λ f. f, tt)
+  frees-none (Alloc o) lent k n e = takes-free-none (o .reference) (picks (wanted (o .hint)) (o .count) (freeBlocks (c .public))) x
+  frees-none (AllocContig o) lent k n e = takes-free-none (o .reference) (nearestRun (wanted (o .hint)) (o .count) (runStarts (c .public) (o .count))) x
+  frees-none (Create o) lent k n e = (first (pointsTo (c .public) (o .source) (o .destination)), tt)
+    where
+      first : (t : Bool) → Frees (cond t (raisePointer (o .source) (o .destination)) (addPointer (o .source) (o .destination))) x → ⊥
+      first true f = f
+      first false f = f
+  frees-none (Delete o) lent k n e =
+      (first (eqb (multiplicity (c .public) (o .source) (o .destination)) 1), go (eqb (count (c .public) (o .destination)) 1) e)
+    where
+      first : (t : Bool) → Frees (cond t (dropPointer (o .source) (o .destination)) (lowerPointer (o .source) (o .destination))) x → ⊥
+      first true f = f
+      first false f = f
+
+      go : (t : Bool) → eqb (o .destination) x && eqb (cond t 1 0) 1 ≡ false → FreesNone (cond t (freeBlock (o .destination) ∷ []) []) x
+      go true h = (λ f. absurd-test (and-true _ _ (eq-eqb (o .destination) x (sym f)) refl) h, tt)
+      go false h = tt
+  frees-none (DeleteTree o) lent k n e = tree-frees-none K G c s closed o lent k n x out
+  frees-none (KeyRead o) lent k n e = (λ f. f, (λ f. f, (λ f. f, tt)))
+  frees-none (KeyWrite o) lent k n e = (λ f. f, (λ f. f, (λ f. f, tt)))
+  frees-none (Renew o) lent k n e = (λ f. f, tt)
+  frees-none (Force o) lent k n e = (λ f. f, (λ f. f, tt))
+  frees-none Free lent k n e = tt
+  frees-none (Tick o) lent k n e = (λ f. f, tt)
+  frees-none Audit lent k n e = tt
+
   one-settled : (q : Request) → CallPresents K (q .call) → (o : Option Refusal) → first (plan Host c (q .call) (q .lent) .checks) ≡ o
       → takesLast (q .call) (settle c (q .lent) (plan Host c (q .call) (q .lent)) o .answer) x ≡ false
       → OneNext K G c (settle c (q .lent) (plan Host c (q .call) (q .lent)) o .after) x
@@ -224,7 +229,7 @@ module _ (K : ℕ → ℕ → Bool) (G : ℕ → Type 0) (c : Card) (s : SoundCa
       record {
         G′ = GrownAll G (p .steps);
         closed = closed-changes K G c (p .steps) (sound-regular s) (ok .allowed) closed;
-        apart = apart-changes G c (p .steps) (sound-regular s) x a out (ok .allowed) (frees-none c (q .call) (q .lent) x f);
+        apart = apart-changes G c (p .steps) (sound-regular s) x a out (ok .allowed) (frees-none (q .call) (q .lent) k (first-none _ e) f);
       }
   one-settled q k (some r) e f = record { G′ = G; closed = closed; apart = record { stillAllocated = a; stillOutside = out; sameBlock = refl } }
 

@@ -12,7 +12,7 @@ use Rattle.card.specs.ListsLaws.{and-right, absurd-test, same-or-other}
 use Rattle.card.specs.Contents.{zeros}
 use Rattle.card.specs.ContentsLaws.{part-fill-same, part-fill-other, block-fits}
 use Rattle.card.specs.Card.{Public, Card, allocated, block}
-use Rattle.card.specs.Plan.{Change, setWindow, setBlock, setKey, takeBlock, freeBlock, addPointer, raisePointer, lowerPointer, dropPointer, setTime, changePublic, changeKeys, changeContents, change, changes}
+use Rattle.card.specs.Plan.{Change, setWindow, setBlock, setKey, takeBlock, freeBlock, addPointer, raisePointer, lowerPointer, dropPointer, dropFrom, setTime, changePublic, changeKeys, changeContents, change, changes}
 use Rattle.card.proofs.Secrecy.Closed.{Closed, Regular, Allowed, Grown, regular-change, closed-change}
 
 -- ---- the contents of a block after one change
@@ -28,6 +28,7 @@ WrittenBy (addPointer a b) x = ⊥
 WrittenBy (raisePointer a b) x = ⊥
 WrittenBy (lowerPointer a b) x = ⊥
 WrittenBy (dropPointer a b) x = ⊥
+WrittenBy (dropFrom bs) x = ⊥
 WrittenBy (setTime t) x = ⊥
 
 -- A block lies within the contents.
@@ -47,6 +48,7 @@ block-kept G c (addPointer a b) r h x n = refl
 block-kept G c (raisePointer a b) r h x n = refl
 block-kept G c (lowerPointer a b) r h x n = refl
 block-kept G c (dropPointer a b) r h x n = refl
+block-kept G c (dropFrom bs) r h x n = refl
 block-kept G c (setTime t) r h x n = refl
 
 -- ---- two cards
@@ -83,6 +85,7 @@ module _ (L : Public → List ℕ → List ℕ → Type 0) (kept : Kept L) (G : 
   same-written (raisePointer a b) h x w = absurd w
   same-written (lowerPointer a b) h x w = absurd w
   same-written (dropPointer a b) h x w = absurd w
+  same-written (dropFrom bs) h x w = absurd w
   same-written (setTime t) h x w = absurd w
 
   -- A block of the grown set was in the set, or is written.
@@ -96,6 +99,7 @@ module _ (L : Public → List ℕ → List ℕ → Type 0) (kept : Kept L) (G : 
   joins (raisePointer a b) x g = g
   joins (lowerPointer a b) x g = g
   joins (dropPointer a b) x g = g
+  joins (dropFrom bs) x g = g
   joins (setTime t) x g = g
 
   written-or-not : (step : Change) (x : ℕ) → WrittenBy step x ⊎ (WrittenBy step x → ⊥)
@@ -108,6 +112,7 @@ module _ (L : Public → List ℕ → List ℕ → Type 0) (kept : Kept L) (G : 
   written-or-not (raisePointer a b) x = inr (λ w. w)
   written-or-not (lowerPointer a b) x = inr (λ w. w)
   written-or-not (dropPointer a b) x = inr (λ w. w)
+  written-or-not (dropFrom bs) x = inr (λ w. w)
   written-or-not (setTime t) x = inr (λ w. w)
 
   pub alike-change : (step : Change) → Allowed G (c .public) step → Alike L (Grown G step) (change c step) (change d step)
@@ -183,6 +188,7 @@ allocated-before c (addPointer y b) G r h x a = inr a
 allocated-before c (raisePointer y b) G r h x a = inr a
 allocated-before c (lowerPointer y b) G r h x a = inr a
 allocated-before c (dropPointer y b) G r h x a = inr a
+allocated-before c (dropFrom bs) G r h x a = inr a
 allocated-before c (setTime t) G r h x a = inr a
 
 pub covered : (G : ℕ → Type 0) (c : Card) (steps : List Change) → Regular c → AllowedAll G (c .public) steps → (x : ℕ)
@@ -206,6 +212,7 @@ Frees (addPointer a b) x = ⊥
 Frees (raisePointer a b) x = ⊥
 Frees (lowerPointer a b) x = ⊥
 Frees (dropPointer a b) x = ⊥
+Frees (dropFrom bs) x = ⊥
 Frees (setTime t) x = ⊥
 
 abbrev pub FreesNone : List Change → ℕ → Type 0
@@ -230,6 +237,7 @@ module _ (G : ℕ → Type 0) (c : Card) (r : Regular c) (x : ℕ) (a : allocate
   unwritten (raisePointer y b) h w = w
   unwritten (lowerPointer y b) h w = w
   unwritten (dropPointer y b) h w = w
+  unwritten (dropFrom bs) h w = w
   unwritten (setTime t) h w = w
 
   still-outside : (step : Change) → Allowed G (c .public) step → Grown G step x → ⊥
@@ -242,6 +250,7 @@ module _ (G : ℕ → Type 0) (c : Card) (r : Regular c) (x : ℕ) (a : allocate
   still-outside (raisePointer y b) h g = ⊎-elim out (λ k. k) g
   still-outside (lowerPointer y b) h g = ⊎-elim out (λ k. k) g
   still-outside (dropPointer y b) h g = ⊎-elim out (λ k. k) g
+  still-outside (dropFrom bs) h g = ⊎-elim out (λ k. k) g
   still-outside (setTime t) h g = ⊎-elim out (λ k. k) g
 
   still-allocated : (step : Change) → Allowed G (c .public) step → (Frees step x → ⊥) → allocated (changePublic step (c .public)) x ≡ true
@@ -255,6 +264,7 @@ module _ (G : ℕ → Type 0) (c : Card) (r : Regular c) (x : ℕ) (a : allocate
   still-allocated (raisePointer y b) h n = a
   still-allocated (lowerPointer y b) h n = a
   still-allocated (dropPointer y b) h n = a
+  still-allocated (dropFrom bs) h n = a
   still-allocated (setTime t) h n = a
 
   apart-change : (step : Change) → Allowed G (c .public) step → (Frees step x → ⊥) → KeptApart (Grown G step) c (change c step) x

@@ -19,7 +19,7 @@ use Rattle.card.specs.declared.Port.the-variants.{Host}
 use Rattle.card.specs.declared.Credential.{Credential}
 use Rattle.card.specs.declared.Credential.the-variants.{Nothing, Reference, Key}
 use Rattle.card.proofs.Guarantees.KeepsSound.{done-sound}
-use Rattle.card.proofs.Secrecy.Closed.{Closed}
+use Rattle.card.proofs.Secrecy.Closed.{reach-closed}
 use Rattle.card.proofs.Secrecy.StepsAlike.{Alike}
 use Rattle.card.proofs.Secrecy.Sessions.{KeyLink, CallsKeepSound, AllPresent, BothRun, both-run, hidden-kept}
 
@@ -53,15 +53,6 @@ pub record Secret (K : ℕ → ℕ → Bool) (calls : List Sent) (c d : Card) : 
   pub keptOnOther : (b : ℕ) → Hidden K c b → lastTaken d calls b ≡ false → block (afterAll d calls) b ≡ block d b
 
 -- ---- the proof
-
--- The blocks within reach are closed under reach.
-reach-closed : (K : ℕ → ℕ → Bool) (c : Card) → Closed K (Reach K c) c
-reach-closed K c = record {
-  root = λ b a r s. unsealedRoot a r s;
-  key = λ mode b a k. byKey mode a k;
-  window = λ mode b a o. openWindow mode a o;
-  pointed = λ a b g h p s. pointed g h p s;
-}
 
 -- What is presented by a call of the list is presented in the list.
 presented-later : (K : ℕ → ℕ → Bool) (qs : List Request) → HasKeys K qs → AllPresent K qs

@@ -1,5 +1,5 @@
 -- `dispatch::perform_sound` meets its contract: each arm by one law.
-use Rattle.card.specs.BuffersLaws.{with-read, with-write, with-alloc, with-alloc-contig, with-create, with-delete, with-key, with-renew, with-force, with-free, with-tick, with-audit}
+use Rattle.card.specs.BuffersLaws.{with-read, with-write, with-alloc, with-alloc-contig, with-create, with-delete, with-delete-tree, with-key, with-renew, with-force, with-free, with-tick, with-audit}
 use Rattle.card.specs.declared.Mode.the-variants.{Reading, Writing}
 use borrow.Author.Needs.{needs}
 use Rattle.dispatch.proofs.perform_sound.Statement.{statement}
@@ -7,11 +7,11 @@ use Rattle.dispatch.proofs.perform_sound.Tie as tie
 
 -- ---- places of the code
 
-abbrev start-from-call7 : tie.After-call7 → tie.Start
-start-from-call7 c = search
-
 abbrev start-from-call8 : tie.After-call8 → tie.Start
 start-from-call8 c = search
+
+abbrev start-from-call9 : tie.After-call9 → tie.Start
+start-from-call9 c = search
 
 enum-known-call : tie.Need-enum-known-call
 enum-known-call c = search needs
@@ -52,23 +52,29 @@ delete-sound-requires c κs = search needs
 enum-known-call-7 : tie.Need-enum-known-call-7
 enum-known-call-7 c = search needs
 
-key-sound-requires : tie.Need-key-sound-requires
-key-sound-requires c κs = search needs
+delete-tree-sound-requires : tie.Need-delete-tree-sound-requires
+delete-tree-sound-requires c κs = search needs
 
 enum-known-call-8 : tie.Need-enum-known-call-8
 enum-known-call-8 c = search needs
 
-key-sound-requires-2 : tie.Need-key-sound-requires-2
-key-sound-requires-2 c κs = search needs
+key-sound-requires : tie.Need-key-sound-requires
+key-sound-requires c κs = search needs
 
 enum-known-call-9 : tie.Need-enum-known-call-9
 enum-known-call-9 c = search needs
 
-renew-sound-requires : tie.Need-renew-sound-requires
-renew-sound-requires c κs = search needs
+key-sound-requires-2 : tie.Need-key-sound-requires-2
+key-sound-requires-2 c κs = search needs
 
 enum-known-call-10 : tie.Need-enum-known-call-10
 enum-known-call-10 c = search needs
+
+renew-sound-requires : tie.Need-renew-sound-requires
+renew-sound-requires c κs = search needs
+
+enum-known-call-11 : tie.Need-enum-known-call-11
+enum-known-call-11 c = search needs
 
 force-sound-requires : tie.Need-force-sound-requires
 force-sound-requires c κs = search needs
@@ -79,8 +85,8 @@ enum-told c = search needs
 free-sound-requires : tie.Need-free-sound-requires
 free-sound-requires c κs = search needs
 
-enum-known-call-11 : tie.Need-enum-known-call-11
-enum-known-call-11 c = search needs
+enum-known-call-12 : tie.Need-enum-known-call-12
+enum-known-call-12 c = search needs
 
 tick-sound-requires : tie.Need-tick-sound-requires
 tick-sound-requires c κs = search needs
@@ -263,12 +269,7 @@ same-length-52 : tie.Need-same-length-52
 same-length-52 c = search needs
 
 returns-7 : tie.Need-returns-7
-returns-7 c =
-    let at-key-sound : tie.After-key-sound = search in
-    let at-call7 : tie.After-call7 = search in
-    let start = start-from-call7 at-call7 in
-    with-key (start .args .port) _ (start .args .input .now) (start .args .out .now) (start .args .places .now) (start .args .call) Reading _ (at-call7 .call7 .given .1)
-    (at-key-sound .key-sound .ensures)
+returns-7 c = search with-delete-tree
 
 same-length-53 : tie.Need-same-length-53
 same-length-53 c = search needs
@@ -293,11 +294,11 @@ same-length-59 c = search needs
 
 returns-8 : tie.Need-returns-8
 returns-8 c =
-    let at-key-sound2 : tie.After-key-sound2 = search in
+    let at-key-sound : tie.After-key-sound = search in
     let at-call8 : tie.After-call8 = search in
     let start = start-from-call8 at-call8 in
-    with-key (start .args .port) _ (start .args .input .now) (start .args .out .now) (start .args .places .now) (start .args .call) Writing _ (at-call8 .call8 .given .1)
-    (at-key-sound2 .key-sound2 .ensures)
+    with-key (start .args .port) _ (start .args .input .now) (start .args .out .now) (start .args .places .now) (start .args .call) Reading _ (at-call8 .call8 .given .1)
+    (at-key-sound .key-sound .ensures)
 
 same-length-60 : tie.Need-same-length-60
 same-length-60 c = search needs
@@ -322,10 +323,11 @@ same-length-66 c = search needs
 
 returns-9 : tie.Need-returns-9
 returns-9 c =
+    let at-key-sound2 : tie.After-key-sound2 = search in
     let at-call9 : tie.After-call9 = search in
-    let start : tie.Start = search in
-    with-renew (start .args .port) _ (start .args .input .now) (start .args .out .now) (start .args .places .now) (start .args .call) (at-call9 .call9 .given .1)
-    (c .before .before .renew-sound .ensures (start .args .port))
+    let start = start-from-call9 at-call9 in
+    with-key (start .args .port) _ (start .args .input .now) (start .args .out .now) (start .args .places .now) (start .args .call) Writing _ (at-call9 .call9 .given .1)
+    (at-key-sound2 .key-sound2 .ensures)
 
 same-length-67 : tie.Need-same-length-67
 same-length-67 c = search needs
@@ -352,8 +354,8 @@ returns-10 : tie.Need-returns-10
 returns-10 c =
     let at-call10 : tie.After-call10 = search in
     let start : tie.Start = search in
-    with-force (start .args .port) _ (start .args .input .now) (start .args .out .now) (start .args .places .now) (start .args .call) (at-call10 .call10 .given .1)
-    (c .before .before .force-sound .ensures (start .args .port))
+    with-renew (start .args .port) _ (start .args .input .now) (start .args .out .now) (start .args .places .now) (start .args .call) (at-call10 .call10 .given .1)
+    (c .before .before .renew-sound .ensures (start .args .port))
 
 same-length-74 : tie.Need-same-length-74
 same-length-74 c = search needs
@@ -378,10 +380,10 @@ same-length-80 c = search needs
 
 returns-11 : tie.Need-returns-11
 returns-11 c =
-    let at-enum-told : tie.After-enum-told = search in
+    let at-call11 : tie.After-call11 = search in
     let start : tie.Start = search in
-    with-free (start .args .port) _ (start .args .input .now) (start .args .out .now) (start .args .places .now) (start .args .call) (at-enum-told .enum-told .given .1)
-    (c .free-sound .ensures (start .args .port))
+    with-force (start .args .port) _ (start .args .input .now) (start .args .out .now) (start .args .places .now) (start .args .call) (at-call11 .call11 .given .1)
+    (c .before .before .force-sound .ensures (start .args .port))
 
 same-length-81 : tie.Need-same-length-81
 same-length-81 c = search needs
@@ -406,13 +408,41 @@ same-length-87 c = search needs
 
 returns-12 : tie.Need-returns-12
 returns-12 c =
-    let at-call11 : tie.After-call11 = search in
+    let at-enum-told : tie.After-enum-told = search in
     let start : tie.Start = search in
-    with-tick (start .args .port) _ (start .args .input .now) (start .args .out .now) (start .args .places .now) (start .args .call) (at-call11 .call11 .given .1)
-    (c .tick-sound .ensures (start .args .port))
+    with-free (start .args .port) _ (start .args .input .now) (start .args .out .now) (start .args .places .now) (start .args .call) (at-enum-told .enum-told .given .1)
+    (c .free-sound .ensures (start .args .port))
+
+same-length-88 : tie.Need-same-length-88
+same-length-88 c = search needs
+
+same-length-89 : tie.Need-same-length-89
+same-length-89 c = search needs
+
+same-length-90 : tie.Need-same-length-90
+same-length-90 c = search needs
+
+same-length-91 : tie.Need-same-length-91
+same-length-91 c = search needs
+
+same-length-92 : tie.Need-same-length-92
+same-length-92 c = search needs
+
+same-length-93 : tie.Need-same-length-93
+same-length-93 c = search needs
+
+same-length-94 : tie.Need-same-length-94
+same-length-94 c = search needs
 
 returns-13 : tie.Need-returns-13
-returns-13 c = search with-audit
+returns-13 c =
+    let at-call12 : tie.After-call12 = search in
+    let start : tie.Start = search in
+    with-tick (start .args .port) _ (start .args .input .now) (start .args .out .now) (start .args .places .now) (start .args .call) (at-call12 .call12 .given .1)
+    (c .tick-sound .ensures (start .args .port))
+
+returns-14 : tie.Need-returns-14
+returns-14 c = search with-audit
 
 pub perform-sound-spec : {M : Type 1} → statement M
 perform-sound-spec =
@@ -431,16 +461,18 @@ perform-sound-spec =
     enum-known-call-6
     delete-sound-requires
     enum-known-call-7
-    key-sound-requires
+    delete-tree-sound-requires
     enum-known-call-8
-    key-sound-requires-2
+    key-sound-requires
     enum-known-call-9
-    renew-sound-requires
+    key-sound-requires-2
     enum-known-call-10
+    renew-sound-requires
+    enum-known-call-11
     force-sound-requires
     enum-told
     free-sound-requires
-    enum-known-call-11
+    enum-known-call-12
     tick-sound-requires
     enum-told-2
     same-length
@@ -542,4 +574,12 @@ perform-sound-spec =
     same-length-86
     same-length-87
     returns-12
-    returns-13)
+    same-length-88
+    same-length-89
+    same-length-90
+    same-length-91
+    same-length-92
+    same-length-93
+    same-length-94
+    returns-13
+    returns-14)

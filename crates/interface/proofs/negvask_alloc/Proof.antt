@@ -9,25 +9,13 @@ use Rattle.interface.proofs.negvask_alloc.Tie as tie
 abbrev at-perform : tie.After-slice-known18 → tie.After-perform
 at-perform c = c .before .before .before .before .before .before .before .before .before .before .before .before .before .before .before .before .before .before .before
 
-abbrev at-arrival : tie.After-slice-known18 → tie.After-at-port
-at-arrival c = at-perform c .before .before .before .before .before .before .before .before .before .before .before .before .before
-
-abbrev at-made : tie.After-slice-known18 → tie.After-alloc-with
-at-made c = at-arrival c .before
-
-abbrev at-credential : tie.After-slice-known18 → tie.After-credential-of
-at-credential c = at-made c .before
+abbrev at-made : tie.After-slice-known18 → tie.After-alloc-at
+at-made c = at-perform c .before .before .before .before .before .before .before .before .before .before .before .before .before
 
 -- ---- answers
 
-credential-of-requires : tie.Need-credential-of-requires
-credential-of-requires c κs = search needs
-
-alloc-with-requires : tie.Need-alloc-with-requires
-alloc-with-requires c κs = search needs
-
-at-port-requires : tie.Need-at-port-requires
-at-port-requires c κs = search needs
+alloc-at-requires : tie.Need-alloc-at-requires
+alloc-at-requires c κs = search needs
 
 slice-aggregate-perform : tie.Need-slice-aggregate-perform
 slice-aggregate-perform c = search needs
@@ -66,15 +54,13 @@ same-length-9 : tie.Need-same-length-9
 same-length-9 c = at-perform c .perform .kept .1 .1 .1 .1 .1 .1 .1 .1 .1 .1 .1 .0
 
 returns : tie.Need-returns
-returns c = rw (← at-credential c .credential-of .ensures, ← at-made c .alloc-with .ensures, ← at-arrival c .at-port .ensures) ((no-out (at-perform c .perform .ensures) (at-perform c .perform .kept .1 .1 .1 .1 .1 .1 .1 .1 .1 .1 .0)) .does)
+returns c = rw (← at-made c .alloc-at .ensures) ((no-out (at-perform c .perform .ensures) (at-perform c .perform .kept .1 .1 .1 .1 .1 .1 .1 .1 .1 .1 .0)) .does)
 
 pub negvask-alloc-spec : {M : Type 1} → statement M
 negvask-alloc-spec =
     tie.close
     (tie.spec
-    credential-of-requires
-    alloc-with-requires
-    at-port-requires
+    alloc-at-requires
     slice-aggregate-perform
     slice-aggregate-perform-2
     perform-requires

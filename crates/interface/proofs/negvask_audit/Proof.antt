@@ -1,4 +1,6 @@
 -- `interface::negvask_audit` meets its contract.
+use Rattle.interface.specs.Functions.{audit, lendingOf}
+use Rattle.interface.specs.FunctionsLaws.{gives-by}
 use borrow.Author.Needs.{needs}
 use Rattle.interface.proofs.negvask_audit.Statement.{statement}
 use Rattle.interface.proofs.negvask_audit.Tie as tie
@@ -9,6 +11,9 @@ abbrev at-perform : tie.After-slice-known16 → tie.After-perform-without-buffer
 at-perform c = c .before .before .before .before .before .before .before .before .before .before .before .before .before .before .before .before
 
 -- ---- answers
+
+audit-call-requires : tie.Need-audit-call-requires
+audit-call-requires c κs = search needs
 
 slice-aggregate-perform-without-buffers : tie.Need-slice-aggregate-perform-without-buffers
 slice-aggregate-perform-without-buffers c = search needs
@@ -41,12 +46,13 @@ same-length-8 : tie.Need-same-length-8
 same-length-8 c = at-perform c .perform-without-buffers .kept .1 .1 .1 .1 .1 .1 .1 .0
 
 returns : tie.Need-returns
-returns c = at-perform c .perform-without-buffers .ensures .does
+returns c = (gives-by _ _ _ {call = lendingOf audit .decoding} (at-perform c .perform-without-buffers .ensures) (search)) .does
 
 pub negvask-audit-spec : {M : Type 1} → statement M
 negvask-audit-spec =
     tie.close
     (tie.spec
+    audit-call-requires
     slice-aggregate-perform-without-buffers
     perform-without-buffers-requires
     same-length

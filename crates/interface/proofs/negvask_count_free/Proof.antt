@@ -1,4 +1,5 @@
 -- `interface::negvask_count_free` meets its contract.
+use Rattle.interface.specs.FunctionsLaws.{gives-by}
 use borrow.Author.Needs.{needs}
 use Rattle.interface.proofs.negvask_count_free.Statement.{statement}
 use Rattle.interface.proofs.negvask_count_free.Tie as tie
@@ -9,6 +10,9 @@ abbrev at-perform : tie.After-slice-known16 → tie.After-perform-without-buffer
 at-perform c = c .before .before .before .before .before .before .before .before .before .before .before .before .before .before .before .before
 
 -- ---- answers
+
+free-call-requires : tie.Need-free-call-requires
+free-call-requires c κs = search needs
 
 slice-aggregate-perform-without-buffers : tie.Need-slice-aggregate-perform-without-buffers
 slice-aggregate-perform-without-buffers c = search needs
@@ -41,12 +45,13 @@ same-length-8 : tie.Need-same-length-8
 same-length-8 c = at-perform c .perform-without-buffers .kept .1 .1 .1 .1 .1 .1 .1 .0
 
 returns : tie.Need-returns
-returns c = at-perform c .perform-without-buffers .ensures
+returns c = gives-by _ _ _ (at-perform c .perform-without-buffers .ensures) (search)
 
 pub negvask-count-free-spec : {M : Type 1} → statement M
 negvask-count-free-spec =
     tie.close
     (tie.spec
+    free-call-requires
     slice-aggregate-perform-without-buffers
     perform-without-buffers-requires
     same-length

@@ -8,25 +8,13 @@ use Rattle.interface.proofs.negvask_delete.Tie as tie
 abbrev at-perform : tie.After-slice-known16 → tie.After-perform-without-buffers
 at-perform c = c .before .before .before .before .before .before .before .before .before .before .before .before .before .before .before .before
 
-abbrev at-arrival : tie.After-slice-known16 → tie.After-at-port
-at-arrival c = at-perform c .before .before .before .before .before .before .before .before .before .before .before
-
-abbrev at-made : tie.After-slice-known16 → tie.After-delete-with
-at-made c = at-arrival c .before
-
-abbrev at-credential : tie.After-slice-known16 → tie.After-credential-of
-at-credential c = at-made c .before
+abbrev at-made : tie.After-slice-known16 → tie.After-delete-at
+at-made c = at-perform c .before .before .before .before .before .before .before .before .before .before .before
 
 -- ---- answers
 
-credential-of-requires : tie.Need-credential-of-requires
-credential-of-requires c κs = search needs
-
-delete-with-requires : tie.Need-delete-with-requires
-delete-with-requires c κs = search needs
-
-at-port-requires : tie.Need-at-port-requires
-at-port-requires c κs = search needs
+delete-at-requires : tie.Need-delete-at-requires
+delete-at-requires c κs = search needs
 
 slice-aggregate-perform-without-buffers : tie.Need-slice-aggregate-perform-without-buffers
 slice-aggregate-perform-without-buffers c = search needs
@@ -59,15 +47,13 @@ same-length-8 : tie.Need-same-length-8
 same-length-8 c = at-perform c .perform-without-buffers .kept .1 .1 .1 .1 .1 .1 .1 .0
 
 returns : tie.Need-returns
-returns c = rw (← at-credential c .credential-of .ensures, ← at-made c .delete-with .ensures, ← at-arrival c .at-port .ensures) (at-perform c .perform-without-buffers .ensures)
+returns c = rw (← at-made c .delete-at .ensures) (at-perform c .perform-without-buffers .ensures)
 
 pub negvask-delete-spec : {M : Type 1} → statement M
 negvask-delete-spec =
     tie.close
     (tie.spec
-    credential-of-requires
-    delete-with-requires
-    at-port-requires
+    delete-at-requires
     slice-aggregate-perform-without-buffers
     perform-without-buffers-requires
     same-length

@@ -8,13 +8,13 @@ use Rattle.interface.proofs.negvask_key_write.Tie as tie
 abbrev at-perform : tie.After-slice-known16 → tie.After-perform-without-buffers
 at-perform c = c .before .before .before .before .before .before .before .before .before .before .before .before .before .before .before .before
 
-abbrev at-made : tie.After-slice-known16 → tie.After-key-call-at
+abbrev at-made : tie.After-slice-known16 → tie.After-key-at
 at-made c = at-perform c .before .before .before .before .before .before .before .before .before .before .before
 
 -- ---- answers
 
-key-call-at-requires : tie.Need-key-call-at-requires
-key-call-at-requires c κs = search needs
+key-at-requires : tie.Need-key-at-requires
+key-at-requires c κs = search needs
 
 slice-aggregate-perform-without-buffers : tie.Need-slice-aggregate-perform-without-buffers
 slice-aggregate-perform-without-buffers c = search needs
@@ -47,13 +47,13 @@ same-length-8 : tie.Need-same-length-8
 same-length-8 c = at-perform c .perform-without-buffers .kept .1 .1 .1 .1 .1 .1 .1 .0
 
 returns : tie.Need-returns
-returns c = rw (← at-made c .key-call-at .ensures) (at-perform c .perform-without-buffers .ensures .does)
+returns c = rw (← at-made c .key-at .ensures) (at-perform c .perform-without-buffers .ensures .does)
 
 pub negvask-key-write-spec : {M : Type 1} → statement M
 negvask-key-write-spec =
     tie.close
     (tie.spec
-    key-call-at-requires
+    key-at-requires
     slice-aggregate-perform-without-buffers
     perform-without-buffers-requires
     same-length

@@ -6,28 +6,16 @@ use Rattle.interface.proofs.negvask_read.Tie as tie
 
 -- ---- places of the code
 
-abbrev at-perform : tie.After-t42 → tie.After-perform
+abbrev at-perform : tie.After-t39 → tie.After-perform
 at-perform c = c .before .before .before .before .before .before .before .before .before .before .before .before .before .before .before .before .before .before .before
 
-abbrev at-arrival : tie.After-t42 → tie.After-at-port
-at-arrival c = at-perform c .before .before .before .before .before .before .before .before .before .before .before .before .before
-
-abbrev at-made : tie.After-t42 → tie.After-read-with
-at-made c = at-arrival c .before
-
-abbrev at-credential : tie.After-t42 → tie.After-credential-of
-at-credential c = at-made c .before
+abbrev at-made : tie.After-t39 → tie.After-read-at
+at-made c = at-perform c .before .before .before .before .before .before .before .before .before .before .before .before .before
 
 -- ---- answers
 
-credential-of-requires : tie.Need-credential-of-requires
-credential-of-requires c κs = search needs
-
-read-with-requires : tie.Need-read-with-requires
-read-with-requires c κs = search needs
-
-at-port-requires : tie.Need-at-port-requires
-at-port-requires c κs = search needs
+read-at-requires : tie.Need-read-at-requires
+read-at-requires c κs = search needs
 
 slice-aggregate-perform : tie.Need-slice-aggregate-perform
 slice-aggregate-perform c = search needs
@@ -66,15 +54,13 @@ same-length-9 : tie.Need-same-length-9
 same-length-9 c = at-perform c .perform .kept .1 .1 .1 .1 .1 .1 .1 .1 .1 .1 .0
 
 returns : tie.Need-returns
-returns c = rw (← at-credential c .credential-of .ensures, ← at-made c .read-with .ensures, ← at-arrival c .at-port .ensures) ((no-places (at-perform c .perform .ensures) (at-perform c .perform .kept .1 .1 .1 .1 .1 .1 .1 .1 .1 .1 .1 .0)) .does)
+returns c = rw (← at-made c .read-at .ensures) ((no-places (at-perform c .perform .ensures) (at-perform c .perform .kept .1 .1 .1 .1 .1 .1 .1 .1 .1 .1 .1 .0)) .does)
 
 pub negvask-read-spec : {M : Type 1} → statement M
 negvask-read-spec =
     tie.close
     (tie.spec
-    credential-of-requires
-    read-with-requires
-    at-port-requires
+    read-at-requires
     slice-aggregate-perform
     slice-aggregate-perform-2
     perform-requires

@@ -8,19 +8,13 @@ use Rattle.interface.proofs.negvask_renew.Tie as tie
 abbrev at-perform : tie.After-slice-known16 → tie.After-perform-without-buffers
 at-perform c = c .before .before .before .before .before .before .before .before .before .before .before .before .before .before .before .before
 
-abbrev at-made : tie.After-slice-known16 → tie.After-renew-with
+abbrev at-made : tie.After-slice-known16 → tie.After-renew-call
 at-made c = at-perform c .before .before .before .before .before .before .before .before .before .before .before
-
-abbrev at-credential : tie.After-slice-known16 → tie.After-credential-of
-at-credential c = at-made c .before
 
 -- ---- answers
 
-credential-of-requires : tie.Need-credential-of-requires
-credential-of-requires c κs = search needs
-
-renew-with-requires : tie.Need-renew-with-requires
-renew-with-requires c κs = search needs
+renew-call-requires : tie.Need-renew-call-requires
+renew-call-requires c κs = search needs
 
 slice-aggregate-perform-without-buffers : tie.Need-slice-aggregate-perform-without-buffers
 slice-aggregate-perform-without-buffers c = search needs
@@ -53,14 +47,13 @@ same-length-8 : tie.Need-same-length-8
 same-length-8 c = at-perform c .perform-without-buffers .kept .1 .1 .1 .1 .1 .1 .1 .0
 
 returns : tie.Need-returns
-returns c = rw (← at-credential c .credential-of .ensures, ← at-made c .renew-with .ensures) (at-perform c .perform-without-buffers .ensures .does)
+returns c = rw (← at-made c .renew-call .ensures) (at-perform c .perform-without-buffers .ensures .does)
 
 pub negvask-renew-spec : {M : Type 1} → statement M
 negvask-renew-spec =
     tie.close
     (tie.spec
-    credential-of-requires
-    renew-with-requires
+    renew-call-requires
     slice-aggregate-perform-without-buffers
     perform-without-buffers-requires
     same-length

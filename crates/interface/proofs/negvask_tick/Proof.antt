@@ -8,7 +8,13 @@ use Rattle.interface.proofs.negvask_tick.Tie as tie
 abbrev at-perform : tie.After-slice-known16 → tie.After-perform-without-buffers
 at-perform c = c .before .before .before .before .before .before .before .before .before .before .before .before .before .before .before .before
 
+abbrev at-made : tie.After-slice-known16 → tie.After-tick-call
+at-made c = at-perform c .before .before .before .before .before .before .before .before .before .before .before
+
 -- ---- answers
+
+tick-call-requires : tie.Need-tick-call-requires
+tick-call-requires c κs = search needs
 
 slice-aggregate-perform-without-buffers : tie.Need-slice-aggregate-perform-without-buffers
 slice-aggregate-perform-without-buffers c = search needs
@@ -41,12 +47,13 @@ same-length-8 : tie.Need-same-length-8
 same-length-8 c = at-perform c .perform-without-buffers .kept .1 .1 .1 .1 .1 .1 .1 .0
 
 returns : tie.Need-returns
-returns c = at-perform c .perform-without-buffers .ensures
+returns c = rw (← at-made c .tick-call .ensures) (at-perform c .perform-without-buffers .ensures)
 
 pub negvask-tick-spec : {M : Type 1} → statement M
 negvask-tick-spec =
     tie.close
     (tie.spec
+    tick-call-requires
     slice-aggregate-perform-without-buffers
     perform-without-buffers-requires
     same-length

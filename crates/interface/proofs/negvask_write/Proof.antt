@@ -8,25 +8,13 @@ use Rattle.interface.proofs.negvask_write.Tie as tie
 abbrev at-perform : tie.After-slice-known16 → tie.After-perform-without-buffers
 at-perform c = c .before .before .before .before .before .before .before .before .before .before .before .before .before .before .before .before
 
-abbrev at-arrival : tie.After-slice-known16 → tie.After-at-port
-at-arrival c = at-perform c .before .before .before .before .before .before .before .before .before .before
-
-abbrev at-made : tie.After-slice-known16 → tie.After-write-with
-at-made c = at-arrival c .before
-
-abbrev at-credential : tie.After-slice-known16 → tie.After-credential-of
-at-credential c = at-made c .before
+abbrev at-made : tie.After-slice-known16 → tie.After-write-at
+at-made c = at-perform c .before .before .before .before .before .before .before .before .before .before
 
 -- ---- answers
 
-credential-of-requires : tie.Need-credential-of-requires
-credential-of-requires c κs = search needs
-
-write-with-requires : tie.Need-write-with-requires
-write-with-requires c κs = search needs
-
-at-port-requires : tie.Need-at-port-requires
-at-port-requires c κs = search needs
+write-at-requires : tie.Need-write-at-requires
+write-at-requires c κs = search needs
 
 perform-without-buffers-requires : tie.Need-perform-without-buffers-requires
 perform-without-buffers-requires c κs = search needs
@@ -56,15 +44,13 @@ same-length-8 : tie.Need-same-length-8
 same-length-8 c = at-perform c .perform-without-buffers .kept .1 .1 .1 .1 .1 .1 .1 .0
 
 returns : tie.Need-returns
-returns c = rw (← at-credential c .credential-of .ensures, ← at-made c .write-with .ensures, ← at-arrival c .at-port .ensures) (at-perform c .perform-without-buffers .ensures .does)
+returns c = rw (← at-made c .write-at .ensures) (at-perform c .perform-without-buffers .ensures .does)
 
 pub negvask-write-spec : {M : Type 1} → statement M
 negvask-write-spec =
     tie.close
     (tie.spec
-    credential-of-requires
-    write-with-requires
-    at-port-requires
+    write-at-requires
     perform-without-buffers-requires
     same-length
     same-length-2

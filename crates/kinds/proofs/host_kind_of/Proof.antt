@@ -57,7 +57,11 @@ unfolding tableRules
 returns-13 c = at-kind Host (c .match .keys13)
 
 returns-14 : tie.Need-returns-14
-returns-14 c = unknown-host _ (c .match .rest)
+unfolding tableRules
+returns-14 c = at-kind Host (c .match .keys14)
+
+returns-15 : tie.Need-returns-15
+returns-15 c = unknown-host _ (c .match .rest)
 
 pub host-kind-of-spec : {M : Type 1} → statement M
 host-kind-of-spec =
@@ -76,4 +80,5 @@ host-kind-of-spec =
     returns-11
     returns-12
     returns-13
-    returns-14)
+    returns-14
+    returns-15)

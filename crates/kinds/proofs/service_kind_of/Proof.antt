@@ -37,7 +37,11 @@ unfolding tableRules
 returns-8 c = at-kind Service (c .match .keys8)
 
 returns-9 : tie.Need-returns-9
-returns-9 c = unknown-service _ (c .before .pre) (c .match .rest)
+unfolding tableRules
+returns-9 c = at-kind Service (c .match .keys9)
+
+returns-10 : tie.Need-returns-10
+returns-10 c = unknown-service _ (c .before .pre) (c .match .rest)
 
 pub service-kind-of-spec : {M : Type 1} → statement M
 service-kind-of-spec =
@@ -51,4 +55,5 @@ service-kind-of-spec =
     returns-6
     returns-7
     returns-8
-    returns-9)
+    returns-9
+    returns-10)

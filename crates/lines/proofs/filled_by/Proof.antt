@@ -7,7 +7,7 @@ use denote.Enum.Declared.{tagOf}
 use borrow.Author.Needs.{needs}
 use Rattle.card.proofs.Call.{the-type}
 use Rattle.card.specs.declared.Call.{Call}
-use Rattle.card.specs.declared.Call.the-variants.{Read, Write, Alloc, AllocContig, Create, Delete, KeyRead, KeyWrite, Renew, Force, Free, Tick, Audit}
+use Rattle.card.specs.declared.Call.the-variants.{Read, Write, Alloc, AllocContig, Create, Delete, DeleteTree, KeyRead, KeyWrite, Renew, Force, Free, Tick, Audit}
 use Rattle.lines.specs.Replied.{filledBy}
 use Rattle.lines.specs.declared.Filled.the-variants.{Neither}
 use Rattle.lines.proofs.filled_by.Statement.{statement}
@@ -15,7 +15,7 @@ use Rattle.lines.proofs.filled_by.Tie as tie
 
 -- The places among the variants of the calls but READ, ALLOC and ALLOC_CONTIG.
 abbrev callsFillingNeither : List ℕ
-callsFillingNeither = 1 ∷ 4 ∷ 5 ∷ 6 ∷ 7 ∷ 8 ∷ 9 ∷ 10 ∷ 11 ∷ 12 ∷ []
+callsFillingNeither = 1 ∷ 4 ∷ 5 ∷ 6 ∷ 7 ∷ 8 ∷ 9 ∷ 10 ∷ 11 ∷ 12 ∷ 13 ∷ []
 
 fills-neither : (call : Call) → OneOf callsFillingNeither (tagOf the-type call) → Neither ≡ filledBy call
 fills-neither (Read o) h = absurd (miss callsFillingNeither 0 tt h)
@@ -24,6 +24,7 @@ fills-neither (Alloc o) h = absurd (miss callsFillingNeither 2 tt h)
 fills-neither (AllocContig o) h = absurd (miss callsFillingNeither 3 tt h)
 fills-neither (Create o) h = refl
 fills-neither (Delete o) h = refl
+fills-neither (DeleteTree o) h = refl
 fills-neither (KeyRead o) h = refl
 fills-neither (KeyWrite o) h = refl
 fills-neither (Renew o) h = refl

@@ -1,6 +1,6 @@
 -- `reach::mark_within` meets its contract: the walk goes along the pointers from the blocks that are within reach by themselves.
 use borrow.Author.Needs.{needs}
-use Rattle.reach.specs.WithinLaws.{sound-walkable}
+use Rattle.walks.specs.WalkLaws.{sound-walkable}
 use Rattle.reach.proofs.Marking.{walking-start, walked-within}
 use Rattle.reach.proofs.mark_within.Statement.{statement}
 use Rattle.reach.proofs.mark_within.Tie as tie

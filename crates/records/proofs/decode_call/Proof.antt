@@ -89,6 +89,13 @@ decode-key-requires-2 : tie.Need-decode-key-requires-2
 unfolding tableRules
 decode-key-requires-2 c κs = room (c .enum-told13 .given .1) (c .before .before .before .pre)
 
+enum-told-14 : tie.Need-enum-told-14
+enum-told-14 c = search needs
+
+decode-delete-tree-requires : tie.Need-decode-delete-tree-requires
+unfolding tableRules
+decode-delete-tree-requires c κs = room (c .enum-told14 .given .1) (c .before .before .before .pre)
+
 returns : tie.Need-returns
 returns c = by-name _ _ (c .before .enum-told .given .1) (c .decode-read .ensures)
 
@@ -128,6 +135,9 @@ returns-12 c = search by-name
 returns-13 : tie.Need-returns-13
 returns-13 c = by-name _ _ (c .before .enum-told13 .given .1) (c .decode-key2 .ensures ∙ key-write _ _)
 
+returns-14 : tie.Need-returns-14
+returns-14 c = search by-name
+
 pub decode-call-spec : {M : Type 1} → statement M
 decode-call-spec =
     tie.close
@@ -156,6 +166,8 @@ decode-call-spec =
     decode-alloc-contig-requires
     enum-told-13
     decode-key-requires-2
+    enum-told-14
+    decode-delete-tree-requires
     returns
     returns-2
     returns-3
@@ -168,4 +180,5 @@ decode-call-spec =
     returns-10
     returns-11
     returns-12
-    returns-13)
+    returns-13
+    returns-14)

@@ -1,6 +1,6 @@
 -- `unlocking::find` meets its contract: by the marks of the first walk, or by the queue of the second.
 use mathlib.Core.Path.{refl}
-use Rattle.reach.specs.WithinLaws.{sound-walkable}
+use Rattle.walks.specs.WalkLaws.{sound-walkable}
 use Rattle.unlocking.proofs.Leaders.{sound-keyed, there-below, there-low, queued-below, kept-unlocking, marked-within, unmarked-outside}
 use Rattle.unlocking.proofs.find.Statement.{statement}
 use Rattle.unlocking.proofs.find.Tie as tie

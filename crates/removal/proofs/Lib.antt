@@ -1,0 +1,5 @@
+pub mod Marked
+pub mod Closing
+pub mod Blanking
+pub mod Dropped
+pub mod Deleting
