@@ -3,15 +3,15 @@ use Prim.Native.Nat.{ℕ, zero, suc, _+_, _≤_, _<_}
 use mathlib.Core.Path.{_≡_, refl, sym, ap, _∙_, subst}
 use mathlib.Core.Logic.{_⊎_, ⊎-elim}
 use mathlib.Core.Bool.{Bool, true, false, _&&_, _||_, not, cond}
-use mathlib.Core.List.{List, [], _∷_, _++_}
+use mathlib.Core.List.{List, [], _∷_}
 use native.Mathlib.Nat.{not-suc-le-zero, le-of-suc-le-suc, eq-or-lt-of-le}
 use native.Mathlib.Omega.{arith}
 use lib.Dec.{eqb}
 use lib.ListN.{length, getD, length-append, List·getD-append}
 use lib.Seq.{getD-at}
-use borrow.Author.Tests.{eqb-true, eqb-false, eq-eqb, ne-eqb}
+use borrow.Author.Tests.{eqb-true, eq-eqb}
 use Rattle.card.specs.Lists.{all, any, tabulate}
-use Rattle.card.specs.ListsLaws.{and-left, and-right, and-true, same-test, or-left, or-right, or-cases, or-false-left, or-false-right, absurd-test, all-cons, all-head, all-tail, all-map}
+use Rattle.card.specs.ListsLaws.{and-left, and-right, and-true, same-test, or-left, or-right, or-cases, or-false-left, or-false-right, absurd-test, all-cons, all-head, all-tail}
 use Rattle.card.specs.Pointers.{ascending, contains, beside, total, removeBeside, keep, keepBeside}
 use Rattle.card.specs.BesideLaws.{InStep, ended, onward, in-step-self}
 use Rattle.card.specs.PointersLaws.{contains-all, ascending-cons, ascending-below, ascending-tail, ascending-lower, ascending-absent}

@@ -1,19 +1,18 @@
 -- The blocks that are freed with a pointer: closed, and within each closed set.
 use Prim.Native.Nat.{ℕ, _≤_, _<_}
 use mathlib.Core.Path.{_≡_, refl, ap}
-use mathlib.Core.Bool.{Bool, true, false, _&&_, _||_, not}
+use mathlib.Core.Bool.{Bool, true, false, _||_, not}
 use mathlib.Core.List.{List, [], _∷_}
-use lib.Dec.{eqb, ltb}
+use lib.Dec.{eqb}
 use borrow.Author.Tests.{eq-eqb, eqb-true, ltb-false, le-ltb, not-true}
 use Rattle.card.specs.Lists.{all}
 use Rattle.card.specs.ListsLaws.{and-left, and-right, and-true, or-else}
-use Rattle.card.specs.Least.{least}
 use Rattle.card.specs.LeastLaws.{Monotone, least-in, least-closed, least-ascends}
 use Rattle.card.specs.NearestLaws.{contains-here, contains-there}
 use Rattle.card.specs.Pointers.{source, destination, ascending, contains}
 use Rattle.card.specs.PointersLaws.{contains-all}
-use Rattle.card.specs.Card.{Public, flag, allocatedFlag, allocated, isRoot, inUse}
-use Rattle.card.specs.SoundnessLaws.{allocated-below, flag-allocated}
+use Rattle.card.specs.Card.{Public, allocated, inUse}
+use Rattle.card.specs.SoundnessLaws.{allocated-below}
 use Rattle.card.specs.Tree.{ordinary, onlyFrom, orphaned, orphans}
 
 -- ---- pointers from some blocks alone

@@ -6,7 +6,7 @@ use mathlib.Core.List.{List, [], _∷_, _++_}
 use lib.Dec.{eqb}
 use lib.ListN.{length, take, drop, getD}
 use denote.Ref.{now}
-use Rattle.card.specs.Pointers.{pointer, source, destination, contains, pointersTo, keep, keepBeside}
+use Rattle.card.specs.Pointers.{source, destination, contains, pointersTo, keep, keepBeside}
 use Rattle.card.specs.Contents.{zeros}
 use Rattle.card.specs.Card.{card}
 use Rattle.card.specs.Lent.{Lent}

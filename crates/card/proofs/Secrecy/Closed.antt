@@ -11,7 +11,7 @@ use lib.Seq.{getD-set-same, getD-set-other, set-out}
 use borrow.Author.Tests.{lt-ltb, ltb-true, eq-eqb}
 use Rattle.card.specs.Lists.{all}
 use Rattle.card.specs.ListsLaws.{and-right, absurd-test, same-or-other, below-or-not}
-use Rattle.card.specs.Pointers.{pointer, source, destination, contains, insert, remove, keep, notFrom}
+use Rattle.card.specs.Pointers.{pointer, source, destination, contains, insert, remove, notFrom}
 use Rattle.card.specs.PointersLaws.{source-pointer, destination-pointer, contains-insert, contains-remove, contains-all}
 use Rattle.card.specs.KeepLaws.{keep-contains}
 use Rattle.card.specs.Contents.{zeros}
