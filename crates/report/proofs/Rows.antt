@@ -67,6 +67,10 @@ pub pointers-from-roots-alone : reachListedTest [] path none Reading 1 2 ≡ tru
 unfolding tested
 pointers-from-roots-alone = refl
 
+pub one-round-too-few : reachListedTest [] path none Reading 14 15 ≡ true
+unfolding tested
+one-round-too-few = refl
+
 -- ---- unlocking-listed
 
 pub read-key-added : unlockingListedTest [] oneWriteKey 2 1 ≡ true
