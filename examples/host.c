@@ -1,8 +1,8 @@
 /*
  * A short host: formats a card, has a block allotted and keyed by the service port, then writes and reads as a host,
  * by key and by reference within a window, which a shorter poll does not cut, and is refused once the window has ended.
- * It sets the read key of a new season, takes a run of blocks for an event file, points twice to the same block, and
- * clears a directory with all that is in it by one call.
+ * It sets the read key of a new season, takes a run of blocks for an event file, points twice to the same block, clears
+ * a directory with all that is in it by one call, and asks for the rent after a day.
  *
  *   cc -I include examples/host.c path/to/libinterface.a -o host && ./host
  *
@@ -154,6 +154,14 @@ int main(void)
 	answer = negvask_count_free(CARD, &value);
 	show("count the unallocated blocks", answer);
 	printf("  %lu of %d\n", (unsigned long)value, BLOCKS);
+
+	/* A day passes. Rent is due for the allocated blocks but the root, here at two cents for a block and a day. */
+	answer = negvask_tick(CARD, NEGVASK_DAY, &value);
+	show("a day passes", answer);
+	answer = negvask_rent(CARD, 2000, &value);
+	show("rent at 2,000 thousandths of a cent", answer);
+	printf("  %lu cents\n", (unsigned long)value);
+	show("rent at a price above the highest", negvask_rent(CARD, NEGVASK_PRICE_MAX + 1, &value));
 	show("audit", negvask_audit(CARD));
 	return 0;
 }

@@ -20,7 +20,7 @@
  * its caller, as `tests/run.sh --benchmark` prints; what a host's bytes
  * lead to takes 38,896.
  *
- * All state is in memory provided by the caller: a record of five
+ * All state is in memory provided by the caller: a record of six
  * numbers and seven tables. The functions keep nothing between calls,
  * allocate nothing and use no global state.
  *
@@ -58,13 +58,15 @@
  * It never formats the card by itself, which would do away with all keys
  * and pointers.
  *
- * The record, `info`, has exactly five numbers:
+ * The record, `info`, has exactly six numbers:
  *
  *   info[0]   N, the number of blocks, 16 to 4,096
  *   info[1]   R, the number of roots, 1 to 8; blocks 0 to R-1 are roots
  *   info[2]   B, the bytes of a block, a power of two, 512 to 65,536
  *   info[3]   M, the number of places in use in the pointer table
  *   info[4]   T, the time in seconds, below 2^40
+ *   info[5]   the total by which the rent goes, in blocks times seconds;
+ *             above T * 4,096 the card is unsound
  *
  * The tables, always all seven and in this order:
  *
@@ -92,6 +94,10 @@
  * negvask_delete_tree() that frees the block, and negvask_format(): they
  * set the end to 0.
  *
+ * The total grows by negvask_tick() alone: by the seconds that pass, for
+ * each block that is allocated then and no root. negvask_rent() gives what
+ * it comes to in cents.
+ *
  * A card as a caller keeps it
  * ---------------------------
  *
@@ -100,7 +106,7 @@
  * function begins. NEGVASK_STORAGE() declares such a card with static
  * storage for its tables. A caller that keeps to these, to
  * negvask_part_of() and to NEGVASK_BYTES() stays as it is where a table
- * is added, or an element or a credential grows.
+ * is added, or the record, an element or a credential grows.
  *
  * For tables in memory of the caller's own, a mapped region perhaps, each
  * pointer and each length is set, one table behind the other:
@@ -270,7 +276,7 @@ extern "C" {
     of another length, or M above P. */
 #define NEGVASK_SHAPE            1
 /** The card is not sound: its tables contradict the record or each other,
-    or hold a number that none may have. */
+    or hold a number that none may have; or the total is above T * 4,096. */
 #define NEGVASK_UNSOUND          2
 /** A block number is not below N, or the block is not allocated. */
 #define NEGVASK_NO_BLOCK         3
@@ -302,6 +308,8 @@ extern "C" {
 #define NEGVASK_NO_RUN          14
 /** A block that would be freed has a write key. */
 #define NEGVASK_HAS_WRITE_KEY   15
+/** The price is above 2,000. */
+#define NEGVASK_PRICE_TOO_HIGH  16
 
 /* Why negvask_batch() stops, beside 0, 1 and 13: no refusal has these
    numbers. */
@@ -329,7 +337,7 @@ extern "C" {
 #define NEGVASK_MULTIPLICITY_MAX 65535
 
 /** The number of numbers in the record. */
-#define NEGVASK_INFO_LEN         5
+#define NEGVASK_INFO_LEN         6
 
 /** The number of bytes in a credential or a new key. */
 #define NEGVASK_CREDENTIAL_LEN  17
@@ -358,6 +366,9 @@ extern "C" {
 #define NEGVASK_NO_HINT      65535
 /** The longest interval of a window, in seconds. */
 #define NEGVASK_DAY          86400
+/** The highest price of negvask_rent(), in thousandths of a cent for a
+    block and a day. */
+#define NEGVASK_PRICE_MAX     2000
 
 /** Modes of negvask_renew(). */
 #define NEGVASK_RENEW_READ       0
@@ -574,16 +585,17 @@ static inline void negvask_key_words(uint64_t *to, const uint8_t *key)
  *
  * No record carries it, and nothing that a host sends may lead to it.
  *
- * Time and M become 0; roots are allocated, all other blocks are not;
- * keys, counts, pointers, multiplicities and windows become 0, and so do
- * the contents of the roots. Unmodified: the contents of the other blocks.
+ * Time, M and the total become 0; roots are allocated, all other blocks
+ * are not; keys, counts, pointers, multiplicities and windows become 0,
+ * and so do the contents of the roots. Unmodified: the contents of the
+ * other blocks.
  *
  * The caller provides the record and the tables with any values in them;
  * the table lengths must fit `blocks` and `bytes`. What the record and
  * the tables hold is not looked at.
  *
  * Refusals:
- *   1   the record has not five numbers; `blocks`, `roots` or `bytes` is
+ *   1   the record has not six numbers; `blocks`, `roots` or `bytes` is
  *       out of its range, or P is; a table's length does not fit, or
  *       `multiplicities` is not as long as `pointers`
  *
@@ -605,7 +617,8 @@ uint32_t negvask_format(NEGVASK_TABLES,
  *
  * Refusals, in order:
  *   1   out of shape
- *   2   unsound
+ *   2   unsound: a total above T * 4,096 is such, whatever N is, and one
+ *       that equals it is not
  *
  * \return  0 or a refusal.
  */
@@ -990,11 +1003,13 @@ uint32_t negvask_count_free(NEGVASK_TABLES, uint64_t *value);
 /**
  * \brief Let time pass.
  *
- * T grows by `seconds`; 0 only tells it. The firmware calls this as time
- * passes, and any host may send TICK too: T counts seconds that a host can
- * let pass and nobody can take back. At the end, where every further
- * second is refused 12, no window ends by itself. Unmodified: all tables,
- * and the record but for T.
+ * T grows by `seconds`; 0 only tells it. The total grows by `seconds`
+ * times the number of blocks that are allocated and no roots. The firmware
+ * calls this as time passes, and any host may send TICK too: T counts
+ * seconds that a host can let pass and nobody can take back, and the total
+ * what is due for them. At the end, where every further second is refused
+ * 12, no window ends by itself. Unmodified: all tables, and the record but
+ * for T and the total.
  *
  * Refusals, in order:
  *   1   out of shape
@@ -1006,6 +1021,29 @@ uint32_t negvask_count_free(NEGVASK_TABLES, uint64_t *value);
  * \return  0 or a refusal.
  */
 uint32_t negvask_tick(NEGVASK_TABLES, uint64_t seconds, uint64_t *value);
+
+/**
+ * \brief Give the rent for the card in cents.
+ *
+ * `*cents` is set to the total times `price` divided by 86,400,000, and
+ * rounded to the nearest, a half upward: a total of 43,200 at a price of
+ * 1,000 is half a cent and gives 1, and 43,199 gives 0. Nothing is paid by
+ * this: the total stays, from negvask_format() on. Unmodified: the record
+ * and all tables.
+ *
+ * No record carries it. It asks for no credential, and what it gives
+ * depends on the total alone, so the firmware may call it for any host.
+ *
+ * Refusals, in order:
+ *   1   out of shape
+ *   2   unsound
+ *   16  `price` is above 2,000
+ *
+ * \param price  thousandths of a cent for a block and a day, 0 to 2,000.
+ * \param cents  receives the rent; unmodified when refused.
+ * \return  0 or a refusal.
+ */
+uint32_t negvask_rent(NEGVASK_TABLES, uint32_t price, uint64_t *cents);
 
 /**
  * \brief List the blocks within reach of a set of keys: the fitter's call,
@@ -1023,7 +1061,7 @@ uint32_t negvask_tick(NEGVASK_TABLES, uint64_t seconds, uint64_t *value);
  * among those given.
  *
  * Refusals, in order:
- *   1   out of shape; the record has not five numbers
+ *   1   out of shape; the record has not six numbers
  *   2   unsound
  *   4   `given_len` is odd or above 128; `places_len` is less than the
  *       number of blocks within reach
@@ -1056,7 +1094,7 @@ uint32_t negvask_reach(NEGVASK_TABLES_READ,
  * with the write key of each sealed block that is not among them.
  *
  * Refusals, in order:
- *   1   out of shape; the record has not five numbers
+ *   1   out of shape; the record has not six numbers
  *   2   unsound
  *   4   `given_len` is odd or above 128; `block` is within reach of the
  *       keys; `places_len` is less than the number of blocks to be listed
@@ -1185,7 +1223,7 @@ uint32_t negvask_serve(NEGVASK_TABLES,
  * and what is left are the same. So a batch of many records on a large
  * card takes far less time than these one by one; README.md has figures.
  *
- * On a card that is out of shape or unsound, its `info` of five numbers,
+ * On a card that is out of shape or unsound, its `info` of six numbers,
  * the answer to each record is 1 or 2, and the batch goes on: it returns
  * 0 at the end of the input. B is then what `info` has, whatever that is;
  * if it is above 65,536, READ is lent nothing and asks for 1 byte of
@@ -1193,7 +1231,7 @@ uint32_t negvask_serve(NEGVASK_TABLES,
  *
  * Unmodified: what negvask_serve() leaves unmodified, `input`, and the
  * bytes of `answers` from `*written` on. If `port` is neither 0 nor 1, or
- * `info` has not five numbers: everything, and `*records`, `*read` and
+ * `info` has not six numbers: everything, and `*records`, `*read` and
  * `*written` too.
  *
  * \param port         the port at which the bytes arrived: NEGVASK_HOST
@@ -1209,7 +1247,7 @@ uint32_t negvask_serve(NEGVASK_TABLES,
  *   0                   at the end of the input
  *   NEGVASK_MALFORMED   `port` is neither 0 nor 1; or a record is
  *                       malformed
- *   NEGVASK_SHAPE       the record `info` has not five numbers
+ *   NEGVASK_SHAPE       the record `info` has not six numbers
  *   NEGVASK_CUT         the input ends within a record
  *   NEGVASK_FULL        there is no room for the next answer
  */

@@ -4,7 +4,7 @@ use crate::damage::{damage, DAMAGES, SHAPE_DAMAGES};
 use crate::library::{Direct, LentBatch, Tables};
 use crate::model::{
     self, answer_bytes, answer_room, body_length, decode, next_record, port_of, Card, Port, Progress, CUT_SHORT,
-    MALFORMED, NO_ROOM, SERVICE_KINDS, SHAPE,
+    MALFORMED, NO_ROOM, RECORD, SERVICE_KINDS, SHAPE,
 };
 use crate::random_call::{spoilt_record, Chooser};
 use crate::random_card::{random_card, Random, Size, KEYS};
@@ -147,7 +147,7 @@ pub struct Served {
 
 pub fn all_served(card: &Card, wire: u8, input: &[u8]) -> Vec<Served> {
     let mut served = Vec::new();
-    let Some(wire) = port_of(wire).filter(|_| card.info.len() == 5) else { return served };
+    let Some(wire) = port_of(wire).filter(|_| card.info.len() == RECORD) else { return served };
     let mut card = card.clone();
     let (mut read, mut written) = (0, 0);
     while let Ok(record) = next_record(wire, &input[read..]) {
@@ -236,7 +236,7 @@ pub fn perhaps_damaged(rnd: &mut Random, card: &Card) -> Result<Option<(&'static
     let mut damaged = card.clone();
     let note = match rnd.below(100) {
         0..=11 => {
-            damaged.info.resize(rnd.of(&[0, 1, 2, 3, 4, 6, 7, 10]), 0);
+            damaged.info.resize(rnd.of(&[0, 1, 2, 3, 4, 5, 7, 8, 10]), 0);
             Some("record of another length")
         }
         12..=21 => {

@@ -17,7 +17,7 @@ mod model;
 use library::{credential_bytes, new_key_bytes, Direct, Lent, LentBatch, LentBuffers, Tables, HOST};
 use model::{
     key_words, word, Buffers, Call, Card, Credential, Key, Operation, Port, Progress, ALLOCATED, DAY,
-    HIGHEST_MULTIPLICITY, READ_KEY, TIME_END, WRITE_KEY,
+    HIGHEST_MULTIPLICITY, HIGHEST_PRICE, PER_CENT, READ_KEY, TIME_END, WRITE_KEY,
 };
 use std::cell::RefCell;
 use std::collections::BTreeSet;
@@ -33,7 +33,7 @@ mod plain {
     use super::*;
 
     pub fn audit(card: &Card) -> u32 {
-        let &[n, r, b, m, t] = card.info.as_slice() else { return 1 };
+        let &[n, r, b, m, t, total] = card.info.as_slice() else { return 1 };
         let places = card.pointers.len();
         if !(16..=4_096).contains(&n) || !(1..=8).contains(&r) || !(512..=65_536).contains(&b) || b & (b - 1) != 0 {
             return 1;
@@ -51,6 +51,9 @@ mod plain {
             || m > places
         {
             return 1;
+        }
+        if total > t * 4_096 {
+            return 2;
         }
         let flags = &card.flags[..n];
         let mut found = [0u32; 4_096];
@@ -463,8 +466,22 @@ mod plain {
         if seconds >= TIME_END - card.info[4] {
             return 12;
         }
+        let rented = card.flags[card.info[1] as usize..].iter().filter(|&&f| f & 1 != 0).count();
         card.info[4] += seconds;
+        card.info[5] += seconds * rented as u64;
         *value = card.info[4];
+        0
+    }
+
+    pub fn rent(card: &Card, price: u32, value: &mut u64) -> u32 {
+        match audit(card) {
+            0 => {}
+            refusal => return refusal,
+        }
+        if price > HIGHEST_PRICE {
+            return 16;
+        }
+        *value = (card.info[5] * price as u64 + PER_CENT / 2) / PER_CENT;
         0
     }
 
@@ -653,7 +670,7 @@ fn one_run(size: Size, count: usize) -> Vec<usize> {
 fn card(size: Size, taken: &[usize], spare: usize) -> Card {
     let n = size.blocks;
     let mut card = Card {
-        info: vec![n as u64, 1, 512, 0, 1_000],
+        info: vec![n as u64, 1, 512, 0, 1_000, 0],
         flags: vec![0; n],
         keys: vec![0; 4 * n],
         counts: vec![0; n],
@@ -972,7 +989,7 @@ fn filled_up(
 fn list_card(size: Size, pointers: BTreeSet<u32>, flags: impl Fn(usize) -> u8) -> Card {
     let n = size.blocks;
     let mut card = Card {
-        info: vec![n as u64, 1, 512, 0, 1_000],
+        info: vec![n as u64, 1, 512, 0, 1_000, 0],
         flags: (0..n).map(|b| ALLOCATED | flags(b)).collect(),
         keys: vec![0; 4 * n],
         counts: vec![0; n],
@@ -1300,6 +1317,7 @@ fn deepest() -> (&'static str, usize) {
         ("FORCE", Direct::Force { block: 2 }),
         ("FREE", Direct::Free),
         ("TICK", Direct::Tick { seconds: 1 }),
+        ("RENT", Direct::Rent { price: HIGHEST_PRICE }),
     ];
     let depths = calls.iter().map(|(name, call)| {
         let depth = stack_of(&mut || done(s.tables.call(call, &mut s.buffers)));
@@ -1307,7 +1325,7 @@ fn deepest() -> (&'static str, usize) {
     });
     let deepest = depths.max_by_key(|(_, depth)| *depth).unwrap();
 
-    // All of them in one batch.
+    // All of them that a record carries in one batch.
     let mut s = side(start);
     let input: Vec<u8> =
         calls.iter().filter_map(|(_, call)| call.record()).flat_map(|(k, b)| [vec![k], b].concat()).collect();
@@ -1435,8 +1453,12 @@ fn rows(size: Size) -> Vec<Row> {
     let read_key = repeated(s, calls, &read_key_call, |c, _| plain_key(c, Operation::Reading, READER));
     let write_key_call = Direct::KeyWrite { port: 0, block: 2, credential: key(WRITER), key: new(WRITER) };
     let write_key = repeated(s, calls, &write_key_call, |c, _| plain_key(c, Operation::Writing, WRITER));
-    let tick_call = Direct::Tick { seconds: 0 };
-    let tick = repeated(s, calls, &tick_call, |c, _| done(plain::tick(c, 0, black_box(&mut 0))));
+    let tick_call = Direct::Tick { seconds: 1 };
+    let tick = repeated(s, calls, &tick_call, |c, _| done(plain::tick(c, black_box(1), black_box(&mut 0))));
+    let rent_call = Direct::Rent { price: HIGHEST_PRICE };
+    let rent = repeated(s, calls, &rent_call, |c, _| {
+        done(plain::rent(black_box(c), black_box(HIGHEST_PRICE), black_box(&mut 0)))
+    });
     let full_model = |call: &Direct| model_time(&full, &[], call);
     assert_eq!(s.tables.difference(&s.plain), None, "library and plain version differ");
 
@@ -1522,7 +1544,8 @@ fn rows(size: Size) -> Vec<Row> {
     rows.push(row("KEY_READ", read_key[0], read_key[1], read_model, pass, read_key[1], Some(1.5)));
     rows.push(row("KEY_WRITE", write_key[0], write_key[1], write_model, pass, write_key[1], Some(1.5)));
     rows.push(row("RENEW", renew[0], renew[1], full_model(&renew_call), pass, renew[1], Some(1.5)));
-    rows.push(row("TICK", tick[0], tick[1], full_model(&tick_call), pass, tick[1], None));
+    rows.push(row("TICK", tick[0], tick[1], full_model(&tick_call), pass, tick[1], Some(1.5)));
+    rows.push(row("RENT", rent[0], rent[1], full_model(&rent_call), pass, rent[1], Some(1.5)));
     rows
 }
 
@@ -1560,7 +1583,7 @@ fn main() {
     println!();
     println!("Targets: AUDIT against the plain audit; READ and WRITE against the library's own audit plus a copy of");
     println!("B bytes; ALLOC 64, CONTIG 64, CREATE, CREATE again, DELETE, DELETE one of 2, TREE 4000, KEY_READ,");
-    println!("KEY_WRITE and RENEW against the plain call, audit included.");
+    println!("KEY_WRITE, RENEW, TICK and RENT against the plain call, audit included.");
     println!();
     println!("| growth of | from | to | N + P grows | library grows | plain grows |");
     println!("| --- | --- | --- | ---: | ---: | ---: |");

@@ -4,7 +4,7 @@ use crate::model::{ends, word, Card, ALLOCATED, DAY, HIGHEST_MULTIPLICITY, READ_
 use crate::random_card::Random;
 
 /// Ways to damage a sound card, by clause of shape and of soundness.
-pub const DAMAGES: [&str; 62] = [
+pub const DAMAGES: [&str; 64] = [
     "record short",
     "record long",
     "record empty",
@@ -67,6 +67,8 @@ pub const DAMAGES: [&str; 62] = [
     "multiplicities exchanged",
     "allocated without pointer",
     "window past T + 86400",
+    "total one above T * 4096",
+    "total far above T * 4096",
 ];
 
 /// The first of them are faults of shape, the others of soundness.
@@ -98,7 +100,7 @@ pub fn damage(rnd: &mut Random, card: &mut Card, which: usize) -> bool {
         }
     };
     match DAMAGES[which] {
-        "record short" => card.info.truncate(4),
+        "record short" => card.info.truncate(5),
         "record long" => card.info.push(0),
         "record empty" => card.info.clear(),
         "N 15" => {
@@ -289,6 +291,11 @@ pub fn damage(rnd: &mut Random, card: &mut Card, which: usize) -> bool {
         "window past T + 86400" => {
             let end = rnd.of(&[card.info[4] + DAY + 1, TIME_END + DAY + 1, u64::MAX]);
             card.windows[2 * rnd.of(&allocated) + rnd.below(2) as usize] = end;
+        }
+        "total one above T * 4096" => card.info[5] = 4_096 * card.info[4] + 1,
+        // The first is the same in its low 32 bits.
+        "total far above T * 4096" => {
+            card.info[5] = rnd.of(&[4_096 * card.info[4] + (1 << 32), 1 << 52, 1 << 63, u64::MAX]);
         }
         _ => return false,
     }

@@ -28,8 +28,9 @@ use batch::{batches, Batches};
 use damage::{damage, DAMAGES, SHAPE_DAMAGES};
 use library::{Direct, LentBuffers, Tables, HOST, SERVICE};
 use model::{
-    ends, number, port_of, word, Buffers, Call, Card, Operation, Port, CANNOT_POINT, HAS_POINTERS, HAS_WRITE_KEY,
-    HIGHEST_MULTIPLICITY, HOST_KINDS, NO_PLACE, READ_KEY, SERVICE_KINDS, WRITE_KEY,
+    cents, ends, number, port_of, word, Buffers, Call, Card, Operation, Port, CANNOT_POINT, HAS_POINTERS,
+    HAS_WRITE_KEY, HIGHEST_MULTIPLICITY, HIGHEST_PRICE, HOST_KINDS, NO_PLACE, PER_CENT, READ_KEY, SERVICE_KINDS,
+    TIME_END, WRITE_KEY,
 };
 use random_call::{buffers, random_format, spoilt_record, Chooser};
 use random_card::{random_card, random_size, Random, Size, KEYS};
@@ -45,8 +46,8 @@ const DEFAULT_SEED: u64 = 1;
 
 // ---- Counting what was reached ----
 
-/// Each at the place of its host kind.
-const CALLS: [&str; 15] = [
+/// Each at the place of its host kind, and behind them RENT, which has none.
+const CALLS: [&str; 16] = [
     "FORMAT",
     "READ",
     "WRITE",
@@ -62,6 +63,7 @@ const CALLS: [&str; 15] = [
     "ALLOC_CONTIG",
     "KEY_WRITE",
     "DELETE_TREE",
+    "RENT",
 ];
 
 /// Whether the call has a port of its own, and so a credential.
@@ -376,6 +378,133 @@ fn cut(before: &Card, after: &Card, call: &Call) -> Option<usize> {
     (0..before.blocks()).find(|&b| sooner(b) && shut != Some(b) && after.allocated(b))
 }
 
+/// The total of a card in shape.
+#[derive(Clone, Copy, Debug, PartialEq, Eq, PartialOrd, Ord)]
+enum Total {
+    None,
+    Some,
+    /// Above T times N, which is sound too where N is below 4,096.
+    AboveBlocks,
+    Highest,
+}
+
+const TOTALS: [Total; 4] = [Total::None, Total::Some, Total::AboveBlocks, Total::Highest];
+
+impl Total {
+    fn of(card: &Card) -> Self {
+        match card.total() as u128 {
+            0 => Total::None,
+            total if total == card.highest_total() => Total::Highest,
+            total if total > card.time() as u128 * card.blocks() as u128 => Total::AboveBlocks,
+            _ => Total::Some,
+        }
+    }
+}
+
+/// The seconds of a TICK.
+#[derive(Clone, Copy, Debug, PartialEq, Eq, PartialOrd, Ord)]
+enum Seconds {
+    None,
+    Some,
+    /// T becomes 2^40 - 1.
+    AllThatAreLeft,
+}
+
+/// What a TICK finds: its seconds, the total, and whether there are blocks that rent is paid for. What becomes of T and the
+/// total shows in the cards.
+type Ticking = (Seconds, Total, bool);
+
+/// What the call adds to T and the total, if it is done.
+fn ticking(card: &Card, call: &Call) -> Option<Ticking> {
+    let Call::Tick { seconds } = call else { return None };
+    if !card.shaped() {
+        return None;
+    }
+    let sort = match seconds {
+        0 => Seconds::None,
+        _ if card.time() as u128 + *seconds as u128 + 1 == TIME_END as u128 => Seconds::AllThatAreLeft,
+        _ => Seconds::Some,
+    };
+    Some((sort, Total::of(card), card.rented_blocks() > 0))
+}
+
+/// Every such TICK; one of all seconds that are left with blocks that it adds for.
+fn tickings() -> Vec<Ticking> {
+    let sorts = [
+        (Seconds::None, false),
+        (Seconds::None, true),
+        (Seconds::Some, false),
+        (Seconds::Some, true),
+        (Seconds::AllThatAreLeft, true),
+    ];
+    sorts.into_iter().flat_map(|(seconds, rented)| TOTALS.map(|total| (seconds, total, rented))).collect()
+}
+
+/// The price of a RENT.
+#[derive(Clone, Copy, Debug, PartialEq, Eq, PartialOrd, Ord)]
+enum Price {
+    None,
+    Some,
+    Highest,
+}
+
+/// How the cents of a RENT are rounded.
+#[derive(Clone, Copy, Debug, PartialEq, Eq, PartialOrd, Ord)]
+enum Rounding {
+    Exact,
+    Down,
+    /// Down, and for one block and second more it would be up.
+    JustDown,
+    Half,
+    Up,
+}
+
+/// What a RENT finds: its price, the total, and how its cents are rounded.
+type Renting = (Price, Total, Rounding);
+
+/// What the call gives, if it is done.
+fn renting(card: &Card, call: &Call) -> Option<Renting> {
+    let Call::Rent { price } = *call else { return None };
+    if card.audit().is_err() {
+        return None;
+    }
+    let sort = match price {
+        0 => Price::None,
+        HIGHEST_PRICE => Price::Highest,
+        _ => Price::Some,
+    };
+    let rounding = match 2 * (card.total() as u128 * price as u128 % PER_CENT as u128) {
+        0 => Rounding::Exact,
+        twice if twice == PER_CENT as u128 => Rounding::Half,
+        twice if twice > PER_CENT as u128 => Rounding::Up,
+        _ if cents(card.total(), price) < cents(card.total() + 1, price) => Rounding::JustDown,
+        _ => Rounding::Down,
+    };
+    Some((sort, Total::of(card), rounding))
+}
+
+/// Every such RENT, but those that hardly occur: T times 4,096 times a price is never half a cent, and seldom a whole one.
+fn rentings() -> Vec<Renting> {
+    use Rounding::{Down, Exact, Half, JustDown, Up};
+    let mut all: Vec<Renting> = TOTALS.map(|total| (Price::None, total, Exact)).to_vec();
+    for price in [Price::Some, Price::Highest] {
+        all.push((price, Total::None, Exact));
+        for total in [Total::Some, Total::AboveBlocks] {
+            all.extend([Exact, Down, JustDown, Half, Up].map(|rounding| (price, total, rounding)));
+        }
+        all.extend([Down, Up].map(|rounding| (price, Total::Highest, rounding)));
+    }
+    all
+}
+
+/// Whether the done call has added to the total what it should: TICK its seconds for each block to which pointers lead,
+/// which no root is, and other calls nothing.
+fn charged(before: &Card, after: &Card, call: &Call) -> bool {
+    let seconds = if let Call::Tick { seconds } = call { *seconds as u128 } else { 0 };
+    let pointed_to = before.counts.iter().filter(|&&count| count > 0).count() as u128;
+    after.total() as u128 == before.total() as u128 + seconds * pointed_to
+}
+
 /// Counts by route (0 by function, 1 by record), call, port and answer.
 #[derive(Default)]
 struct Reached {
@@ -385,6 +514,8 @@ struct Reached {
     creations: BTreeMap<(Creation, u32), u64>,
     deletions: BTreeMap<(Deletion, u32), u64>,
     tree_deletions: BTreeMap<(TreeDeletion, u32), u64>,
+    tickings: BTreeMap<Ticking, u64>,
+    rentings: BTreeMap<Renting, u64>,
     damages: BTreeMap<usize, u64>,
     calls: u64,
 }
@@ -406,6 +537,7 @@ fn index(call: &Direct) -> (usize, u8) {
         Direct::AllocContig { port, .. } => (12, *port),
         Direct::KeyWrite { port, .. } => (13, *port),
         Direct::DeleteTree { port, .. } => (14, *port),
+        Direct::Rent { .. } => (15, 0),
     }
 }
 
@@ -429,7 +561,8 @@ impl Reached {
     fn possible(route: usize, call: usize, port: u8) -> Vec<u32> {
         let host = port == 0;
         let mut answers: Vec<u32> = match CALLS[call] {
-            "FORMAT" => return if route == 0 { vec![0, 1] } else { vec![] },
+            "FORMAT" | "RENT" if route == 1 => return vec![],
+            "FORMAT" => return vec![0, 1],
             "READ" | "WRITE" => vec![3, 4, 5],
             "ALLOC" => vec![3, 4, 5, 6, 10, 11],
             "ALLOC_CONTIG" => vec![3, 4, 5, 6, 10, 11, 14],
@@ -440,6 +573,7 @@ impl Reached {
             "RENEW" => vec![3, 4, 5],
             "FORCE" => vec![3],
             "TICK" => vec![12],
+            "RENT" => vec![16],
             _ => vec![],
         };
         if !host {
@@ -472,7 +606,7 @@ impl Reached {
     /// Prints the table; gives the pairs that can occur and did not.
     fn table(&self) -> Vec<String> {
         let mut missing = Vec::new();
-        let answers = [0, 1, 2, 3, 4, 5, 6, 7, 8, 9, 10, 11, 12, 13, 14, 15];
+        let answers = [0, 1, 2, 3, 4, 5, 6, 7, 8, 9, 10, 11, 12, 13, 14, 15, 16];
         print!("{:<33}", "calls by answer");
         answers.iter().for_each(|a| print!("{a:>7}"));
         println!();
@@ -484,7 +618,7 @@ impl Reached {
                         continue;
                     }
                     let place = match (call, port) {
-                        (0 | 9..=11, _) => "",
+                        (0 | 9..=11 | 15, _) => "",
                         (_, 0) => " host",
                         _ => " service",
                     };
@@ -510,6 +644,8 @@ impl Reached {
         missing.extend(sorts("CREATE", &self.creations, &creations()));
         missing.extend(sorts("DELETE", &self.deletions, &deletions()));
         missing.extend(sorts("DELETE_TREE", &self.tree_deletions, &tree_deletions()));
+        missing.extend(sorts("TICK", &self.tickings, &tickings()));
+        missing.extend(sorts("RENT", &self.rentings, &rentings()));
         println!(
             "damage: {} ways, each refused {} times or more",
             self.damages.len(),
@@ -558,7 +694,7 @@ impl Bench {
     }
 
     /// The model's answer. A refusal must have changed nothing, and a done call must have cut no window, have counted each
-    /// pointer and have freed no other blocks than it should.
+    /// pointer, have freed no other blocks than it should and have added to the total what it should.
     fn expect(&mut self, step: &Step, buffers: &mut Buffers) -> Result<u32, String> {
         let small = self.model.contents.len() <= 1 << 16;
         let before = (small.then(|| self.model.clone()), buffers.clone());
@@ -583,6 +719,9 @@ impl Bench {
             if !freed_as_counted(before, &self.model, &call, buffers.value) {
                 return Err("the model freed others than a list of work over the counts".to_string());
             }
+            if !charged(before, &self.model, &call) {
+                return Err("the model added another sum to the total than it should".to_string());
+            }
         }
         Ok(answer)
     }
@@ -596,10 +735,14 @@ impl Bench {
         let creation = step.plain().and_then(|(port, call)| creation(&self.model, port, &call));
         let deletion = step.plain().and_then(|(port, call)| deletion(&self.model, port, &call));
         let tree = step.plain().and_then(|(port, call)| tree_deletion(&self.model, port, &call));
+        let ticking = step.plain().and_then(|(_, call)| ticking(&self.model, &call));
+        let renting = step.plain().and_then(|(_, call)| renting(&self.model, &call));
         let answer = self.expect(step, &mut expected)?;
         if answer == 0 {
             count(&mut reached.key_changes, key);
             count(&mut reached.window_changes, window);
+            count(&mut reached.tickings, ticking);
+            count(&mut reached.rentings, renting);
         }
         let answered = |answers: &[u32]| answers.contains(&answer).then_some(answer);
         count(&mut reached.creations, creation.zip(answered(&CREATION_ANSWERS)));

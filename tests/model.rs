@@ -8,6 +8,10 @@ pub const DAY: u64 = 86_400;
 pub const TIME_END: u64 = 1 << 40;
 pub const NO_HINT: u16 = 65_535;
 pub const HIGHEST_MULTIPLICITY: u16 = 65_535;
+/// In thousandths of a cent for a block and a day.
+pub const HIGHEST_PRICE: u32 = 2_000;
+/// A total times a price of so much is a cent.
+pub const PER_CENT: u64 = 86_400_000;
 
 pub const ALLOCATED: u8 = 1;
 pub const READ_KEY: u8 = 2;
@@ -28,10 +32,14 @@ pub const CLOCK: u32 = 12;
 pub const MALFORMED: u32 = 13;
 pub const NO_RUN: u32 = 14;
 pub const HAS_WRITE_KEY: u32 = 15;
+pub const PRICE_TOO_HIGH: u32 = 16;
 
 /// Why a batch stops, besides its end and a malformed record.
 pub const CUT_SHORT: u32 = 256;
 pub const NO_ROOM: u32 = 257;
+
+/// The numbers in the record.
+pub const RECORD: usize = 6;
 
 /// What a call answers: done, or the refusal's number.
 pub type Answer = Result<(), u32>;
@@ -39,7 +47,7 @@ pub type Answer = Result<(), u32>;
 /// The record and the seven tables that the caller lends.
 #[derive(Clone, Debug, PartialEq, Default)]
 pub struct Card {
-    /// N, R, B, M, T. A record of another length is out of shape.
+    /// N, R, B, M, T and the total. A record of another length is out of shape.
     pub info: Vec<u64>,
     pub flags: Vec<u8>,
     pub keys: Vec<u64>,
@@ -85,7 +93,8 @@ pub enum Operation {
 }
 use Operation::{Reading, Writing};
 
-/// Every call that a record can carry. The lent buffers are not part of it, save the data of WRITE.
+/// Every call but FORMAT and the reach report; no record carries RENT. The lent buffers are not part of it, save the data
+/// of WRITE.
 #[derive(Clone, Debug, PartialEq)]
 pub enum Call {
     Read { block: u16, credential: Credential, interval: u32 },
@@ -102,6 +111,7 @@ pub enum Call {
     Free,
     Tick { seconds: u64 },
     Audit,
+    Rent { price: u32 },
 }
 
 /// What a caller lends besides the tables.
@@ -150,6 +160,9 @@ impl Card {
     pub fn time(&self) -> u64 {
         self.info[4]
     }
+    pub fn total(&self) -> u64 {
+        self.info[5]
+    }
 
     // ---- Shape and soundness ----
 
@@ -165,7 +178,7 @@ impl Card {
     }
 
     pub fn shaped(&self) -> bool {
-        if self.info.len() != 5 {
+        if self.info.len() != RECORD {
             return false;
         }
         let (n, r, b, m, t) = (self.info[0], self.info[1], self.info[2], self.info[3], self.info[4]);
@@ -182,6 +195,12 @@ impl Card {
             && times.iter().all(|&t| t >= 1)
             && other_times.iter().all(|&t| t == 0)
             && used.iter().all(|&p| self.pointer_sound(p))
+            && self.total() as u128 <= self.highest_total()
+    }
+
+    /// As much as the largest card could have come to by now.
+    pub fn highest_total(&self) -> u128 {
+        self.time() as u128 * 4_096
     }
 
     fn block_sound(&self, b: usize) -> bool {
@@ -255,6 +274,11 @@ impl Card {
 
     pub fn free_blocks(&self) -> usize {
         (0..self.blocks()).filter(|&b| !self.allocated(b)).count()
+    }
+
+    /// The blocks that rent is paid for.
+    pub fn rented_blocks(&self) -> usize {
+        (0..self.blocks()).filter(|&b| self.allocated(b) && !self.root(b)).count()
     }
 
     pub fn key(&self, b: usize, operation: Operation) -> Option<Key> {
@@ -387,9 +411,9 @@ impl Card {
     // ---- Calls ----
 
     pub fn format(&mut self, blocks: u64, roots: u64, bytes: u64) -> Answer {
-        let fits = self.info.len() == 5 && ranges_hold(blocks, roots, bytes) && self.lengths_fit(blocks, bytes);
+        let fits = self.info.len() == RECORD && ranges_hold(blocks, roots, bytes) && self.lengths_fit(blocks, bytes);
         refuse_if(!fits, SHAPE)?;
-        self.info = vec![blocks, roots, bytes, 0, 0];
+        self.info = vec![blocks, roots, bytes, 0, 0, 0];
         self.flags.fill(0);
         self.flags[..roots as usize].fill(ALLOCATED);
         self.keys.fill(0);
@@ -645,12 +669,21 @@ impl Card {
         self.audit()?;
         let time = self.time() as u128 + seconds as u128;
         refuse_if(time >= TIME_END as u128, CLOCK)?;
+        let total = self.total() as u128 + seconds as u128 * self.rented_blocks() as u128;
         self.info[4] = time as u64;
+        self.info[5] = u64::try_from(total).expect("a total of a sound card");
         *value = time as u64;
         Ok(())
     }
 
-    /// Any call at either port. RENEW and FORCE are a host's; FREE, TICK and AUDIT serve both ports alike.
+    pub fn rent(&self, price: u32, value: &mut u64) -> Answer {
+        self.audit()?;
+        refuse_if(price > HIGHEST_PRICE, PRICE_TOO_HIGH)?;
+        *value = u64::try_from(cents(self.total(), price)).expect("cents of a sound card");
+        Ok(())
+    }
+
+    /// Any call at either port. RENEW and FORCE are a host's; FREE, TICK, AUDIT and RENT serve both ports alike.
     pub fn perform(&mut self, port: Port, call: &Call, lent: &mut Buffers) -> Answer {
         match call {
             Call::Read { block, credential, interval } => {
@@ -679,6 +712,7 @@ impl Card {
             Call::Free => self.free(&mut lent.value),
             Call::Tick { seconds } => self.tick(*seconds, &mut lent.value),
             Call::Audit => self.audit(),
+            Call::Rent { price } => self.rent(*price, &mut lent.value),
         }
     }
 
@@ -758,6 +792,11 @@ impl Card {
         put_list(&list, places, value);
         Ok(())
     }
+}
+
+/// The cents of a total at a price, rounded to the nearest, a half upward: the whole cents of half a cent more.
+pub fn cents(total: u64, price: u32) -> u128 {
+    (2 * total as u128 * price as u128 + PER_CENT as u128) / (2 * PER_CENT as u128)
 }
 
 /// The keys of words, high and low in turn; None where these make no whole number of keys, or more than 64.
@@ -1005,7 +1044,7 @@ pub struct Progress {
 /// Serves the records of an input on the wire of a port's number, each with its own audit; why it stopped.
 pub fn batch(card: &mut Card, wire: u8, input: &[u8], answers: &mut [u8], progress: &mut Progress) -> u32 {
     let Some(wire) = port_of(wire) else { return MALFORMED };
-    if card.info.len() != 5 {
+    if card.info.len() != RECORD {
         return SHAPE;
     }
     *progress = Progress::default();

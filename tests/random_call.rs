@@ -2,8 +2,8 @@
 
 use crate::library::{credential_bytes, new_key_bytes, Direct, Raw};
 use crate::model::{
-    ends, Buffers, Card, Credential, Key, Operation, ALLOCATED, DAY, HIGHEST_MULTIPLICITY, HOST_KINDS, NO_HINT,
-    READ_KEY, SERVICE_KINDS, TIME_END, WRITE_KEY,
+    ends, Buffers, Card, Credential, Key, Operation, ALLOCATED, DAY, HIGHEST_MULTIPLICITY, HIGHEST_PRICE, HOST_KINDS,
+    NO_HINT, READ_KEY, SERVICE_KINDS, TIME_END, WRITE_KEY,
 };
 use crate::random_card::{Random, KEYS};
 
@@ -236,7 +236,7 @@ impl Chooser {
 
     pub fn call(&self, rnd: &mut Random, card: &Card) -> Direct {
         let port = self.port(rnd);
-        match rnd.below(120) {
+        match rnd.below(126) {
             0..=16 => {
                 let block = self.block(rnd, card);
                 let credential = self.raw(rnd, card, block, Operation::Reading);
@@ -333,12 +333,27 @@ impl Chooser {
                 let credential = self.raw(rnd, card, source, Operation::Writing);
                 Direct::DeleteTree { port, source, credential, destination }
             }
-            _ => {
+            110..=119 => {
                 let reference = self.block(rnd, card);
                 let credential = self.raw(rnd, card, reference, Operation::Writing);
                 let count = self.run_count(rnd, card);
                 Direct::AllocContig { port, reference, credential, hint: self.run_hint(rnd, card, count), count }
             }
+            _ => Direct::Rent { price: self.price(rnd) },
+        }
+    }
+
+    /// A price: any, one at which the halves of a cent among random totals show, or one that is too high, perhaps with low
+    /// bits that are not.
+    fn price(&self, rnd: &mut Random) -> u32 {
+        match rnd.below(16) {
+            0 => 0,
+            1 => 1,
+            2 => HIGHEST_PRICE + 1,
+            3 => rnd.of(&[65_536, 65_536 + 1_000, 1 << 31, u32::MAX]),
+            4..=7 => HIGHEST_PRICE,
+            8..=11 => 1_000,
+            _ => rnd.below(HIGHEST_PRICE as u64 + 1) as u32,
         }
     }
 

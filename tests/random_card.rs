@@ -92,6 +92,22 @@ fn random_multiplicity(rnd: &mut Random, repeated: u64) -> u16 {
     }
 }
 
+/// A total that is sound at the time: none, the highest, one just above what all blocks could have come to, one that is
+/// half a cent or a whole one at the price of 1,000 or 2,000, or one more or less than that; or any.
+fn random_total(rnd: &mut Random, time: u64, blocks: u64) -> u64 {
+    let highest = 4_096 * time;
+    let below = rnd.of(&[highest, blocks * time]);
+    let total = match rnd.below(10) {
+        0 => 0,
+        1..=3 => highest,
+        4 => highest.saturating_sub(1),
+        5 => blocks * time + 1,
+        6..=8 => (21_600 * rnd.below(below / 21_600 + 1) + rnd.below(3)).saturating_sub(1),
+        _ => rnd.below(below + 1),
+    };
+    total.min(highest)
+}
+
 /// A sound card of that size, anything else by chance.
 pub fn random_card(rnd: &mut Random, size: Size) -> Card {
     let (n, r, b, p) = (size.blocks as usize, size.roots as usize, size.bytes as usize, size.places as usize);
@@ -103,7 +119,7 @@ pub fn random_card(rnd: &mut Random, size: Size) -> Card {
         _ => rnd.below(1_000_000),
     };
     let mut card = Card {
-        info: vec![n as u64, r as u64, b as u64, 0, time],
+        info: vec![n as u64, r as u64, b as u64, 0, time, random_total(rnd, time, size.blocks)],
         flags: vec![0; n],
         keys: vec![0; 4 * n],
         counts: vec![0; n],

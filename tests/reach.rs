@@ -169,7 +169,7 @@ fn key(low: u64) -> Key {
 /// A card of so many blocks with a root, these pointers, and these keys: block, read key and write key, 0 for none.
 fn card_of(n: usize, pointers: &[(usize, usize)], keys: &[(usize, u64, u64)]) -> Card {
     let mut card = Card {
-        info: vec![n as u64, 1, 512, 0, 0],
+        info: vec![n as u64, 1, 512, 0, 0, 0],
         flags: vec![0; n],
         keys: vec![0; 4 * n],
         counts: vec![0; n],

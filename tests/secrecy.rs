@@ -6,7 +6,7 @@ use crate::batch::{all_served, random_room};
 use crate::library::{Direct, LentBatch, LentBuffers, Tables, HOST};
 use crate::model::{
     body_length, decode, next_record, Buffers, Call, Card, Credential, Key, Port, Progress, Record, HAS_WRITE_KEY,
-    MALFORMED, NO_ROOM, SERVICE_KINDS,
+    HIGHEST_PRICE, MALFORMED, NO_ROOM, SERVICE_KINDS,
 };
 use crate::random_call::{buffers, Chooser};
 use crate::random_card::{random_card, Random, Size, KEYS};
@@ -38,14 +38,20 @@ pub struct Secrecy {
     /// Blocks freed by DELETE_TREE, and how often it was refused because of a write key.
     trees: u64,
     protected: u64,
+    /// RENT that is done in a session and gives more than 0.
+    rents: u64,
+    /// Sessions in which the total grew, and those after which rent is due.
+    grown: u64,
+    due: u64,
 }
 
 impl Secrecy {
     pub fn summary(&self) -> String {
         format!(
             "{} sessions, {} calls ({} done, {} of them READ, {} ALLOC_CONTIG, {} KEY_READ, {} KEY_WRITE, {} CREATE and \
-             {} DELETE of a pointer that stays), {} blocks freed by DELETE_TREE ({} refused 15), {} hidden blocks ({} of \
-             them freed by DELETE)",
+             {} DELETE of a pointer that stays, {} RENT of more than 0), {} blocks freed by DELETE_TREE ({} refused 15), {} \
+             hidden blocks ({} of them freed by DELETE), a total that grew in {} and rent due after {}, the same on both \
+             cards",
             self.sessions,
             self.calls,
             self.done,
@@ -55,14 +61,24 @@ impl Secrecy {
             self.write_keys,
             self.raised,
             self.lowered,
+            self.rents,
             self.trees,
             self.protected,
             self.hidden,
-            self.freed
+            self.freed,
+            self.grown,
+            self.due
         )
     }
 
     pub fn missing(&self) -> Vec<String> {
+        let mut missing = self.missing_by_record();
+        missing.extend((self.rents == 0).then(|| "secrecy: RENT done".to_string()));
+        missing
+    }
+
+    /// The same of records, which do not carry RENT.
+    fn missing_by_record(&self) -> Vec<String> {
         let seen = [
             ("a hidden block", self.hidden),
             ("a hidden block freed", self.freed),
@@ -74,6 +90,8 @@ impl Secrecy {
             ("DELETE done of one of several", self.lowered),
             ("a block freed by DELETE_TREE", self.trees),
             ("DELETE_TREE refused 15", self.protected),
+            ("a total that grew", self.grown),
+            ("rent due at the end", self.due),
         ];
         seen.iter().filter(|(_, count)| *count == 0).map(|(what, _)| format!("secrecy: {what}")).collect()
     }
@@ -184,6 +202,7 @@ impl Pair {
             seen.runs += matches!(call, Call::AllocContig { .. }) as u64;
             seen.read_keys += matches!(call, Call::KeyRead { .. }) as u64;
             seen.write_keys += matches!(call, Call::KeyWrite { .. }) as u64;
+            seen.rents += (matches!(call, Call::Rent { .. }) && value > 0) as u64;
             if let Call::Delete { destination, .. } = call {
                 self.freed[*destination as usize] |= value == 1;
             }
@@ -194,9 +213,23 @@ impl Pair {
         }
     }
 
+    /// The rent after the session, which must be the same on both.
+    fn compare_rent(&mut self, seen: &mut Secrecy) -> Result<(), String> {
+        let lent = Buffers { out: vec![], places: vec![], value: 0 };
+        let rent = Direct::Rent { price: HIGHEST_PRICE };
+        let (answer, after) = self.both(&lent, |tables, buffers| tables.call(&rent, buffers))?;
+        if answer != 0 {
+            return Err(format!("RENT after the session is refused {answer}"));
+        }
+        seen.grown += (self.one.card().total() > self.start.total()) as u64;
+        seen.due += (after.value > 0) as u64;
+        Ok(())
+    }
+
     /// The cards after the session: equal but for blocks that are still hidden or unallocated, and the hidden ones kept:
-    /// only a DELETE frees one.
-    fn compare_after(&self, seen: &mut Secrecy) -> Result<(), String> {
+    /// only a DELETE frees one. The total is in the record, and so the same.
+    fn compare_after(&mut self, seen: &mut Secrecy) -> Result<(), String> {
+        self.compare_rent(seen)?;
         let (first, second) = (self.one.card(), self.two.card());
         if let Some(difference) = self.one.difference_but_contents(&second) {
             return Err(format!("after the session the two cards' tables differ: {}", of_two_cards(difference)));
@@ -298,7 +331,7 @@ impl ByteSecrecy {
     }
 
     pub fn missing(&self) -> Vec<String> {
-        let mut missing = self.counts.missing();
+        let mut missing = self.counts.missing_by_record();
         missing.extend(STOPS.iter().filter(|stop| !self.stops.contains_key(stop)).map(|stop| format!("stop {stop:?}")));
         if self.keys_without_room == 0 || self.with_service_kind == 0 {
             missing.push("a key for which there is no room, or a service record".to_string());

@@ -4,7 +4,8 @@ use crate::compare;
 use crate::library::{self, Direct, LentBatch, LentBuffers, Tables};
 use crate::model::{
     self, number, word, Buffers, Call, Card, Credential, Key, Port, Progress, ALLOCATED, CANNOT_POINT, HAS_WRITE_KEY,
-    HIGHEST_MULTIPLICITY, MALFORMED, NO_HINT, NO_POINTER, READ_KEY, WRITE_KEY,
+    HIGHEST_MULTIPLICITY, MALFORMED, NO_HINT, NO_POINTER, PRICE_TOO_HIGH, READ_KEY, RECORD, SHAPE, TIME_END, UNSOUND,
+    WRITE_KEY,
 };
 use crate::random_card::KEYS;
 
@@ -23,7 +24,7 @@ pub struct Player {
 /// Tables of a card with N blocks of 512 bytes and P places, all zero.
 fn blank(blocks: usize, places: usize) -> Card {
     Card {
-        info: vec![0; 5],
+        info: vec![0; RECORD],
         flags: vec![0; blocks],
         keys: vec![0; 4 * blocks],
         counts: vec![0; blocks],
@@ -38,10 +39,14 @@ impl Player {
     /// A fresh player's card: N 16, R 1, B 512, P 32, contents zero, formatted by the library.
     pub fn new() -> Self {
         let mut player = Player::of(blank(16, 32));
+        player.format();
+        player
+    }
+
+    fn format(&mut self) {
         let mut none = LentBuffers::new(&Buffers { out: vec![], places: vec![], value: 0 });
         let format = Direct::Format { blocks: 16, roots: 1, bytes: 512 };
-        assert_eq!((player.tables.call(&format, &mut none), player.model.format(16, 1, 512)), (0, Ok(())));
-        player
+        assert_eq!((self.tables.call(&format, &mut none), self.model.format(16, 1, 512)), (0, Ok(())));
     }
 
     fn of(model: Card) -> Self {
@@ -305,7 +310,7 @@ fn made_by_calls() -> Result<(), String> {
 fn highest_count() -> Result<(), String> {
     let most = 4_095 * HIGHEST_MULTIPLICITY as u32;
     let mut card = blank(4_096, 16_384);
-    card.info = vec![4_096, 1, 512, 0, 0];
+    card.info = vec![4_096, 1, 512, 0, 0, 0];
     card.flags.fill(ALLOCATED);
     let from_root = (2..4_096).map(|b| (word(0, b), 1));
     let to_one = (0..4_096).filter(|&b| b != 1).map(|b| (word(b, 1), HIGHEST_MULTIPLICITY));
@@ -464,7 +469,7 @@ fn renew_writing(block: u16, key: Key) -> Call {
 /// and contents, and read keys; block 4 may have a write key.
 fn tree_card(keyed: bool) -> Card {
     let mut card = blank(16, 32);
-    card.info = vec![16, 1, 512, 0, 100];
+    card.info = vec![16, 1, 512, 0, 100, 0];
     card.flags[..6].fill(ALLOCATED | READ_KEY);
     card.keys.chunks_mut(4).take(6).for_each(|words| words[..2].copy_from_slice(&[7, 8]));
     card.windows[..12].fill(150);
@@ -516,10 +521,123 @@ fn largest_trees() -> Result<(), String> {
     let trees = [(1, upward, 4_095), (4_095, downward, 4_095), (1, open, 4_095), (1, closed, 1)];
     for (destination, pointers, freed) in trees {
         let mut card = blank(n, 16_384);
-        card.info = vec![n as u64, 1, 512, 0, 0];
+        card.info = vec![n as u64, 1, 512, 0, 0, 0];
         card.flags.fill(ALLOCATED);
         card.draw_pointers(pointers.into_iter().map(|p| (p, HIGHEST_MULTIPLICITY)).collect());
         Player::of(card).call(&delete_tree(0, destination), (0, freed))?;
+    }
+    Ok(())
+}
+
+/// Request 2026-08: "total × price divided by 86,400,000, rounded to the nearest, a half upward".
+const RENTS: [(u64, u32, u64); 16] = [
+    (43_200, 1_000, 1),
+    (43_199, 1_000, 0),
+    (43_201, 1_000, 1),
+    (86_399, 1_000, 1),
+    (86_400, 1_000, 1),
+    (129_599, 1_000, 1),
+    (129_600, 1_000, 2),
+    (21_600, 2_000, 1),
+    (21_599, 2_000, 0),
+    (64_800, 2_000, 2),
+    (43_200_000, 1, 1),
+    (43_199_999, 1, 0),
+    (43_200, 999, 0),
+    (0, 2_000, 0),
+    (4_503_599_627_366_400, 0, 0),
+    (4_503_599_627_366_400, 2_000, 104_249_991_374),
+];
+
+/// A fresh card of 16 blocks with this time and total.
+fn rented_card(time: u64, total: u64) -> Card {
+    let mut card = Player::new().model;
+    (card.info[4], card.info[5]) = (time, total);
+    card
+}
+
+/// The cents of totals, "AUDIT refuses 2 for a total above T × 4,096", and "Refused: 16, price above 2,000; after 2."
+fn rents() -> Result<(), String> {
+    let rent = |price| Call::Rent { price };
+    let latest = TIME_END - 1;
+    for (total, price, cents) in RENTS {
+        // The largest T, and the least at which the total is sound: far above T times the 16 blocks.
+        for time in [latest, total.div_ceil(4_096)] {
+            let mut player = Player::of(rented_card(time, total));
+            player.call(&Call::Audit, (0, 0))?;
+            player.call(&rent(price), (0, cents))?;
+            player.call(&rent(2_001), (PRICE_TOO_HIGH, 0))?;
+            player.call(&rent(u32::MAX), (PRICE_TOO_HIGH, 0))?;
+        }
+    }
+    for time in [0, 1, 11, 1_000_000, latest] {
+        let mut player = Player::of(rented_card(time, 4_096 * time + 1));
+        for call in [Call::Audit, rent(0), rent(2_000), rent(2_001), Call::Tick { seconds: 0 }] {
+            player.call(&call, (UNSOUND, 0))?;
+        }
+    }
+    let mut short = rented_card(0, 1);
+    short.info.truncate(RECORD - 1);
+    Player::of(short).call(&rent(2_001), (SHAPE, 0))
+}
+
+/// "Each TICK of n adds n × the allocated non-root blocks to a new total in the card's record, 0 after FORMAT."
+fn total_of_ticks() -> Result<(), String> {
+    let tick = |seconds| Call::Tick { seconds };
+    let nothing = Credential::Nothing;
+    let mut player = Player::new();
+    let steps = [
+        // Without such a block, whatever passes.
+        (tick(1_000), 0),
+        (alloc(NO_HINT, 3), 0),
+        (tick(10), 30),
+        (tick(0), 30),
+        // A block with keys is one too, and one to which many point.
+        (key_read(1, nothing, Some(KEYS[4])), 30),
+        (key_write(2, nothing, Some(KEYS[5])), 30),
+        (create(1, 3), 30),
+        (tick(1), 33),
+        // Nothing for a second that is refused.
+        (tick(TIME_END), 33),
+        (tick(u64::MAX), 33),
+        (delete(1, 3), 33),
+        (delete(0, 3), 33),
+        (tick(100), 233),
+        (delete_tree(0, 1), 233),
+        (tick(100), 333),
+    ];
+    for (i, (call, total)) in steps.into_iter().enumerate() {
+        player.play(SERVICE, call)?;
+        if player.model.total() != total {
+            return Err(format!("after call {} the total is {}, not {total}", i + 1, player.model.total()));
+        }
+    }
+    // One block: 43,199 in all, then a second more. FORMAT takes the total away.
+    player.play(HOST, tick(42_866))?;
+    player.call(&Call::Rent { price: 1_000 }, (0, 0))?;
+    player.play(HOST, tick(1))?;
+    player.call(&Call::Rent { price: 1_000 }, (0, 1))?;
+    player.format();
+    player.call(&Call::Rent { price: 2_000 }, (0, 0))
+}
+
+/// All the time there is on the largest card with one root and all its blocks allocated: from T 0 on, and from T 1 on with
+/// the highest total.
+fn largest_total() -> Result<(), String> {
+    let n = 4_096;
+    let mut card = blank(n, 16_384);
+    card.info = vec![n as u64, 1, 512, 0, 0, 0];
+    card.flags.fill(ALLOCATED);
+    card.draw_pointers((1..n).map(|b| (word(0, b), 1)).collect());
+    for (time, total) in [(0, 0), (1, 4_096)] {
+        (card.info[4], card.info[5]) = (time, total);
+        let mut player = Player::of(card.clone());
+        player.call(&Call::Tick { seconds: TIME_END - 1 - time }, (0, TIME_END - 1))?;
+        let expected = total + (TIME_END - 1 - time) * 4_095;
+        if player.model.total() != expected {
+            return Err(format!("the total is {}, not {expected}", player.model.total()));
+        }
+        player.call(&Call::Audit, (0, 0))?;
     }
     Ok(())
 }
@@ -719,6 +837,9 @@ pub fn trials() -> Result<usize, String> {
     highest_count()?;
     tree_by_tables()?;
     largest_trees()?;
+    rents()?;
+    total_of_ticks()?;
+    largest_total()?;
     for (name, calls) in &rows {
         let mut player = Player::new();
         for (i, (port, call, expected)) in calls.iter().enumerate() {

@@ -1,4 +1,4 @@
--- What a function that C calls leaves: the number it returns, its result, the record as five numbers, the card and the buffers.
+-- What a function that C calls leaves: the number it returns, its result, the record as numbers, the card and the buffers.
 use Prim.Native.Nat.{ℕ}
 use mathlib.Core.Path.{_≡_}
 use mathlib.Core.Bool.{cond}
@@ -14,7 +14,7 @@ use Rattle.card.specs.Session.{request, perform}
 use Rattle.card.specs.declared.Answer.{Answer}
 use Rattle.card.specs.declared.Answer.the-variants.{Refused, Done, Value}
 use Rattle.report.specs.Report.{reachReport, unlockingReport}
-use Rattle.records.specs.Decode.{nameOf, dataOf}
+use Rattle.records.specs.Decode.{dataOf}
 use Rattle.records.specs.declared.Decoding.{Decoding}
 use Rattle.records.specs.declared.Decoding.the-variants.{Decoded, Bad}
 use Rattle.parameters.specs.Numbers.{recordLength, recordOf, numbersOf}
@@ -48,7 +48,7 @@ effectOf r value = record {
 abbrev pub refusedEffect : ℕ → List ℕ → List ℕ → ℕ → List ℕ → Card → Effect
 refusedEffect number out places value info c = record { number = number; value = value; info = info; after = c; out = out; places = places }
 
--- A call, if the operands or the bytes hold one, else 13; and 1 where the record has not its five numbers.
+-- A call, if the operands or the bytes hold one, else 13; and 1 where the record has not its numbers.
 unfoldable pub effect : Decoding → List ℕ → List ℕ → List ℕ → ℕ → List ℕ → Card → Effect
 effect (Decoded port call) input out places value info c =
     cond (eqb (length info) recordLength) (effectOf (perform port c (request call input out places)) value) (refusedEffect 1 out places value info c)
@@ -56,7 +56,7 @@ effect Bad input out places value info c = refusedEffect 13 out places value inf
 
 -- ---- what no record carries
 
--- A rule of its own: 1 where the record has not its five numbers.
+-- A rule of its own: 1 where the record has not its numbers.
 unfoldable pub ruleEffect : (Card → Result) → List ℕ → ℕ → List ℕ → Card → Effect
 ruleEffect rule places value info c = cond (eqb (length info) recordLength) (effectOf (rule c) value) (refusedEffect 1 [] places value info c)
 
@@ -75,7 +75,7 @@ unlockingEffect words chosen places value info c = ruleEffect (unlockingReport w
 
 -- The bytes that a record has beside its operands.
 unfoldable pub dataIn : Decoding → List ℕ → List ℕ
-dataIn (Decoded port call) body = dataOf (nameOf call) body
+dataIn (Decoded port call) body = dataOf call body
 dataIn Bad body = []
 
 -- ---- what the contracts cite

@@ -15,9 +15,8 @@ use Rattle.card.specs.declared.Port.{Port}
 use Rattle.card.specs.declared.Call.{Call}
 use Rattle.card.specs.declared.Answer.{Answer}
 use Rattle.card.specs.declared.Refusal.{Refusal}
-use Rattle.card.specs.declared.Refusal.the-variants.{Misshapen, Unsound, NotAllocated, BadOperand, NotOpened, IsRoot, CannotPoint, NoPointer, HasPointers, TooFewBlocks, TooFewPlaces, TimeEnds, BadRecord, NoRun, HasWriteKey}
-use Rattle.kinds.specs.KindsLaws.{data-right}
-use Rattle.records.specs.Decode.{nameOf, dataOf}
+use Rattle.card.specs.declared.Refusal.the-variants.{Misshapen, Unsound, NotAllocated, BadOperand, NotOpened, IsRoot, CannotPoint, NoPointer, HasPointers, TooFewBlocks, TooFewPlaces, TimeEnds, BadRecord, NoRun, HasWriteKey, PriceTooHigh}
+use Rattle.records.specs.Decode.{dataOf}
 use Rattle.records.specs.Parsed.{ParsedIs}
 use Rattle.records.specs.declared.Decoding.{Decoding}
 use Rattle.records.specs.declared.Decoding.the-variants.{Decoded, Bad}
@@ -27,7 +26,7 @@ use Rattle.parameters.specs.NumbersLaws.{numbers-record}
 use Rattle.adapter.specs.Effects.{Effect, valueAfter, effectOf, effect, ruleEffect, dataIn, Gives}
 
 -- The number of a refusal fits 32 bits.
-pub refusal-small : (r : Refusal) → refusalNumber r ≤ 15
+pub refusal-small : (r : Refusal) → refusalNumber r ≤ 16
 refusal-small Misshapen = omega arith
 refusal-small Unsound = omega arith
 refusal-small NotAllocated = omega arith
@@ -43,6 +42,7 @@ refusal-small TimeEnds = omega arith
 refusal-small BadRecord = omega arith
 refusal-small NoRun = omega arith
 refusal-small HasWriteKey = omega arith
+refusal-small PriceTooHigh = omega arith
 
 -- ---- refusals
 
@@ -149,9 +149,7 @@ data-part : {want : Decoding} (body : List ℕ) {r : Parsed} → ParsedIs want b
 unfolding dataIn dataOf
 data-part body p port call e =
     rw e
-    (ap₂ (λ (m n : ℕ). take m (drop n body))
-    (ap₂ (λ (m n : ℕ). m - n) (p .endAt e) (p .payloadAt e) ∙ sym (data-right (nameOf call)))
-    (p .payloadAt e))
+    (ap₂ (λ (m n : ℕ). take (m - n) (drop n body)) (p .endAt e) (p .payloadAt e))
 
 pub of-record : {want : Decoding} (body out places : List ℕ) (value : ℕ) (info : List ℕ) (c : Card) {r : Parsed} {number given : ℕ} {info' : List ℕ} {after : Card} {out' places' : List ℕ}
     → ParsedIs want body r → Gives (effect (r .decoding) (take (r .end - r .payload) (drop (r .payload) body)) out places value info c) number given info' after out' places'

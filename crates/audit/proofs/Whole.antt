@@ -1,19 +1,19 @@
 -- The walks together are soundness: from their tests to the clauses of the definition, and back.
-use Prim.Native.Nat.{ℕ, suc, _<_}
+use Prim.Native.Nat.{ℕ, suc, _*_, _≤_, _<_}
 use mathlib.Core.Path.{_≡_, refl, sym, ap, _∙_}
 use mathlib.Core.Bool.{Bool, true, false, _&&_, not}
 use mathlib.Core.List.{List, [], _∷_}
 use native.Mathlib.Omega.{arith}
 use lib.Dec.{eqb, leb, leb·zero}
 use lib.ListN.{drop, getD}
-use borrow.Author.Tests.{lt-ltb, eqb-true}
+use borrow.Author.Tests.{le-leb, lt-ltb, eqb-true}
 use Rattle.card.specs.Lists.{all, allBelow}
 use Rattle.card.specs.ListsLaws.{and-left, and-right, and-true, or-else, same-test, false-unless, absurd-test, Holds, every-true, true-every, all-head, all-tail, all-map, allBelow-true, true-allBelow}
 use Rattle.card.specs.Pointers.{ascending, pointersTo}
 use Rattle.card.specs.BesideLaws.{InStep}
 use Rattle.card.specs.ChangesLaws.{used-in-step}
 use Rattle.card.specs.Card.{Card, flag, allocatedFlag, inUse, timesInUse}
-use Rattle.card.specs.Soundness.{soundClauses, flagsBelow8, rootAllocated, keyZero, unallocatedEmpty, absentKeyZero, countRight, pointedTo, windowInTime, multiplicityRight, shape, sound, verdict}
+use Rattle.card.specs.Soundness.{mostBlocks, soundClauses, flagsBelow8, rootAllocated, keyZero, unallocatedEmpty, absentKeyZero, countRight, pointedTo, windowInTime, multiplicityRight, totalInTime, shape, sound, verdict}
 use Rattle.card.specs.SoundCard.{Shaped, Consistent}
 use Rattle.card.specs.SoundnessLaws.{shape-true, sound-true, unallocatedEmpty-true, misshapen-verdict}
 use Rattle.card.specs.declared.Verdict.{Verdict}
@@ -112,14 +112,15 @@ module _ (c : Card) where
 
   module _ (tally : List ℕ) (tallied : (b : ℕ) → b < c .public .info .blocks → getD tally b 0 ≡ pointersTo b (inUse (c .public)) (timesInUse (c .public))) where
     blocks-sound :
-        InStep (inUse (c .public)) (timesInUse (c .public))
+        c .public .info .total ≤ c .public .info .time * mostBlocks
+        → InStep (inUse (c .public)) (timesInUse (c .public))
         → passed && all (λ n. multiplicityRight n) (timesInUse (c .public)) ≡ true
         → all (λ w. eqb w 0) (drop (c .public .info .used) (c .public .pointers)) ≡ true
         → all (λ n. eqb n 0) (drop (c .public .info .used) (c .public .multiplicities)) ≡ true
         → allBelow (λ b. blockSound rows (getD tally b 0) b) (c .public .info .blocks) ≡ true
         → sound c ≡ true
-    unfolding sound blockSound countRight
-    blocks-sound s p u v e =
+    unfolding sound blockSound countRight totalInTime
+    blocks-sound low s p u v e =
         let n = c .public .info .blocks in
         let links = and-left passed _ p in
         let often = and-right passed _ p in
@@ -157,7 +158,10 @@ module _ (c : Card) where
                                   true-allBelow _ n (λ b l. h b l .1 .1 .1 .1 .1 .1 .1 .1 .0),
                                   (
                                     true-allBelow _ n (λ b l. h b l .1 .1 .1 .1 .1 .1 .1 .1 .1 .0),
-                                    tt,
+                                    (
+                                      le-leb _ _ low,
+                                      tt,
+                                    ),
                                   ),
                                 ),
                               ),
@@ -178,6 +182,9 @@ module _ (c : Card) where
   abbrev Walked : Bool → List ℕ → Type 0
   Walked r tally = PointersWalked (c .public .info) (c .public .flags) (inUse (c .public)) (timesInUse (c .public)) r tally
 
+  pub fault-total : c .public .info .time * mostBlocks < c .public .info .total → Unsound ≡ judged (sound c)
+  fault-total l = sym (ap judged (false-unless _ (λ (s : sound c ≡ true). absurd (omega (arith, sound-true c s .totalLow)))))
+
   pub fault-pointers : (r : Bool) (tally : List ℕ) → Walked r tally → r ≡ false → Unsound ≡ judged (sound c)
   fault-pointers r tally h e = sym (ap judged (false-unless _ (λ s. absurd-test (h .passed ∙ sound-pointers (sound-true c s)) e)))
 
@@ -189,10 +196,11 @@ module _ (c : Card) where
 
     pub whole : (r : Bool) (tally : List ℕ) (verdict : Verdict)
         → PointersFit (c .public .info) (c .public .flags) (c .public .pointers) (c .public .multiplicities)
+        → c .public .info .total ≤ c .public .info .time * mostBlocks
         → Walked r tally → r ≡ true → u ≡ true
         → verdict ≡ judged (allBelow (λ b. blockSound rows (getD tally b 0) b) (c .public .info .blocks))
         → verdict ≡ judged (sound c)
-    whole r tally verdict fit h e f g =
+    whole r tally verdict fit low h e f g =
         let step = used-in-step 0 0 (c .public .info .used) (c .public .pointers) (c .public .multiplicities) (fit .usedHigh) (fit .hasMultiplicities) in
         let n = fit .blocksHigh in
         let t : (b : ℕ) → b < c .public .info .blocks → getD tally b 0 ≡ pointersTo b (inUse (c .public)) (timesInUse (c .public)) =
@@ -200,7 +208,7 @@ module _ (c : Card) where
         g
         ∙ ap judged
         (same-test _ _
-        (blocks-sound tally t step (sym (h .passed) ∙ e) (and-left _ _ (sym i ∙ f)) (and-right (all (λ w. eqb w 0) (drop (c .public .info .used) (c .public .pointers))) _ (sym i ∙ f)))
+        (blocks-sound tally t low step (sym (h .passed) ∙ e) (and-left _ _ (sym i ∙ f)) (and-right (all (λ w. eqb w 0) (drop (c .public .info .used) (c .public .pointers))) _ (sym i ∙ f)))
         (λ s. true-allBelow _ _ (λ b l. sound-block s (getD tally b 0) b (t b l) l)))
 
 -- ---- the whole audit, from the test of the shape

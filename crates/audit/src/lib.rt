@@ -167,7 +167,7 @@ fn walk_blocks(
 
 // ---- the whole
 
-// The walks of a card of the right shape, each only after those before it found no fault.
+// The total, and the walks of a card of the right shape, each only after those before it found no fault.
 fn walk(
     info: Info,
     flags: &[u8],
@@ -180,6 +180,10 @@ fn walk(
     requires { ⌜ PointersFit info (now flags) (now pointers) (now multiplicities) ⌝ ∗ ⌜ RowsFit info (now flags) (now keys) (now counts) (now windows) ⌝ }
     ensures { λ r. ⌜ r ≡ judged (sound (card info (now (flags .entry)) (now (keys .entry)) (now (counts .entry)) (now (pointers .entry)) (now (multiplicities .entry)) (now (windows .entry)) [])) ⌝ }
 {
+    // The time is below 2^40: the product does not wrap.
+    if info.time * (BLOCK_LIMIT as u64) < info.total {
+        return Verdict::Unsound;
+    }
     let mut tally = [0u32; BLOCK_LIMIT];
     if walk_pointers(info, flags, pointers, multiplicities, &mut tally) {
         if walk_unused(pointers, multiplicities, info.used) {

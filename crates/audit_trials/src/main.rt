@@ -14,8 +14,8 @@ enum Lack {
     Contents,
 }
 
-// One store into a table of the good card; or a fourth pointer, its multiplicity, a block and that
-// block's count.
+// One store into a table of the good card, or into its record's total; or a fourth pointer, its
+// multiplicity, a block and that block's count.
 enum Fault {
     Nothing,
     Flag(usize, u8),
@@ -24,6 +24,7 @@ enum Fault {
     Pointer(usize, u32),
     Multiplicity(usize, u16),
     Window(usize, u64),
+    Total(u64),
     Fourth(u32, u16, usize, u32),
 }
 
@@ -105,7 +106,7 @@ fn judge(
     fault: Fault,
 ) {
     let fresh = tables::fresh(blocks, roots, bytes);
-    let info = tables::with_time(tables::with_used(fresh, used), time);
+    let mut info = tables::with_time(tables::with_used(fresh, used), time, 0);
     let mut flags = [0u8; 16];
     let mut keys = [0u64; 64];
     let mut counts = [0u32; 16];
@@ -157,6 +158,9 @@ fn judge(
             if at < 32 {
                 windows[at] = to;
             }
+        }
+        Fault::Total(to) => {
+            info = tables::with_time(info, time, to);
         }
         Fault::Fourth(w, times, b, count) => {
             pointers[3] = w;
@@ -237,7 +241,7 @@ fn faults_of_multiplicities() {
     lengthen(b"free-counted", 131077, 1, 5, 1);
 }
 
-// Ranges of the record.
+// Ranges of the record, and its total: at most T × 4,096, whatever N is.
 fn faults_of_records() {
     judge(b"blocks-15", 15, 1, 512, 3, 100, Fault::Nothing);
     judge(b"blocks-17", 17, 1, 512, 3, 100, Fault::Nothing);
@@ -253,6 +257,10 @@ fn faults_of_records() {
     judge(b"time-end", 16, 1, 512, 3, 1099511627776, Fault::Nothing);
     judge(b"last-second", 16, 1, 512, 3, 1099511627775, Fault::Nothing);
     judge(b"pointer-forgotten", 16, 1, 512, 2, 100, Fault::Nothing);
+    damage(b"total-above-blocks", Fault::Total(1601));
+    damage(b"total-highest", Fault::Total(409600));
+    damage(b"total-high", Fault::Total(409601));
+    damage(b"total-of-64-bits", Fault::Total(18446744073709551615));
 }
 
 // Audits the tables, one of them lent without its elements.
@@ -267,7 +275,7 @@ fn lend_lacking(
     windows: &[u64],
     contents: &[u8],
 ) {
-    let info = tables::with_time(tables::fresh(16, 1, 512), 100);
+    let info = tables::with_time(tables::fresh(16, 1, 512), 100, 0);
     match lack {
         Lack::Nothing => show(
             name,

@@ -48,6 +48,7 @@ fn room_of(info: Info, call: Call) -> usize
         Call::DeleteTree(_) => 9,
         Call::Free => 9,
         Call::Tick(_) => 9,
+        Call::Rent(_) => 9,
         _ => 1,
     }
 }

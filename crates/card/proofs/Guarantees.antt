@@ -1,6 +1,7 @@
 -- What the rules guarantee of one call: it is refused for the first condition that holds, a refusal changes nothing, a sound card stays sound,
 -- nothing unallocated is touched, a window is set by a host's done call that names it and shortened by FORCE, a key change and freeing alone, ALLOC_CONTIG
--- gives the nearest run, KEY_READ and KEY_WRITE set their own key alone, and DELETE_TREE frees the least set and leaves the rest.
+-- gives the nearest run, KEY_READ and KEY_WRITE set their own key alone, DELETE_TREE frees the least set and leaves the rest, and the total grows
+-- by what TICKs add alone.
 pub mod Judged
 pub mod Steps
 pub mod PointerSteps
@@ -16,3 +17,4 @@ pub mod Keys
 pub mod Windows
 pub mod Ledger
 pub mod Trees
+pub mod Rent

@@ -9,6 +9,7 @@ use Rattle.card.specs.Pointers.{remove}
 use Rattle.card.specs.Contents.{zeros, overwrite}
 use Rattle.card.specs.Card.{Public, Card, card, allocated, hasKey, isRoot, freeBlocks, windowEnd, longestInterval, count, multiplicity, highestMultiplicity, pointsTo, hasPointers}
 use Rattle.card.specs.Tree.{orphans}
+use Rattle.card.specs.Rent.{rentFor, highestPrice, cents}
 use Rattle.card.specs.Soundness.{ranges, lengths, timeLimit}
 use Rattle.card.specs.Plan.{Check, _⇒_, Change, setWindow, setBlock, setKey, takeBlock, freeBlock, addPointer, raisePointer, lowerPointer, dropPointer, dropFrom, setTime, changePublic, nothing, blockPart, numbers, Plan, Result}
 use Rattle.card.specs.declared.Info.{Info}
@@ -25,14 +26,15 @@ use Rattle.card.specs.declared.KeyOperands.{KeyOperands}
 use Rattle.card.specs.declared.RenewOperands.{RenewOperands}
 use Rattle.card.specs.declared.ForceOperands.{ForceOperands}
 use Rattle.card.specs.declared.TickOperands.{TickOperands}
+use Rattle.card.specs.declared.RentOperands.{RentOperands}
 use Rattle.card.specs.declared.Refusal.{Refusal}
-use Rattle.card.specs.declared.Refusal.the-variants.{Misshapen, Unsound, NotAllocated, BadOperand, NotOpened, IsRoot, CannotPoint, NoPointer, HasPointers, TooFewBlocks, TooFewPlaces, TimeEnds, BadRecord, NoRun, HasWriteKey}
+use Rattle.card.specs.declared.Refusal.the-variants.{Misshapen, Unsound, NotAllocated, BadOperand, NotOpened, IsRoot, CannotPoint, NoPointer, HasPointers, TooFewBlocks, TooFewPlaces, TimeEnds, BadRecord, NoRun, HasWriteKey, PriceTooHigh}
 use Rattle.card.specs.declared.Answer.{Answer}
 use Rattle.card.specs.declared.Answer.the-variants.{Refused, Done, Value}
 
 -- ---- the numbers of refusals and answers
 
--- The number of a refusal: 1 to 13 of document 01, 14 of the request 2026-01, 15 of the request 2026-07.
+-- The number of a refusal: 1 to 13 of document 01, 14 of the request 2026-01, 15 of the request 2026-07, 16 of the request 2026-08.
 abbrev pub refusalNumber : Refusal → ℕ
 refusalNumber Misshapen = 1
 refusalNumber Unsound = 2
@@ -49,6 +51,7 @@ refusalNumber TimeEnds = 12
 refusalNumber BadRecord = 13
 refusalNumber NoRun = 14
 refusalNumber HasWriteKey = 15
+refusalNumber PriceTooHigh = 16
 
 -- An answer's number, 0 for done.
 abbrev pub answerNumber : Answer → ℕ
@@ -94,7 +97,7 @@ opensWindow Service p mode b interval = []
 
 -- The record of a fresh card.
 abbrev pub freshInfo : ℕ → ℕ → ℕ → Info
-freshInfo blocks roots bytes = record { blocks = blocks; roots = roots; bytes = bytes; used = 0; time = 0 }
+freshInfo blocks roots bytes = record { blocks = blocks; roots = roots; bytes = bytes; used = 0; time = 0; total = 0 }
 
 -- A fresh card on the lent tables: the roots allocated and their contents zeros, other contents left.
 abbrev pub freshCard : ℕ → ℕ → ℕ → Card → Card
@@ -350,15 +353,26 @@ forcePlan p o = record {
 unfoldable pub freePlan : Public → Plan
 freePlan p = record { checks = []; answer = Value (length (freeBlocks p)); shown = nothing; steps = [] }
 
--- "TICK(n): 12 if T + n reaches 2^40; result the new T."
+-- "TICK(n): 12 if T + n reaches 2^40; result the new T." 2026-08: "Each TICK of n adds n × the allocated non-root blocks" to the total.
 unfoldable pub tickPlan : Public → TickOperands → Plan
 tickPlan p o = record {
   checks = (leb timeLimit (p .info .time + o .seconds) ⇒ TimeEnds) ∷ [];
   answer = Value (p .info .time + o .seconds);
   shown = nothing;
-  steps = setTime (p .info .time + o .seconds) ∷ [];
+  steps = setTime (p .info .time + o .seconds) (p .info .total + rentFor p (o .seconds)) ∷ [];
 }
 
 -- "AUDIT: done with no result, or the refusal 1 or 2."
 unfoldable pub auditPlan : Plan
 auditPlan = record { checks = []; answer = Done; shown = nothing; steps = [] }
+
+-- ---- RENT, the request 2026-08
+
+-- "RENT takes a price .. 0 to 2,000, and gives cents"; "Refused: 16, price above 2,000; after 2."
+unfoldable pub rentPlan : Public → RentOperands → Plan
+rentPlan p o = record {
+  checks = (ltb highestPrice (o .price) ⇒ PriceTooHigh) ∷ [];
+  answer = Value (cents (p .info .total) (o .price));
+  shown = nothing;
+  steps = [];
+}

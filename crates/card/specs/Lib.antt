@@ -9,6 +9,7 @@ pub mod Contents
 pub mod ContentsLaws
 pub mod Card
 pub mod Tree
+pub mod Rent
 pub mod Soundness
 pub mod SoundCard
 pub mod SoundnessLaws
@@ -21,6 +22,7 @@ pub mod Takeable
 pub mod NearestLaws
 pub mod NumbersLaws
 pub mod LeastLaws
+pub mod RentLaws
 pub mod TreeLaws
 pub mod PicksLaws
 pub mod RunsLaws
@@ -29,6 +31,7 @@ pub mod Lent
 pub mod Session
 pub mod SessionLaws
 pub mod Ledger
+pub mod RentAdded
 pub mod BuffersLaws
 pub mod Reach
 pub mod Trials

@@ -60,7 +60,8 @@ pub data Change : Type 0 where
   lowerPointer : ℕ → ℕ → Change
   dropPointer : ℕ → ℕ → Change
   dropFrom : List ℕ → Change
-  setTime : ℕ → Change
+  -- 2026-08: the time, and the total that goes with it.
+  setTime : ℕ → ℕ → Change
 
 -- A new key is there, or none is; its words are 0 where none is.
 abbrev pub isPresent : NewKey → Bool
@@ -91,10 +92,10 @@ abbrev pub keyedFlags : ℕ → Mode → NewKey → ℕ
 keyedFlags f mode key = 1 + keyBit mode (isPresent key) + keyBit (otherMode mode) (keyFlag (otherMode mode) f)
 
 abbrev pub withUsed : Info → ℕ → Info
-withUsed info used = record { blocks = info .blocks; roots = info .roots; bytes = info .bytes; used = used; time = info .time }
+withUsed info used = record { blocks = info .blocks; roots = info .roots; bytes = info .bytes; used = used; time = info .time; total = info .total }
 
-abbrev pub withTime : Info → ℕ → Info
-withTime info time = record { blocks = info .blocks; roots = info .roots; bytes = info .bytes; used = info .used; time = time }
+abbrev pub withTime : Info → ℕ → ℕ → Info
+withTime info time total = record { blocks = info .blocks; roots = info .roots; bytes = info .bytes; used = info .used; time = time; total = total }
 
 abbrev pub withFlags : Public → List ℕ → Public
 withFlags p flags = record { info = p .info; flags = flags; counts = p .counts; pointers = p .pointers; multiplicities = p .multiplicities; windows = p .windows }
@@ -171,7 +172,7 @@ changePublic (dropFrom bs) p =
       multiplicities = ns ++ (zeros gone ++ drop (p .info .used) (p .multiplicities));
       windows = p .windows;
     }
-changePublic (setTime time) p = record { info = withTime (p .info) time; flags = p .flags; counts = p .counts; pointers = p .pointers; multiplicities = p .multiplicities; windows = p .windows }
+changePublic (setTime time total) p = record { info = withTime (p .info) time total; flags = p .flags; counts = p .counts; pointers = p .pointers; multiplicities = p .multiplicities; windows = p .windows }
 
 -- The two words of a block's key for the mode; those of the other key stay.
 abbrev pub replaceKey : List ℕ → Mode → ℕ → NewKey → List ℕ
@@ -193,7 +194,7 @@ changeKeys (raisePointer a b) keys = keys
 changeKeys (lowerPointer a b) keys = keys
 changeKeys (dropPointer a b) keys = keys
 changeKeys (dropFrom bs) keys = keys
-changeKeys (setTime time) keys = keys
+changeKeys (setTime time total) keys = keys
 
 -- What a change does to the contents, in blocks of so many bytes.
 unfoldable pub changeContents : ℕ → Change → List ℕ → List ℕ
@@ -207,7 +208,7 @@ changeContents bytes (raisePointer a b) contents = contents
 changeContents bytes (lowerPointer a b) contents = contents
 changeContents bytes (dropPointer a b) contents = contents
 changeContents bytes (dropFrom bs) contents = contents
-changeContents bytes (setTime time) contents = contents
+changeContents bytes (setTime time total) contents = contents
 
 unfoldable pub change : Card → Change → Card
 change c step = record {

@@ -8,7 +8,7 @@ use lib.ListN.{length, take}
 use Rattle.card.specs.Card.{Card}
 use Rattle.card.specs.Access.{admits, opens}
 use Rattle.card.specs.Plan.{Check, audited, Plan, Buffers, Result, judge, judgeSound}
-use Rattle.card.specs.Calls.{answerNumber, answerValues, modeOf, readPlan, writePlan, allocPlan, allocContigPlan, createPlan, deletePlan, deleteTreePlan, keyPlan, renewPlan, forcePlan, freePlan, tickPlan, auditPlan}
+use Rattle.card.specs.Calls.{answerNumber, answerValues, modeOf, readPlan, writePlan, allocPlan, allocContigPlan, createPlan, deletePlan, deleteTreePlan, keyPlan, renewPlan, forcePlan, freePlan, tickPlan, auditPlan, rentPlan}
 use Rattle.card.specs.declared.Port.{Port}
 use Rattle.card.specs.declared.Port.the-variants.{Host}
 use Rattle.card.specs.declared.Mode.{Mode}
@@ -17,9 +17,10 @@ use Rattle.card.specs.declared.Credential.{Credential}
 use Rattle.card.specs.declared.Credential.the-variants.{Key as KeyCredential}
 use Rattle.card.specs.declared.KeyOperands.{KeyOperands}
 use Rattle.card.specs.declared.TickOperands.{TickOperands}
+use Rattle.card.specs.declared.RentOperands.{RentOperands}
 use Rattle.card.specs.declared.Answer.{Answer}
 use Rattle.card.specs.declared.Call.{Call}
-use Rattle.card.specs.declared.Call.the-variants.{Read, Write, Alloc, AllocContig, Create, Delete, DeleteTree, KeyRead, KeyWrite, Renew, Force, Free, Tick, Audit}
+use Rattle.card.specs.declared.Call.the-variants.{Read, Write, Alloc, AllocContig, Create, Delete, DeleteTree, KeyRead, KeyWrite, Renew, Force, Free, Tick, Audit, Rent}
 
 -- KEY_READ or KEY_WRITE, by the mode whose key it sets.
 abbrev pub keyCall : Mode → KeyOperands → Call
@@ -52,6 +53,7 @@ plan port c (Force o) lent = forcePlan (c .public) o
 plan port c Free lent = freePlan (c .public)
 plan port c (Tick o) lent = tickPlan (c .public) o
 plan port c Audit lent = auditPlan
+plan port c (Rent o) lent = rentPlan (c .public) o
 
 -- The port by whose rules a call is judged. "RENEW .. host only", "FORCE .. host only": no record and no function of C asks for them at the
 -- service port; there they do what they do at the host's.
@@ -70,12 +72,14 @@ portOf port (Force o) = Host
 portOf port Free = port
 portOf port (Tick o) = port
 portOf port Audit = port
+portOf port (Rent o) = port
 
--- "FREE", "TICK", "AUDIT": the calls that look at no port.
+-- "FREE", "TICK", "AUDIT" and, 2026-08, RENT, "Either port may call it": the calls that look at no port.
 pub data EitherPort : Call → Type 0 where
   free : EitherPort Free
   tick : (o : TickOperands) → EitherPort (Tick o)
   audit : EitherPort Audit
+  rent : (o : RentOperands) → EitherPort (Rent o)
 
 -- All that a request can be refused for, in order: the shape and the soundness of the card, then what its paragraph names.
 unfoldable pub refusals : Port → Card → Request → List Check
@@ -147,27 +151,30 @@ pub record Traits : Type 0 where
   pub values : Reply → List ℕ
   -- The destination of the pointer that the call takes away, if it takes just one: DELETE.
   pub takesPointerTo : Option ℕ
+  -- The seconds that pass with the call, if it is done: TICK's.
+  pub seconds : ℕ
 
--- A call that shows nothing and is no DELETE.
+-- A call that shows nothing and is neither DELETE nor TICK.
 abbrev pub plain : List Credential → Traits
-plain credentials = record { credentials = credentials; values = λ r. []; takesPointerTo = none }
+plain credentials = record { credentials = credentials; values = λ r. []; takesPointerTo = none; seconds = 0 }
 
 -- A row for each call. A player reports READ's first 8 bytes and the numbers of ALLOC and ALLOC_CONTIG.
 unfoldable pub traits : Call → Traits
-traits (Read o) = record { credentials = o .credential ∷ []; values = λ r. take 8 (r .out); takesPointerTo = none }
+traits (Read o) = record { credentials = o .credential ∷ []; values = λ r. take 8 (r .out); takesPointerTo = none; seconds = 0 }
 traits (Write o) = plain (o .credential ∷ [])
-traits (Alloc o) = record { credentials = o .credential ∷ []; values = λ r. take (o .count) (r .places); takesPointerTo = none }
-traits (AllocContig o) = record { credentials = o .credential ∷ []; values = λ r. take (o .count) (r .places); takesPointerTo = none }
+traits (Alloc o) = record { credentials = o .credential ∷ []; values = λ r. take (o .count) (r .places); takesPointerTo = none; seconds = 0 }
+traits (AllocContig o) = record { credentials = o .credential ∷ []; values = λ r. take (o .count) (r .places); takesPointerTo = none; seconds = 0 }
 traits (Create o) = plain (o .credential ∷ o .second ∷ [])
-traits (Delete o) = record { credentials = o .credential ∷ []; values = λ r. []; takesPointerTo = some (o .destination) }
+traits (Delete o) = record { credentials = o .credential ∷ []; values = λ r. []; takesPointerTo = some (o .destination); seconds = 0 }
 traits (DeleteTree o) = plain (o .credential ∷ [])
 traits (KeyRead o) = plain (o .credential ∷ [])
 traits (KeyWrite o) = plain (o .credential ∷ [])
 traits (Renew o) = plain (KeyCredential (o .high) (o .low) ∷ [])
 traits (Force o) = plain []
 traits Free = plain []
-traits (Tick o) = plain []
+traits (Tick o) = record { credentials = []; values = λ r. []; takesPointerTo = none; seconds = o .seconds }
 traits Audit = plain []
+traits (Rent o) = plain []
 
 -- ---- what a player reports
 

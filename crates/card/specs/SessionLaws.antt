@@ -11,7 +11,7 @@ use Rattle.card.specs.Plan.{first, audited, Change, setWindow, setBlock,
 use Rattle.card.specs.Promises.{Is, judged-misshapen, judged-unsound, judged-sound}
 use Rattle.card.specs.Access.{admits}
 use Rattle.card.specs.Calls.{keyPlan}
-use Rattle.card.specs.Session.{keyCall, Request, Sent, Reply, plan, portOf, EitherPort, free, tick, audit, perform, performSound, reply, performed, replies, afterAll}
+use Rattle.card.specs.Session.{keyCall, Request, Sent, Reply, plan, portOf, EitherPort, free, tick, audit, rent, perform, performSound, reply, performed, replies, afterAll}
 use Rattle.card.specs.declared.Info.{Info}
 use Rattle.card.specs.declared.Port.{Port}
 use Rattle.card.specs.declared.Mode.{Mode}
@@ -23,7 +23,7 @@ use Rattle.card.specs.declared.Refusal.the-variants.{Misshapen as Missha
 use Rattle.card.specs.declared.Answer.{Answer}
 use Rattle.card.specs.declared.Answer.the-variants.{Refused}
 use Rattle.card.specs.declared.Call.{Call}
-use Rattle.card.specs.declared.Call.the-variants.{Read, Write, Alloc, AllocContig, Create, Delete, DeleteTree, KeyRead, KeyWrite, Renew, Force, Free, Tick, Audit}
+use Rattle.card.specs.declared.Call.the-variants.{Read, Write, Alloc, AllocContig, Create, Delete, DeleteTree, KeyRead, KeyWrite, Renew, Force, Free, Tick, Audit, Rent}
 
 module _ (port : Port) (c : Card) (q : Request) where
   pub is-misshapen : verdict c ≡ Misshapen → Is (perform port c q) (Refused MisshapenRefusal) c (q .lent .out) (q .lent .places)
@@ -67,14 +67,16 @@ perform-portOf port c q = ap (judge c (q .lent)) (go (q .call))
     go Free = refl
     go (Tick o) = refl
     go Audit = refl
+    go (Rent o) = refl
 
--- Document 01, of FREE, TICK and AUDIT: "These three serve either port alike."
+-- Document 01, of FREE, TICK and AUDIT: "These three serve either port alike." 2026-08, of RENT: "Either port may call it".
 pub ports-alike : {call : Call} → EitherPort call → (port other : Port) (c : Card) (lent : Buffers)
     → perform port c (record { call = call; lent = lent }) ≡ perform other c (record { call = call; lent = lent })
 unfolding perform plan
 ports-alike free port other c lent = refl
 ports-alike (tick o) port other c lent = refl
 ports-alike audit port other c lent = refl
+ports-alike (rent o) port other c lent = refl
 
 -- ---- a list of calls, part by part
 
@@ -100,10 +102,10 @@ drop-replies c xs ys =
 
 -- ---- the numbers of the record that no call changes, on any card, sound or not
 
--- A number of the record that neither M nor T is.
+-- A number of the record that is none of M, T and the total.
 record Fixed (size : Info → ℕ) : Type 0 where
   used : (info : Info) (n : ℕ) → size (withUsed info n) ≡ size info
-  time : (info : Info) (n : ℕ) → size (withTime info n) ≡ size info
+  time : (info : Info) (n m : ℕ) → size (withTime info n m) ≡ size info
 
 module _ {size : Info → ℕ} (fixed : Fixed size) where
   changePublic-size : (step : Change) (p : Public) → size (changePublic step p .info) ≡ size (p .info)
@@ -118,7 +120,7 @@ module _ {size : Info → ℕ} (fixed : Fixed size) where
   changePublic-size (lowerPointer a b) p = refl
   changePublic-size (dropPointer a b) p = fixed .used (p .info) (p .info .used - 1)
   changePublic-size (dropFrom bs) p = fixed .used (p .info) _
-  changePublic-size (setTime time) p = fixed .time (p .info) time
+  changePublic-size (setTime time total) p = fixed .time (p .info) time total
 
   changes-size : (c : Card) (steps : List Change) → size (changes c steps .public .info) ≡ size (c .public .info)
   unfolding changes change
@@ -142,7 +144,7 @@ module _ {size : Info → ℕ} (fixed : Fixed size) where
   afterAll-size c (x ∷ xs) = afterAll-size (performed c x .after) xs ∙ perform-size (x .port) c (x .request)
 
 fixed-bytes : Fixed (λ (i : Info). i .bytes)
-fixed-bytes = record { used = λ i n. refl; time = λ i n. refl }
+fixed-bytes = record { used = λ i n. refl; time = λ i n m. refl }
 
 pub perform-bytes : (port : Port) (c : Card) (q : Request) → perform port c q .after .public .info .bytes ≡ c .public .info .bytes
 perform-bytes = perform-size fixed-bytes
@@ -151,4 +153,4 @@ pub afterAll-bytes : (c : Card) (xs : List Sent) → afterAll c xs .public .info
 afterAll-bytes = afterAll-size fixed-bytes
 
 pub afterAll-blocks : (c : Card) (xs : List Sent) → afterAll c xs .public .info .blocks ≡ c .public .info .blocks
-afterAll-blocks = afterAll-size (record { used = λ i n. refl; time = λ i n. refl })
+afterAll-blocks = afterAll-size (record { used = λ i n. refl; time = λ i n m. refl })

@@ -8,7 +8,7 @@ use lib.ListN.{length, drop}
 use Rattle.card.specs.Lists.{all}
 use Rattle.card.specs.Pointers.{ascending, source, destination, pointersTo}
 use Rattle.card.specs.Card.{Public, Card, flag, allocatedFlag, keyFlag, allocated, windowEnd, longestInterval, count, inUse, timesInUse, keyHigh, keyLow}
-use Rattle.card.specs.Soundness.{timeLimit, pointerRight, multiplicityRight}
+use Rattle.card.specs.Soundness.{timeLimit, mostBlocks, pointerRight, multiplicityRight}
 use Rattle.card.specs.declared.Mode.{Mode}
 
 -- ---- shape
@@ -73,6 +73,7 @@ pub record Consistent (c : Card) : Type 0 where
   pub counts : (b : ℕ) → b < c .public .info .blocks → count (c .public) b ≡ pointersTo b (inUse (c .public)) (timesInUse (c .public))
   pub pointed : (b : ℕ) → b < c .public .info .blocks → c .public .info .roots ≤ b → allocatedFlag (flag (c .public) b) ≡ true → 1 ≤ count (c .public) b
   pub windowsLow : (mode : Mode) (b : ℕ) → b < c .public .info .blocks → windowEnd (c .public) mode b ≤ c .public .info .time + longestInterval
+  pub totalLow : c .public .info .total ≤ c .public .info .time * mostBlocks
 
 -- A card of the right shape that is sound: what a call that is not refused 1 or 2 starts from.
 pub record SoundCard (c : Card) : Type 0 where

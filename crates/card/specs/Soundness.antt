@@ -1,4 +1,4 @@
--- Document 01, "Shape" and "Soundness": each a list of clauses in the document's order.
+-- Document 01, "Shape" and "Soundness": each a list of clauses in the document's order, then those of the requests.
 use Prim.Native.Nat.{ℕ, _+_, _*_, _%_, _^_}
 use mathlib.Core.Bool.{Bool, _&&_, _||_, not, cond}
 use mathlib.Core.List.{List, [], _∷_}
@@ -7,6 +7,7 @@ use lib.ListN.{length, drop}
 use Rattle.card.specs.Lists.{every, all, allBelow}
 use Rattle.card.specs.Pointers.{ascending, source, destination, pointersTo}
 use Rattle.card.specs.Card.{Public, Card, flag, allocatedFlag, keyFlag, allocated, isRoot, windowEnd, longestInterval, count, inUse, timesInUse, highestMultiplicity, keyHigh, keyLow}
+use Rattle.card.specs.declared.Info.{Info}
 use Rattle.card.specs.declared.Mode.{Mode}
 use Rattle.card.specs.declared.Mode.the-variants.{Reading, Writing}
 use Rattle.card.specs.declared.Verdict.{Verdict}
@@ -18,11 +19,15 @@ use Rattle.card.specs.declared.Verdict.the-variants.{Misshapen, Unsound,
 abbrev pub timeLimit : ℕ
 timeLimit = 2 ^ 40
 
+-- N is at most this.
+abbrev pub mostBlocks : ℕ
+mostBlocks = 4096
+
 -- N, R and B in their ranges. B divides 65,536, so it is a power of two.
 abbrev pub rangeClauses : ℕ → ℕ → ℕ → List Bool
 rangeClauses blocks roots bytes =
     leb 16 blocks
-    ∷ leb blocks 4096
+    ∷ leb blocks mostBlocks
     ∷ leb 1 roots
     ∷ leb roots 8
     ∷ leb 512 bytes
@@ -124,6 +129,10 @@ multiplicityRight n = leb 1 n && leb n highestMultiplicity
 
 -- ---- soundness, of the card
 
+-- 2026-08, "AUDIT refuses 2 for a total above T × 4,096": 4,096 blocks are the most that a card has.
+unfoldable pub totalInTime : Info → Bool
+totalInTime info = leb (info .total) (info .time * mostBlocks)
+
 abbrev pub soundClauses : Card → List Bool
 soundClauses c =
     let blocks = c .public .info .blocks in
@@ -141,6 +150,7 @@ soundClauses c =
     ∷ allBelow (λ b. pointedTo c b) blocks
     ∷ allBelow (λ b. windowInTime c b Reading) blocks
     ∷ allBelow (λ b. windowInTime c b Writing) blocks
+    ∷ totalInTime (c .public .info)
     ∷ []
 
 -- Document 01, "Soundness".

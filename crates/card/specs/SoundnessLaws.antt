@@ -9,7 +9,7 @@ use borrow.Author.Tests.{lt-ltb, le-ltb, le-leb, eq-eqb, ne-eqb, ltb-true, ltb-f
 use Rattle.card.specs.ListsLaws.{and-left, and-right, and-true, or-else, or-false, or-false-left, or-false-right, every-true, true-every, allBelow-true, true-allBelow}
 use Rattle.card.specs.Pointers.{source, destination}
 use Rattle.card.specs.Card.{Public, Card, flag, allocatedFlag, keyFlag, allocated, isRoot, windowEnd, count, highestMultiplicity, keyHigh}
-use Rattle.card.specs.Soundness.{rangeClauses, ranges, lengthClauses, lengths, shapeClauses, shape, soundClauses, flagsBelow8, rootAllocated, keyZero, unallocatedEmpty, absentKeyZero, countRight, pointedTo, windowInTime, pointerRight, multiplicityRight, sound, verdict}
+use Rattle.card.specs.Soundness.{rangeClauses, ranges, lengthClauses, lengths, shapeClauses, shape, soundClauses, flagsBelow8, rootAllocated, keyZero, unallocatedEmpty, absentKeyZero, countRight, pointedTo, windowInTime, pointerRight, multiplicityRight, totalInTime, sound, verdict}
 use Rattle.card.specs.SoundCard.{InRanges, HasLengths, Shaped, KeyZero, Empty, RightPointer, Consistent, SoundCard}
 use Rattle.card.specs.declared.Mode.{Mode}
 use Rattle.card.specs.declared.Mode.the-variants.{Reading, Writing}
@@ -243,7 +243,7 @@ true-pointedTo c b f =
     (not-false _ (or-false-right (isRoot (c .public) b) _ e))))
 
 pub sound-true : (c : Card) → sound c ≡ true → Consistent c
-unfolding sound flagsBelow8 countRight windowInTime
+unfolding sound flagsBelow8 countRight windowInTime totalInTime
 sound-true c e =
     let h = every-true (soundClauses c) e in
     let blocks = c .public .info .blocks in
@@ -266,10 +266,11 @@ sound-true c e =
         | Reading ↦ λ b l. leb-true _ _ (allBelow-true (λ b. windowInTime c b Reading) blocks (h .1 .1 .1 .1 .1 .1 .1 .1 .1 .1 .1 .1 .0) b l)
         | Writing ↦ λ b l. leb-true _ _ (allBelow-true (λ b. windowInTime c b Writing) blocks (h .1 .1 .1 .1 .1 .1 .1 .1 .1 .1 .1 .1 .1 .0) b l)
       ];
+      totalLow = leb-true _ _ (h .1 .1 .1 .1 .1 .1 .1 .1 .1 .1 .1 .1 .1 .1 .0);
     }
 
 pub true-sound : {c : Card} → Consistent c → sound c ≡ true
-unfolding sound flagsBelow8 countRight windowInTime
+unfolding sound flagsBelow8 countRight windowInTime totalInTime
 true-sound {c} h =
     let blocks = c .public .info .blocks in
     true-every (soundClauses c) (
@@ -300,7 +301,7 @@ true-sound {c} h =
                               true-allBelow _ blocks (λ b l. le-leb _ _ (h .windowsLow Reading b l)),
                               (
                                 true-allBelow _ blocks (λ b l. le-leb _ _ (h .windowsLow Writing b l)),
-                                tt,
+                                (le-leb _ _ (h .totalLow), tt),
                               ),
                             ),
                           ),

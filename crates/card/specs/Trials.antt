@@ -10,10 +10,11 @@ use Rattle.card.specs.Least.{rounds, least}
 use Rattle.card.specs.Contents.{overwrite, part, fill, zeros}
 use Rattle.card.specs.Card.{Card, card, allocated, hasKey, freeBlocks, windowOpen, multiplicity, pointsTo, hasPointers}
 use Rattle.card.specs.Tree.{ordinary, onlyFrom, orphaned, orphans}
-use Rattle.card.specs.Soundness.{ranges, lengths, shape, flagsBelow8, rootAllocated, keyZero, unallocatedEmpty, absentKeyZero, countRight, pointedTo, windowInTime, pointerRight, multiplicityRight, sound}
+use Rattle.card.specs.Rent.{rented, rentFor, halfRounded, rounded, cents}
+use Rattle.card.specs.Soundness.{ranges, lengths, shape, flagsBelow8, rootAllocated, keyZero, unallocatedEmpty, absentKeyZero, countRight, pointedTo, windowInTime, pointerRight, multiplicityRight, totalInTime, sound}
 use Rattle.card.specs.Access.{keyIs, keyOpens, opensKeyed, opensRoot, opensPointed, opens, admits}
-use Rattle.card.specs.Plan.{first, audited, changePublic, changeKeys, changeContents, change, changes, outAfter, placesAfter, settle, judge, withUsed, Buffers}
-use Rattle.card.specs.Calls.{rootAtHost, windowAfter, opensWindow, freshInfo, formatResult, format, readPlan, writePlan, wanted, nearest, picks, takeAll, allocPlan, isRun, runStarts, nearestRun, allocContigPlan, createPlan, deletePlan, freedWith, freeEach, deleteTreePlan, keyPlan, modeOf, renewPlan, forcePlan, freePlan, tickPlan, auditPlan}
+use Rattle.card.specs.Plan.{first, audited, changePublic, changeKeys, changeContents, change, changes, outAfter, placesAfter, settle, judge, withUsed, withTime, Buffers}
+use Rattle.card.specs.Calls.{rootAtHost, windowAfter, opensWindow, freshInfo, formatResult, format, readPlan, writePlan, wanted, nearest, picks, takeAll, allocPlan, isRun, runStarts, nearestRun, allocContigPlan, createPlan, deletePlan, freedWith, freeEach, deleteTreePlan, keyPlan, modeOf, renewPlan, forcePlan, freePlan, tickPlan, auditPlan, rentPlan}
 use Rattle.card.specs.Session.{keyCall, Sent, plan, perform, reported, reports, traits}
 use Rattle.card.specs.declared.Port.{Port}
 use Rattle.card.specs.declared.Port.the-variants.{Host, Service}
@@ -24,11 +25,11 @@ use Rattle.card.specs.declared.Credential.the-variants.{Nothing, Referen
 use Rattle.card.specs.declared.NewKey.{NewKey}
 use Rattle.card.specs.declared.NewKey.the-variants.{Absent, Present}
 use Rattle.card.specs.declared.Call.{Call}
-use Rattle.card.specs.declared.Call.the-variants.{Read, Write, Alloc, AllocContig, Create, Delete, DeleteTree, Free, Tick}
+use Rattle.card.specs.declared.Call.the-variants.{Read, Write, Alloc, AllocContig, Create, Delete, DeleteTree, Free, Tick, Rent}
 
 -- To compute by the rules, a proof unfolds this one name.
 unfoldable pub rules : Unit {0}
-unfolding every all any allBelow numbersBelow numbersFrom tabulate rounds least ascending contains pointsFrom insert remove beside total insertBeside removeBeside setBeside keepBeside keep notFrom overwrite part fill allocated hasKey freeBlocks windowOpen multiplicity pointsTo hasPointers ordinary onlyFrom orphaned orphans ranges lengths shape flagsBelow8 rootAllocated keyZero unallocatedEmpty absentKeyZero countRight pointedTo windowInTime pointerRight multiplicityRight sound keyIs keyOpens opensKeyed opensRoot opensPointed opens admits first audited changePublic changeKeys changeContents change changes outAfter placesAfter settle judge rootAtHost windowAfter opensWindow formatResult format readPlan writePlan wanted nearest picks takeAll allocPlan isRun runStarts nearestRun allocContigPlan createPlan deletePlan freedWith freeEach deleteTreePlan keyPlan modeOf renewPlan forcePlan freePlan tickPlan auditPlan plan perform reported reports traits
+unfolding every all any allBelow numbersBelow numbersFrom tabulate rounds least ascending contains pointsFrom insert remove beside total insertBeside removeBeside setBeside keepBeside keep notFrom overwrite part fill allocated hasKey freeBlocks windowOpen multiplicity pointsTo hasPointers ordinary onlyFrom orphaned orphans rented rentFor halfRounded rounded cents ranges lengths shape flagsBelow8 rootAllocated keyZero unallocatedEmpty absentKeyZero countRight pointedTo windowInTime pointerRight multiplicityRight totalInTime sound keyIs keyOpens opensKeyed opensRoot opensPointed opens admits first audited changePublic changeKeys changeContents change changes outAfter placesAfter settle judge rootAtHost windowAfter opensWindow formatResult format readPlan writePlan wanted nearest picks takeAll allocPlan isRun runStarts nearestRun allocContigPlan createPlan deletePlan freedWith freeEach deleteTreePlan keyPlan modeOf renewPlan forcePlan freePlan tickPlan auditPlan rentPlan plan perform reported reports traits
 rules = tt
 
 -- ---- the player's card
@@ -87,6 +88,9 @@ free = send Host Free
 
 abbrev pub tick : ℕ → Sent
 tick n = send Host (Tick (record { seconds = n }))
+
+abbrev pub rent : ℕ → Sent
+rent price = send Host (Rent (record { price = price }))
 
 -- ---- the table
 
@@ -317,6 +321,25 @@ trialTable =
     ∷ deleteTree Service 1 3
     ∷ []
     yields (0 ∷ 1 ∷ []) ∷ (0 ∷ 2 ∷ []) ∷ (6 ∷ []) ∷ (5 ∷ []) ∷ (3 ∷ []) ∷ [])
+    -- 2026-08: of a fresh card nothing is asked, for its root is not counted; two blocks for 21,600 seconds at 1,000 are half a cent, which is 1
+    ∷ (tick 21600
+    ∷ rent 1000
+    ∷ alloc Service 0 65535 2
+    ∷ rent 1000
+    ∷ tick 21600
+    ∷ rent 1000
+    ∷ []
+    yields (0 ∷ 21600 ∷ []) ∷ (0 ∷ 0 ∷ []) ∷ (0 ∷ 1 ∷ 2 ∷ []) ∷ (0 ∷ 0 ∷ []) ∷ (0 ∷ 43200 ∷ []) ∷ (0 ∷ 1 ∷ []) ∷ [])
+    -- 2026-08: a TICK counts the blocks that it finds, so a block that was freed before it is not counted; a refused TICK adds nothing
+    ∷ (alloc Service 0 65535 2
+    ∷ tick 86399
+    ∷ delete Service 0 2
+    ∷ tick 1099511541376
+    ∷ tick 86400
+    ∷ tick 1
+    ∷ rent 1000
+    ∷ []
+    yields (0 ∷ 1 ∷ 2 ∷ []) ∷ (0 ∷ 86399 ∷ []) ∷ (0 ∷ 1 ∷ []) ∷ (0 ∷ 1099511627775 ∷ []) ∷ (12 ∷ []) ∷ (12 ∷ []) ∷ (0 ∷ 12725830 ∷ []) ∷ [])
     ∷ []
 
 -- What the rules report of a row's calls.
@@ -349,3 +372,51 @@ highest-multiplicity = refl
 pub lowest-multiplicity : reports (madeOften 0) (free ∷ []) ≡ (2 ∷ []) ∷ []
 unfolding rules
 lowest-multiplicity = refl
+
+-- ---- 2026-08, RENT
+
+-- A fresh player card at a time, with a total.
+abbrev pub rentedFor : ℕ → ℕ → Card
+rentedFor time total =
+    card (withTime (freshInfo 16 1 512) time total)
+    (1 ∷ zeros 15)
+    (zeros 64)
+    (zeros 16)
+    (zeros 32)
+    (zeros 32)
+    (zeros 32)
+    (zeros 8192)
+
+infix 10 _for_at_asks_
+-- A time, a total and a price, and what is reported of RENT.
+pub data RentTrial : Type 0 where
+  _for_at_asks_ : ℕ → ℕ → ℕ → List ℕ → RentTrial
+
+unfoldable pub rentTable : List RentTrial
+rentTable =
+    -- "A total of 43,200 at 1,000 is half a cent and gives 1; 43,199 gives 0."
+    (86400 for 43200 at 1000 asks (0 ∷ 1 ∷ []))
+    ∷ (86400 for 43199 at 1000 asks (0 ∷ 0 ∷ []))
+    ∷ (86400 for 43201 at 1000 asks (0 ∷ 1 ∷ []))
+    ∷ (86400 for 129600 at 1000 asks (0 ∷ 2 ∷ []))
+    -- the lowest price and the highest, and 16 for one above it
+    ∷ (86400 for 129600 at 0 asks (0 ∷ 0 ∷ []))
+    ∷ (86400 for 129600 at 2000 asks (0 ∷ 3 ∷ []))
+    ∷ (86400 for 129600 at 2001 asks (16 ∷ []))
+    -- the largest total, T × 4,096 at the last second; one more is refused 2, before 16
+    ∷ (1099511627775 for 4503599627366400 at 2000 asks (0 ∷ 104249991374 ∷ []))
+    ∷ (1099511627775 for 4503599627366400 at 2001 asks (16 ∷ []))
+    ∷ (1099511627775 for 4503599627366401 at 2001 asks (2 ∷ []))
+    ∷ (0 for 0 at 2000 asks (0 ∷ 0 ∷ []))
+    ∷ (0 for 1 at 2000 asks (2 ∷ []))
+    ∷ []
+
+unfoldable pub rentReports : RentTrial → List (List ℕ)
+rentReports (time for total at price asks expected) = reports (rentedFor time total) (rent price ∷ [])
+
+abbrev pub rentExpected : RentTrial → List (List ℕ)
+rentExpected (time for total at price asks expected) = expected ∷ []
+
+pub rent-trials : map rentReports rentTable ≡ map rentExpected rentTable
+unfolding rules rentTable rentReports
+rent-trials = refl

@@ -17,18 +17,22 @@ pub const LONGEST_INTERVAL: u32 = 86400;
 // 2026-05: the highest multiplicity of a pointer.
 pub const HIGHEST_MULTIPLICITY: u16 = 65535;
 
+// 2026-08: the highest price of RENT, in thousandths of a cent for a block and a day.
+pub const HIGHEST_PRICE: u32 = 2000;
+
 // The hint of an ALLOC or ALLOC_CONTIG without one, and the most blocks that one of them takes.
 pub const NO_HINT: u16 = 65535;
 
 pub const MOST_BLOCKS: u8 = 64;
 
-// The card's small record: N, R, B, M and T of document 01.
+// The card's small record: N, R, B, M and T of document 01, and the total of the request 2026-08.
 pub struct Info {
     pub blocks: usize,
     pub roots: usize,
     pub bytes: usize,
     pub used: usize,
     pub time: u64,
+    pub total: u64,
 }
 
 // Where a call arrives. The service port skips credentials and opens no window.
@@ -116,7 +120,11 @@ pub struct TickOperands {
     pub seconds: u64,
 }
 
-// A decoded call, with its credentials inside.
+pub struct RentOperands {
+    pub price: u32,
+}
+
+// A call, with its credentials inside. Records carry all but RENT.
 pub enum Call {
     Read(ReadOperands),
     Write(WriteOperands),
@@ -132,10 +140,11 @@ pub enum Call {
     Free,
     Tick(TickOperands),
     Audit,
+    Rent(RentOperands),
 }
 
 // Why a call is refused, in the order of the numbers: 1 to 13 of document 01, 14 of the request 2026-01,
-// 15 of the request 2026-07.
+// 15 of the request 2026-07, 16 of the request 2026-08.
 pub enum Refusal {
     Misshapen,
     Unsound,
@@ -152,6 +161,7 @@ pub enum Refusal {
     BadRecord,
     NoRun,
     HasWriteKey,
+    PriceTooHigh,
 }
 
 // What a call answers: a refusal, done with no result, or done with one number.

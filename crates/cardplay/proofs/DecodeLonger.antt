@@ -1,5 +1,5 @@
 -- What an input starts with does not change when more bytes follow it.
-use Prim.Native.Nat.{ℕ, zero, suc, _+_, _*_, _≤_, _<_}
+use Prim.Native.Nat.{ℕ, zero, suc, _+_, _-_, _*_, _≤_, _<_}
 use mathlib.Core.Path.{_≡_, refl, sym, ap, ap₂, _∙_}
 use mathlib.Core.Bool.{Bool, _&&_}
 use mathlib.Core.List.{List, [], _∷_, _++_}
@@ -13,9 +13,10 @@ use Rattle.card.specs.declared.Mode.{Mode}
 use Rattle.card.specs.declared.Mode.the-variants.{Reading, Writing}
 use Rattle.card.specs.declared.Call.{Call}
 use Rattle.fields.specs.Bytes.{number, zeroed}
-use Rattle.kinds.specs.Kinds.{row, lengthOf, dataLength, operandsLength, kindOf}
+use Rattle.kinds.specs.Kinds.{row, lengthOf, kindOf}
+use Rattle.kinds.specs.KindsLaws.{parts}
 use Rattle.fields.specs.Fields.{credential, newKey}
-use Rattle.records.specs.Decode.{decodeKey, decodeCall, decodeKnown, decodeBody, nameOf, dataOf, Next, ended, refused, sent, nextOf, decode}
+use Rattle.records.specs.Decode.{decodeKey, decodeCall, decodeKnown, decodeBody, bodyOf, operandsOf, dataOf, Next, ended, refused, sent, nextOf, decode}
 use Rattle.records.specs.DecodeLaws.{OfKind, decoded-kind}
 use Rattle.kinds.specs.declared.Name.{Name}
 use Rattle.kinds.specs.declared.Name.the-variants.{Read as READ, Write as WRITE, Alloc as ALLOC, Create as CREATE, Delete as DELETE, KeyRead as KEY-READ, Renew as RENEW, Force as FORCE, Free as FREE, Tick as TICK, Audit as AUDIT, AllocContig as ALLOC-CONTIG, KeyWrite as KEY-WRITE, DeleteTree as DELETE-TREE}
@@ -93,31 +94,13 @@ call-same port AUDIT xs ys a = refl
 call-same port ALLOC-CONTIG xs ys a = rw (first-same 22 xs ys a 2 (omega arith), operand-same 22 xs ys a 19 2 (omega arith), credential-within 22 xs ys a 2 (omega arith), a 21 (omega arith))
 call-same port KEY-WRITE xs ys a = key-same port Writing xs ys a
 
--- The data lie within the body.
-data-in-body : (name : Name) → operandsLength name + dataLength name ≤ lengthOf name
-unfolding operandsLength lengthOf dataLength row
-data-in-body READ = omega arith
-data-in-body WRITE = omega arith
-data-in-body ALLOC = omega arith
-data-in-body CREATE = omega arith
-data-in-body DELETE = omega arith
-data-in-body KEY-READ = omega arith
-data-in-body RENEW = omega arith
-data-in-body FORCE = omega arith
-data-in-body FREE = omega arith
-data-in-body TICK = omega arith
-data-in-body AUDIT = omega arith
-data-in-body ALLOC-CONTIG = omega arith
-data-in-body KEY-WRITE = omega arith
-data-in-body DELETE-TREE = omega arith
-
 -- ---- a record
 
 module _ (wire : Port) (kind : ℕ) (xs ys : List ℕ) {port : Port} {call : Call} (e : Decoded port call ≡ decodeBody wire kind xs) where
   known : OfKind (kindOf wire kind) xs port call
   known = decoded-kind wire kind xs port call e
 
-  agrees : Agree (lengthOf (nameOf call)) (xs ++ ys) xs
+  agrees : Agree (lengthOf (known .name)) (xs ++ ys) xs
   agrees i h = getD-front xs ys i (omega (arith, known .whole))
     where
       getD-front : (us vs : List ℕ) (j : ℕ) → j < length us → getD (us ++ vs) j 0 ≡ getD us j 0
@@ -128,19 +111,25 @@ module _ (wire : Port) (kind : ℕ) (xs ys : List ℕ) {port : Port} {call : Cal
   body-longer : decodeBody wire kind (xs ++ ys) ≡ Decoded port call
   unfolding decodeBody decodeKnown
   body-longer =
-      rw (known .kind, le-leb (lengthOf (nameOf call)) (length (xs ++ ys)) (omega (arith, length-append xs ys, known .whole)))
-      (call-same port (nameOf call) (xs ++ ys) xs agrees ∙ sym (rw (known .kind, le-leb (lengthOf (nameOf call)) (length xs) (known .whole)) at e))
+      rw (known .kind, le-leb (lengthOf (known .name)) (length (xs ++ ys)) (omega (arith, length-append xs ys, known .whole)))
+      (call-same port (known .name) (xs ++ ys) xs agrees ∙ sym (rw (known .kind, le-leb (lengthOf (known .name)) (length xs) (known .whole)) at e))
 
-  data-longer : dataOf (nameOf call) (xs ++ ys) ≡ dataOf (nameOf call) xs
+  whole-body : bodyOf call ≤ length xs
+  whole-body = rw (known .named) (known .whole)
+
+  operands-in-body : operandsOf call ≤ bodyOf call
+  operands-in-body = rw (known .named) (omega (arith, parts (known .name)))
+
+  data-longer : dataOf call (xs ++ ys) ≡ dataOf call xs
   unfolding dataOf
   data-longer =
-      let fits : operandsLength (nameOf call) + dataLength (nameOf call) ≤ length xs = omega (arith, data-in-body (nameOf call), known .whole) in
-      ap (take (dataLength (nameOf call))) (drop-append-le (operandsLength (nameOf call)) xs ys (omega arith))
-      ∙ take-append-le (dataLength (nameOf call)) (drop (operandsLength (nameOf call)) xs) ys (omega (arith, length-drop (operandsLength (nameOf call)) xs))
+      let fits : operandsOf call ≤ length xs = omega (arith, operands-in-body, whole-body) in
+      ap (take (bodyOf call - operandsOf call)) (drop-append-le (operandsOf call) xs ys fits)
+      ∙ take-append-le (bodyOf call - operandsOf call) (drop (operandsOf call) xs) ys (omega (arith, whole-body, length-drop (operandsOf call) xs))
 
-  next-is : nextOf (xs ++ ys) (decodeBody wire kind (xs ++ ys)) ≡ sent port call (dataOf (nameOf call) xs) (drop (lengthOf (nameOf call)) xs ++ ys)
+  next-is : nextOf (xs ++ ys) (decodeBody wire kind (xs ++ ys)) ≡ sent port call (dataOf call xs) (drop (bodyOf call) xs ++ ys)
   unfolding nextOf
-  next-is = rw body-longer (ap₂ (sent port call) data-longer (drop-append-le (lengthOf (nameOf call)) xs ys (known .whole)))
+  next-is = rw body-longer (ap₂ (sent port call) data-longer (drop-append-le (bodyOf call) xs ys whole-body))
 
 -- The same call with more bytes behind it.
 abbrev followed : List ℕ → Next → Next

@@ -189,6 +189,17 @@ pub fn perform_sound(
             contents,
             o,
         ),
+        Call::Rent(o) => status::rent_sound(
+            info,
+            flags,
+            keys,
+            counts,
+            pointers,
+            multiplicities,
+            windows,
+            contents,
+            o,
+        ),
         Call::Audit => Outcome {
             answer: Answer::Done,
             info,

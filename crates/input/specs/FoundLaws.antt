@@ -10,10 +10,9 @@ use lib.Seq.{take-all, drop-cons, drop-drop, drop-length}
 use borrow.Author.Tests.{lt-ltb, le-ltb}
 use Rattle.card.specs.declared.Port.{Port}
 use Rattle.card.specs.declared.Call.{Call}
-use Rattle.kinds.specs.Kinds.{lengthOf, dataLength, operandsLength, kindOf, bodyLength}
-use Rattle.records.specs.Decode.{ended, sent, decodeBody, nameOf, dataOf, nextOf, decode}
+use Rattle.kinds.specs.Kinds.{kindOf, bodyLength}
+use Rattle.records.specs.Decode.{ended, sent, decodeBody, bodyOf, operandsOf, dataOf, nextOf, decode}
 use Rattle.records.specs.DecodeLaws.{unknown-kind, short-kind}
-use Rattle.kinds.specs.KindsLaws.{data-right}
 use Rattle.records.specs.Parsed.{ParsedIs}
 use Rattle.kinds.specs.declared.Length.{Length}
 use Rattle.kinds.specs.declared.Length.the-variants.{Bytes, Unknown as UnknownLength}
@@ -82,13 +81,13 @@ module _ (wire : Port) (input : List ℕ) (from : ℕ) (h : from < length input)
       → WholeIs wire input from (record { kind = kind; port = port; call = call; payload = from + 1 + r .payload; next = from + 1 + r .end })
   unfolding nextOf dataOf
   found-whole {r} {port} {call} p e =
-      let operands-end : r .payload ≡ operandsLength (nameOf call) = p .payloadAt e in
-      let body-end : r .end ≡ lengthOf (nameOf call) = p .endAt e in
-      let size : dataLength (nameOf call) ≡ from + 1 + r .end - (from + 1 + r .payload) = omega (arith, data-right (nameOf call)) in
-      let payload-is : take (dataLength (nameOf call)) (drop (operandsLength (nameOf call)) behindKind) ≡ take (from + 1 + r .end - (from + 1 + r .payload)) (drop (from + 1 + r .payload) input) =
+      let operands-end : r .payload ≡ operandsOf call = p .payloadAt e in
+      let body-end : r .end ≡ bodyOf call = p .endAt e in
+      let size : bodyOf call - operandsOf call ≡ from + 1 + r .end - (from + 1 + r .payload) = omega arith in
+      let payload-is : take (bodyOf call - operandsOf call) (drop (operandsOf call) behindKind) ≡ take (from + 1 + r .end - (from + 1 + r .payload)) (drop (from + 1 + r .payload) input) =
       ap₂ (λ (m : ℕ) (ys : List ℕ). take m ys) size
       (ap₂ (λ (m : ℕ) (ys : List ℕ). drop m ys) (sym operands-end) body-whole ∙ drop-drop (r .payload) (from + 1) input) in
-      let rest-is : drop (lengthOf (nameOf call)) behindKind ≡ drop (from + 1 + r .end) input =
+      let rest-is : drop (bodyOf call) behindKind ≡ drop (from + 1 + r .end) input =
       ap₂ (λ (m : ℕ) (ys : List ℕ). drop m ys) (sym body-end) body-whole ∙ drop-drop (r .end) (from + 1) input in
       record {
         decodes = decodes-next ∙ ap (nextOf behindKind) (sym (p .decodes) ∙ e) ∙ ap₂ (sent port call) payload-is rest-is;

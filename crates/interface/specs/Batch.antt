@@ -40,15 +40,15 @@ pub record BatchServed (wire : Port) (before : BatchState) (input : List ℕ) (n
   pub stores : after .info ≡ numbersOf (after .card .public .info)
   pub plays : PlayedIs (serve wire (before .card) input (length (before .answers))) stop (after .records) (after .card) input (after .read) (before .answers) (after .answers) (after .written)
 
--- Refused 1 with nothing changed where the record has not its five numbers; else the batch, every call with its own audit.
-pub record ServedIfFive (wire : Port) (before : BatchState) (input : List ℕ) (number : ℕ) (after : BatchState) : Type 0 where
+-- Refused 1 with nothing changed where the record has not its numbers; else the batch, every call with its own audit.
+pub record ServedIfWhole (wire : Port) (before : BatchState) (input : List ℕ) (number : ℕ) (after : BatchState) : Type 0 where
   pub refuses : (length (before .info) ≡ recordLength → ⊥) → (number ≡ 1) × (after ≡ before)
   pub serves : length (before .info) ≡ recordLength → BatchServed wire before input number after
 
 -- Before that, at no port: refused 13 with nothing changed.
 unfoldable pub BatchIs : Wire → BatchState → List ℕ → ℕ → BatchState → Type 0
 BatchIs Nowhere before input number after = (number ≡ 13) × (after ≡ before)
-BatchIs (At wire) before input number after = ServedIfFive wire before input number after
+BatchIs (At wire) before input number after = ServedIfWhole wire before input number after
 
 abbrev pub batchState : List ℕ → List ℕ → List ℕ → List ℕ → List ℕ → List ℕ → List ℕ → List ℕ → List ℕ → ℕ → ℕ → ℕ → BatchState
 batchState info flags keys counts pointers multiplicities windows contents answers records read written = record {

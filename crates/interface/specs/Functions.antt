@@ -5,7 +5,7 @@ use Rattle.card.specs.Card.{Card}
 use Rattle.card.specs.declared.Port.the-variants.{Host}
 use Rattle.card.specs.declared.Mode.{Mode}
 use Rattle.card.specs.declared.Mode.the-variants.{Reading, Writing}
-use Rattle.card.specs.declared.Call.the-variants.{Force, Free, Tick, Audit}
+use Rattle.card.specs.declared.Call.the-variants.{Force, Free, Tick, Audit, Rent}
 use Rattle.records.specs.Decode.{readWith, writeWith, allocWith, allocContigWith, createWith, deleteWith, deleteTreeWith, keyWith, renewWith}
 use Rattle.records.specs.declared.Decoding.{Decoding}
 use Rattle.records.specs.declared.Decoding.the-variants.{Decoded}
@@ -28,6 +28,7 @@ pub data Function : Type 0 where
   tick : (seconds value : ℕ) → Function
   free : (value : ℕ) → Function
   audit : Function
+  rent : (price value : ℕ) → Function
   serve : (port kind : ℕ) (body out places : List ℕ) (value : ℕ) → Function
 
 -- KEY_READ or KEY_WRITE, by the mode whose key it sets.
@@ -60,6 +61,7 @@ lendingOf (force block) = lending (Decoded Host (Force (record { block = block }
 lendingOf (tick seconds value) = lending (Decoded Host (Tick (record { seconds = seconds }))) [] [] [] value
 lendingOf (free value) = lending (Decoded Host Free) [] [] [] value
 lendingOf audit = lending (Decoded Host Audit) [] [] [] 0
+lendingOf (rent price value) = lending (Decoded Host (Rent (record { price = price }))) [] [] [] value
 lendingOf (serve port kind body out places value) =
     lending (decodeAt (wireOf port) kind body) (dataIn (decodeAt (wireOf port) kind body) body) out places value
 
@@ -83,4 +85,5 @@ functionPort (force block) = 0
 functionPort (tick seconds value) = 0
 functionPort (free value) = 0
 functionPort audit = 0
+functionPort (rent price value) = 0
 functionPort (serve port kind body out places value) = port

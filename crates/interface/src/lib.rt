@@ -1,4 +1,4 @@
-// The functions that C links: the card's record as a lent slice of five numbers, tables and buffers as slices,
+// The functions that C links: the card's record as a lent slice of numbers, tables and buffers as slices,
 // enums as numbers, credentials and new keys as bytes. Each makes a call of its operands and performs it, as a call record is.
 // include/negvask.h describes them.
 use card::Mode;
@@ -7,7 +7,7 @@ use parameters::Wire;
 ghost use mathlib.Core.Path.{_≡_};
 ghost use mathlib.Core.List.{[]};
 ghost use Rattle.adapter.specs.Effects.{formatEffect, reachEffect, unlockingEffect, Effects, EffectsGiving, EffectsLent, EffectsListing};
-ghost use Rattle.interface.specs.Functions.{read, write, alloc, allocContig, create, delete, deleteTree, keyRead, keyWrite, renew, force, tick, free, audit, serve, effectBy};
+ghost use Rattle.interface.specs.Functions.{read, write, alloc, allocContig, create, delete, deleteTree, keyRead, keyWrite, renew, force, tick, free, audit, rent, serve, effectBy};
 ghost use Rattle.interface.specs.Batch.{stopNumber, ServesBatch};
 
 // ---- the calls, by their operands
@@ -498,6 +498,38 @@ pub extern "C" fn negvask_audit(
         decoding,
         &[],
         &mut value,
+    )
+}
+
+// RENT: `cents` what the total comes to at the price.
+#[no_mangle]
+pub extern "C" fn negvask_rent(
+    info: &mut [u64],
+    flags: &mut [u8],
+    keys: &mut [u64],
+    counts: &mut [u32],
+    pointers: &mut [u32],
+    multiplicities: &mut [u16],
+    windows: &mut [u64],
+    contents: &mut [u8],
+    price: u32,
+    cents: &mut u64,
+) -> u32
+    ensures { λ r. ⌜ EffectsGiving (λ v. effectBy (rent price v)) info flags keys counts pointers multiplicities windows contents cents r ⌝ }
+{
+    let decoding = parameters::rent_call(price);
+    adapter::perform_without_buffers(
+        info,
+        flags,
+        keys,
+        counts,
+        pointers,
+        multiplicities,
+        windows,
+        contents,
+        decoding,
+        &[],
+        cents,
     )
 }
 

@@ -1,5 +1,5 @@
 -- Laws of the kinds: those of the host port are a host's, each is its call's, and a body is its operands and then its data.
-use Prim.Native.Nat.{ℕ, _-_, _≤_}
+use Prim.Native.Nat.{ℕ, _+_, _≤_}
 use mathlib.Core.Path.{_≡_, refl}
 use mathlib.Core.Bool.{Bool, true, false, cond}
 use mathlib.Core.List.{List, [], _∷_}
@@ -65,6 +65,6 @@ data-most ALLOC-CONTIG = omega arith
 data-most KEY-WRITE = omega arith
 data-most DELETE-TREE = omega arith
 
-pub data-right : (name : Name) → dataLength name ≡ lengthOf name - operandsLength name
+pub parts : (name : Name) → operandsLength name + dataLength name ≡ lengthOf name
 unfolding operandsLength
-data-right name = omega (arith, data-most name)
+parts name = omega (arith, data-most name)

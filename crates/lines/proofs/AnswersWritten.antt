@@ -7,7 +7,7 @@ use lib.ListN.{length, length-append, length-take}
 use Rattle.card.specs.Calls.{refusalNumber}
 use Rattle.card.specs.Session.{Reply, reported}
 use Rattle.card.specs.declared.Refusal.{Refusal}
-use Rattle.card.specs.declared.Refusal.the-variants.{Misshapen, Unsound, NotAllocated, BadOperand, NotOpened, IsRoot, CannotPoint, NoPointer, HasPointers, TooFewBlocks, TooFewPlaces, TimeEnds, BadRecord, NoRun, HasWriteKey}
+use Rattle.card.specs.declared.Refusal.the-variants.{Misshapen, Unsound, NotAllocated, BadOperand, NotOpened, IsRoot, CannotPoint, NoPointer, HasPointers, TooFewBlocks, TooFewPlaces, TimeEnds, BadRecord, NoRun, HasWriteKey, PriceTooHigh}
 use Rattle.card.specs.declared.Answer.{Answer}
 use Rattle.card.specs.declared.Answer.the-variants.{Refused, Done, Value}
 use Rattle.card.specs.declared.Call.{Call}
@@ -68,6 +68,7 @@ reported-refused call TimeEnds out places = refl
 reported-refused call BadRecord out places = refl
 reported-refused call NoRun out places = refl
 reported-refused call HasWriteKey out places = refl
+reported-refused call PriceTooHigh out places = refl
 
 pub reported-done : (call : Call) (out places : List ℕ) → reported call (replied Done out places) ≡ 0 ∷ valuesOf (filledBy call) out places
 unfolding reported

@@ -118,6 +118,7 @@ pub fn refusal_number(r: Refusal) -> u64
         Refusal::BadRecord => 13,
         Refusal::NoRun => 14,
         Refusal::HasWriteKey => 15,
+        Refusal::PriceTooHigh => 16,
     }
 }
 

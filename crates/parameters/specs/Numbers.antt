@@ -18,16 +18,16 @@ use Rattle.records.specs.declared.Decoding.the-variants.{Decoded, Bad}
 use Rattle.parameters.specs.declared.Wire.{Wire}
 use Rattle.parameters.specs.declared.Wire.the-variants.{At, Nowhere}
 
--- ---- the record: N, R, B, M and T
+-- ---- the record: N, R, B, M, T and the total
 
 abbrev pub recordLength : ℕ
-recordLength = 5
+recordLength = 6
 
 abbrev pub recordOf : List ℕ → Info
-recordOf xs = record { blocks = getD xs 0 0; roots = getD xs 1 0; bytes = getD xs 2 0; used = getD xs 3 0; time = getD xs 4 0 }
+recordOf xs = record { blocks = getD xs 0 0; roots = getD xs 1 0; bytes = getD xs 2 0; used = getD xs 3 0; time = getD xs 4 0; total = getD xs 5 0 }
 
 abbrev pub numbersOf : Info → List ℕ
-numbersOf i = i .blocks ∷ i .roots ∷ i .bytes ∷ i .used ∷ i .time ∷ []
+numbersOf i = i .blocks ∷ i .roots ∷ i .bytes ∷ i .used ∷ i .time ∷ i .total ∷ []
 
 -- ---- credentials and new keys: 17 bytes, no more and no fewer
 

@@ -18,32 +18,38 @@ use Rattle.parameters.specs.Numbers.{recordLength, recordOf, numbersOf, 
 use Rattle.parameters.specs.declared.Wire.{Wire}
 use Rattle.parameters.specs.declared.Wire.the-variants.{At, Nowhere}
 
-pub loaded : (xs : List ℕ) {fresh used timed : Info} → fresh ≡ freshInfo (getD xs 0 0) (getD xs 1 0) (getD xs 2 0) → used ≡ withUsed fresh (getD xs 3 0) → timed ≡ withTime used (getD xs 4 0)
+pub loaded : (xs : List ℕ) {fresh used timed : Info} → fresh ≡ freshInfo (getD xs 0 0) (getD xs 1 0) (getD xs 2 0) → used ≡ withUsed fresh (getD xs 3 0) → timed ≡ withTime used (getD xs 4 0) (getD xs 5 0)
     → timed ≡ recordOf xs
-loaded xs f u t = t ∙ ap (λ (i : Info). withTime i (getD xs 4 0)) (u ∙ ap (λ (i : Info). withUsed i (getD xs 3 0)) f)
+loaded xs f u t = t ∙ ap (λ (i : Info). withTime i (getD xs 4 0) (getD xs 5 0)) (u ∙ ap (λ (i : Info). withUsed i (getD xs 3 0)) f)
 
--- There is a fifth place behind the four that were stored to.
-pub still-five : (xs : List ℕ) (a b c d : ℕ) → length xs ≡ recordLength → 4 < length (set (set (set (set xs 0 a) 1 b) 2 c) 3 d)
-still-five xs a b c d h = rw (length-set, length-set, length-set, length-set, h) (omega arith)
+-- There is a fifth place behind the four that were stored to, and a sixth behind five.
+module _ (xs : List ℕ) (a b c d : ℕ) (h : length xs ≡ recordLength) where
+  pub still-fifth : 4 < length (set (set (set (set xs 0 a) 1 b) 2 c) 3 d)
+  still-fifth = rw (length-set, length-set, length-set, length-set, h) (omega arith)
 
-pub stored : (xs : List ℕ) (i : Info) → length xs ≡ recordLength → set (set (set (set (set xs 0 (i .blocks)) 1 (i .roots)) 2 (i .bytes)) 3 (i .used)) 4 (i .time) ≡ numbersOf i
-stored (a ∷ b ∷ c ∷ d ∷ e ∷ []) i h = refl
+  pub still-sixth : (e : ℕ) → 5 < length (set (set (set (set (set xs 0 a) 1 b) 2 c) 3 d) 4 e)
+  still-sixth e = rw (length-set, length-set, length-set, length-set, length-set, h) (omega arith)
+
+pub stored : (xs : List ℕ) (i : Info) → length xs ≡ recordLength → set (set (set (set (set (set xs 0 (i .blocks)) 1 (i .roots)) 2 (i .bytes)) 3 (i .used)) 4 (i .time)) 5 (i .total) ≡ numbersOf i
+stored (a ∷ b ∷ c ∷ d ∷ e ∷ f ∷ []) i h = refl
 stored [] i h = absurd (omega arith)
 stored (a ∷ []) i h = absurd (omega arith)
 stored (a ∷ b ∷ []) i h = absurd (omega arith)
 stored (a ∷ b ∷ c ∷ []) i h = absurd (omega arith)
 stored (a ∷ b ∷ c ∷ d ∷ []) i h = absurd (omega arith)
-stored (a ∷ b ∷ c ∷ d ∷ e ∷ f ∷ xs) i h = absurd (omega arith)
+stored (a ∷ b ∷ c ∷ d ∷ e ∷ []) i h = absurd (omega arith)
+stored (a ∷ b ∷ c ∷ d ∷ e ∷ f ∷ g ∷ xs) i h = absurd (omega arith)
 
--- The record of five numbers has these five.
+-- The record of its numbers has these numbers.
 pub numbers-record : (xs : List ℕ) → length xs ≡ recordLength → numbersOf (recordOf xs) ≡ xs
-numbers-record (a ∷ b ∷ c ∷ d ∷ e ∷ []) h = refl
+numbers-record (a ∷ b ∷ c ∷ d ∷ e ∷ f ∷ []) h = refl
 numbers-record [] h = absurd (omega arith)
 numbers-record (a ∷ []) h = absurd (omega arith)
 numbers-record (a ∷ b ∷ []) h = absurd (omega arith)
 numbers-record (a ∷ b ∷ c ∷ []) h = absurd (omega arith)
 numbers-record (a ∷ b ∷ c ∷ d ∷ []) h = absurd (omega arith)
-numbers-record (a ∷ b ∷ c ∷ d ∷ e ∷ f ∷ xs) h = absurd (omega arith)
+numbers-record (a ∷ b ∷ c ∷ d ∷ e ∷ []) h = absurd (omega arith)
+numbers-record (a ∷ b ∷ c ∷ d ∷ e ∷ f ∷ g ∷ xs) h = absurd (omega arith)
 
 -- ---- ports
 

@@ -4,6 +4,7 @@ use card::ForceOperands;
 use card::Info;
 use card::Mode;
 use card::Port;
+use card::RentOperands;
 use card::TickOperands;
 use fields::ParsedCredential;
 use fields::ParsedKey;
@@ -12,14 +13,14 @@ use records::Parsed;
 ghost use mathlib.Core.Path.{_≡_};
 ghost use lib.ListN.{length};
 ghost use Rattle.card.specs.declared.Port.the-variants.{Host};
-ghost use Rattle.card.specs.declared.Call.the-variants.{Force, Tick, Free, Audit};
+ghost use Rattle.card.specs.declared.Call.the-variants.{Force, Tick, Free, Audit, Rent};
 ghost use Rattle.records.specs.Decode.{readWith, writeWith, allocWith, allocContigWith, createWith, deleteWith, deleteTreeWith, keyWith, renewWith};
 ghost use Rattle.records.specs.Parsed.{ParsedIs};
 ghost use Rattle.records.specs.declared.Decoding.the-variants.{Decoded};
 ghost use Rattle.parameters.specs.Numbers.{recordLength, recordOf, numbersOf, credentialOf, newKeyOf, wireOf, atPort, decodeAt};
 
-// How many numbers the record has: N, R, B, M and T.
-pub const RECORD_LENGTH: usize = 5;
+// How many numbers the record has: N, R, B, M, T and the total.
+pub const RECORD_LENGTH: usize = 6;
 
 // How many bytes a credential has, and a new key.
 const CREDENTIAL_LENGTH: usize = 17;
@@ -36,7 +37,7 @@ pub fn load(numbers: &[u64]) -> Info
         numbers[2] as usize,
     );
     let used = tables::with_used(fresh, numbers[3] as usize);
-    tables::with_time(used, numbers[4])
+    tables::with_time(used, numbers[4], numbers[5])
 }
 
 pub fn store(numbers: &mut [u64], info: Info)
@@ -48,6 +49,7 @@ pub fn store(numbers: &mut [u64], info: Info)
     numbers[2] = info.bytes as u64;
     numbers[3] = info.used as u64;
     numbers[4] = info.time;
+    numbers[5] = info.total;
 }
 
 // ---- operands
@@ -214,4 +216,10 @@ pub fn audit_call() -> Decoding
     ensures { λ r. ⌜ r ≡ Decoded Host Audit ⌝ }
 {
     Decoding::Decoded(Port::Host, Call::Audit)
+}
+
+pub fn rent_call(price: u32) -> Decoding
+    ensures { λ r. ⌜ r ≡ Decoded Host (Rent (record { price = price })) ⌝ }
+{
+    Decoding::Decoded(Port::Host, Call::Rent(RentOperands { price }))
 }

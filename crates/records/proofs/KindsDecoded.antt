@@ -19,7 +19,7 @@ use Rattle.kinds.specs.declared.Length.{Length}
 use Rattle.kinds.specs.declared.Length.the-variants.{Bytes, Unknown}
 use Rattle.card.specs.declared.Port.{Port}
 use Rattle.card.specs.declared.Call.{Call}
-use Rattle.records.specs.Decode.{Next, ended, refused, sent, withCredential, createWith, keyWith, renewWith, decodeCall, decodeKnown, decodeBody, nextOf, nameOf, decode}
+use Rattle.records.specs.Decode.{Next, ended, refused, sent, withCredential, createWith, keyWith, renewWith, decodeCall, decodeKnown, decodeBody, nextOf, lengthBy, bodyOf, decode}
 use Rattle.records.specs.DecodeLaws.{unknown-kind, short-kind, decoded-kind}
 use Rattle.records.specs.declared.Decoding.{Decoding}
 use Rattle.records.specs.declared.Decoding.the-variants.{Decoded, Bad}
@@ -55,11 +55,11 @@ refused-bad xs e = rw e
 leaves-body : (wire : Port) (kind : ℕ) (xs : List ℕ) (n : ℕ) → bodyLength wire kind ≡ Bytes n → (d : Decoding) → d ≡ decodeBody wire kind xs → Leaves n xs (nextOf xs d)
 unfolding nextOf bodyLength kindLength
 leaves-body wire kind xs n l (Decoded p call) e port found payload rest h =
-    let known : kindOf wire kind ≡ Known p (nameOf call) = decoded-kind wire kind xs p call e .kind in
-    let length-is : Bytes (lengthOf (nameOf call)) ≡ Bytes n = ap kindLength (sym known) ∙ l in
-    let same : lengthOf (nameOf call) ≡ n = cc in
-    let left : rest ≡ drop (lengthOf (nameOf call)) xs = cc in
-    left ∙ ap (λ (k : ℕ). drop k xs) same
+    let known = decoded-kind wire kind xs p call e in
+    let length-is : Bytes (lengthOf (known .name)) ≡ Bytes n = ap kindLength (sym (known .kind)) ∙ l in
+    let same : lengthOf (known .name) ≡ n = cc in
+    let left : rest ≡ drop (bodyOf call) xs = cc in
+    left ∙ ap (λ (k : ℕ). drop k xs) (ap (lengthBy lengthOf) (known .named) ∙ same)
 leaves-body wire kind xs n l Bad e port found payload rest h = let z : _≡_ {A = ℕ} 0 1 = cc in absurd (omega arith)
 
 -- ---- zeros: block 0, nothing for a credential and no new key

@@ -1,3 +1,4 @@
 pub mod Parsing
 pub mod KindsDecoded
+pub mod RentUncarried
 pub mod Rows

@@ -2,6 +2,7 @@
 use Prim.Native.Nat.{ℕ, _≤_}
 use mathlib.Core.Path.{_≡_, sym, ap, _∙_}
 use mathlib.Core.List.{List}
+use mathlib.Core.Option.{some}
 use native.Mathlib.Omega.{arith}
 use lib.ListN.{length}
 use Rattle.card.specs.declared.Port.{Port}
@@ -11,7 +12,7 @@ use Rattle.kinds.specs.declared.Name.{Name}
 use Rattle.kinds.specs.declared.Kind.{Kind}
 use Rattle.kinds.specs.declared.Kind.the-variants.{Known}
 use Rattle.kinds.specs.declared.Lengths.{Lengths}
-use Rattle.records.specs.Decode.{decodeCall, nameOf, decodeBody}
+use Rattle.records.specs.Decode.{decodeCall, nameOf, lengthBy, decodeBody}
 use Rattle.records.specs.DecodeLaws.{whole, decoded-kind}
 use Rattle.records.specs.Parsed.{parsedBad, ParsedIs}
 use Rattle.records.specs.declared.Decoding.{Decoding}
@@ -57,8 +58,10 @@ module _ (wire : Port) (kind : ℕ) (xs : List ℕ) {known : Kind} {port : Port}
   decodes = whole wire kind xs of-kind known-is (body-is name lengths) long decoded
 
   -- The call that is decoded is the one of the kind.
-  name-is : {p : Port} {call : Call} → d ≡ Decoded p call → name ≡ nameOf call
-  name-is {p} {call} e = same (sym known-is ∙ of-kind ∙ decoded-kind wire kind xs p call (sym e ∙ decodes) .kind)
+  name-is : {p : Port} {call : Call} → d ≡ Decoded p call → some name ≡ nameOf call
+  name-is {p} {call} e =
+      let found = decoded-kind wire kind xs p call (sym e ∙ decodes) in
+      ap some (same (sym known-is ∙ of-kind ∙ found .kind)) ∙ sym (found .named)
     where
       same : {a b : Port} {m n : Name} → Known a m ≡ Known b n → m ≡ n
       same k = cc
@@ -68,6 +71,6 @@ module _ (wire : Port) (kind : ℕ) (xs : List ℕ) {known : Kind} {port : Port}
     decodes = decodes;
     ordered = omega (arith, body-is name lengths, operands-are name lengths, operands-most name);
     within = long;
-    payloadAt = λ e. operands-are name lengths ∙ ap operandsLength (name-is e);
-    endAt = λ e. body-is name lengths ∙ ap lengthOf (name-is e);
+    payloadAt = λ e. operands-are name lengths ∙ ap (lengthBy operandsLength) (name-is e);
+    endAt = λ e. body-is name lengths ∙ ap (lengthBy lengthOf) (name-is e);
   }

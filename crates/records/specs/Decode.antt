@@ -1,8 +1,9 @@
 -- Document 01, "Call records and the player", and the requests: from the bytes of an input to a call, its port and its data.
 -- Each operand stands in the body behind those before it. Only the bytes of the body are looked at, whatever follows them.
-use Prim.Native.Nat.{ℕ}
+use Prim.Native.Nat.{ℕ, _-_}
 use mathlib.Core.Bool.{cond}
 use mathlib.Core.List.{List, [], _∷_}
+use mathlib.Core.Option.{Option, none, some}
 use lib.Dec.{leb}
 use lib.ListN.{length, take, drop, getD}
 use Rattle.card.specs.Session.{keyCall}
@@ -14,10 +15,10 @@ use Rattle.card.specs.declared.Credential.the-variants.{Nothing, Reference, Key
 use Rattle.card.specs.declared.AllocOperands.{AllocOperands}
 use Rattle.card.specs.declared.DeleteOperands.{DeleteOperands}
 use Rattle.card.specs.declared.Call.{Call}
-use Rattle.card.specs.declared.Call.the-variants.{Read, Write, Alloc, AllocContig, Create, Delete, DeleteTree, KeyRead, KeyWrite, Renew, Force, Free, Tick, Audit}
+use Rattle.card.specs.declared.Call.the-variants.{Read, Write, Alloc, AllocContig, Create, Delete, DeleteTree, KeyRead, KeyWrite, Renew, Force, Free, Tick, Audit, Rent}
 use Rattle.fields.specs.Bytes.{number}
 use Rattle.fields.specs.Fields.{credential, newKey}
-use Rattle.kinds.specs.Kinds.{lengthOf, dataLength, operandsLength, kindOf}
+use Rattle.kinds.specs.Kinds.{lengthOf, operandsLength, kindOf}
 use Rattle.kinds.specs.declared.Name.{Name}
 use Rattle.kinds.specs.declared.Name.the-variants.{Read as READ, Write as WRITE, Alloc as ALLOC, Create as CREATE, Delete as DELETE, KeyRead as KEY-READ, Renew as RENEW, Force as FORCE, Free as FREE, Tick as TICK, Audit as AUDIT, AllocContig as ALLOC-CONTIG, KeyWrite as KEY-WRITE, DeleteTree as DELETE-TREE}
 use Rattle.kinds.specs.declared.Kind.{Kind}
@@ -117,25 +118,38 @@ decodeKnown Unknown xs = Bad
 unfoldable pub decodeBody : Port → ℕ → List ℕ → Decoding
 decodeBody wire kind xs = decodeKnown (kindOf wire kind) xs
 
-unfoldable pub nameOf : Call → Name
-nameOf (Read o) = READ
-nameOf (Write o) = WRITE
-nameOf (Alloc o) = ALLOC
-nameOf (AllocContig o) = ALLOC-CONTIG
-nameOf (Create o) = CREATE
-nameOf (Delete o) = DELETE
-nameOf (DeleteTree o) = DELETE-TREE
-nameOf (KeyRead o) = KEY-READ
-nameOf (KeyWrite o) = KEY-WRITE
-nameOf (Renew o) = RENEW
-nameOf (Force o) = FORCE
-nameOf Free = FREE
-nameOf (Tick o) = TICK
-nameOf Audit = AUDIT
+-- 2026-08, of RENT, "no record carries it": it has no name.
+unfoldable pub nameOf : Call → Option Name
+nameOf (Read o) = some READ
+nameOf (Write o) = some WRITE
+nameOf (Alloc o) = some ALLOC
+nameOf (AllocContig o) = some ALLOC-CONTIG
+nameOf (Create o) = some CREATE
+nameOf (Delete o) = some DELETE
+nameOf (DeleteTree o) = some DELETE-TREE
+nameOf (KeyRead o) = some KEY-READ
+nameOf (KeyWrite o) = some KEY-WRITE
+nameOf (Renew o) = some RENEW
+nameOf (Force o) = some FORCE
+nameOf Free = some FREE
+nameOf (Tick o) = some TICK
+nameOf Audit = some AUDIT
+nameOf (Rent o) = none
+
+-- A length by a call's name: 0 where it has none.
+abbrev pub lengthBy : (Name → ℕ) → Option Name → ℕ
+lengthBy length none = 0
+lengthBy length (some name) = length name
+
+abbrev pub bodyOf : Call → ℕ
+bodyOf call = lengthBy lengthOf (nameOf call)
+
+abbrev pub operandsOf : Call → ℕ
+operandsOf call = lengthBy operandsLength (nameOf call)
 
 -- The bytes of a body beside its operands: WRITE's 512, last.
-unfoldable pub dataOf : Name → List ℕ → List ℕ
-dataOf name xs = take (dataLength name) (drop (operandsLength name) xs)
+unfoldable pub dataOf : Call → List ℕ → List ℕ
+dataOf call xs = take (bodyOf call - operandsOf call) (drop (operandsOf call) xs)
 
 -- What an input that arrives at a port starts with: nothing, a record refused 13, or a call at its port with its data, and the input that is left.
 pub data Next : Type 0 where
@@ -144,7 +158,7 @@ pub data Next : Type 0 where
   sent : Port → Call → List ℕ → List ℕ → Next
 
 unfoldable pub nextOf : List ℕ → Decoding → Next
-nextOf xs (Decoded port call) = sent port call (dataOf (nameOf call) xs) (drop (lengthOf (nameOf call)) xs)
+nextOf xs (Decoded port call) = sent port call (dataOf call xs) (drop (bodyOf call) xs)
 nextOf xs Bad = refused
 
 unfoldable pub decode : Port → List ℕ → Next

@@ -1,9 +1,10 @@
 -- Laws of decoding: from the values of a body's parts to what it decodes to.
 use Prim.Native.Nat.{ℕ, _≤_, _<_}
-use mathlib.Core.Path.{_≡_, refl, sym, ap, _∙_, subst}
+use mathlib.Core.Path.{_≡_, refl, sym, ap, ap₂, _∙_, subst}
 use mathlib.Core.Logic.{⊎-elim}
 use mathlib.Core.Bool.{true, false}
 use mathlib.Core.List.{List, [], _∷_}
+use mathlib.Core.Option.{some}
 use native.Mathlib.Omega.{arith}
 use lib.Dec.{leb}
 use lib.ListN.{length, drop, getD, length-drop}
@@ -23,7 +24,7 @@ use Rattle.fields.specs.Bytes.{number}
 use Rattle.kinds.specs.Kinds.{lengthOf, kindOf, kindLength}
 use Rattle.kinds.specs.KindsLaws.{host-kinds}
 use Rattle.fields.specs.Fields.{credential, newKey}
-use Rattle.records.specs.Decode.{withCredential, readWith, writeWith, allocWith, allocContigWith, createWith, deleteWith, deleteTreeWith, keyWith, renewWith, decodeKey, decodeCall, decodeKnown, decodeBody, nameOf, sent, nextOf, decode}
+use Rattle.records.specs.Decode.{withCredential, readWith, writeWith, allocWith, allocContigWith, createWith, deleteWith, deleteTreeWith, keyWith, renewWith, decodeKey, decodeCall, decodeKnown, decodeBody, nameOf, bodyOf, sent, nextOf, decode}
 use Rattle.kinds.specs.declared.Length.the-variants.{Bytes, Unknown as UnknownLength}
 use Rattle.kinds.specs.declared.Name.{Name}
 use Rattle.kinds.specs.declared.Name.the-variants.{Read as READ, Write as WRITE, Alloc as ALLOC, Create as CREATE, Delete as DELETE, KeyRead as KEY-READ, Renew as RENEW, Force as FORCE, Free as FREE, Tick as TICK, Audit as AUDIT, AllocContig as ALLOC-CONTIG, KeyWrite as KEY-WRITE, DeleteTree as DELETE-TREE}
@@ -152,11 +153,11 @@ short-kind Unknown xs n e h = refl
 
 -- What is decoded, if anything, is the named call at the port.
 abbrev Named : Port → Name → Decoding → Type 0
-Named port name (Decoded p call) = (p ≡ port) × (nameOf call ≡ name)
+Named port name (Decoded p call) = (p ≡ port) × (nameOf call ≡ some name)
 Named port name Bad = Unit {0}
 
 named-credential : (port : Port) (name : Name) (call : Credential → Call)
-    → ((c : Credential) → nameOf (call c) ≡ name) → (q : ParsedCredential)
+    → ((c : Credential) → nameOf (call c) ≡ some name) → (q : ParsedCredential)
     → Named port name (withCredential port call q)
 unfolding withCredential
 named-credential port name call h (ValidCredential c) = (refl, h c)
@@ -169,7 +170,7 @@ named-create port s d (ValidCredential c) InvalidCredential = tt
 named-create port s d InvalidCredential q = tt
 
 named-key : (port : Port) (name : Name) (mode : Mode)
-    → ((o : KeyOperands) → nameOf (keyCall mode o) ≡ name) → (b : ℕ) (p : ParsedCredential) (k : ParsedKey)
+    → ((o : KeyOperands) → nameOf (keyCall mode o) ≡ some name) → (b : ℕ) (p : ParsedCredential) (k : ParsedKey)
     → Named port name (keyWith port mode b p k)
 unfolding keyWith
 named-key port name mode h b (ValidCredential c) (ValidKey k) = (refl, h _)
@@ -196,17 +197,19 @@ named port DELETE-TREE xs = named-credential port DELETE-TREE _ (λ c. refl) _
 apart : (p : Port) (call : Call) → Decoded p call ≡ Bad → ⊥
 apart p call e = let z : _≡_ {A = ℕ} 0 1 = cc in omega arith
 
--- The kind of a decoded call, and that its body is whole.
+-- A decoded call has a name and so a kind, and its body is whole.
 pub record OfKind (known : Kind) (xs : List ℕ) (port : Port) (call : Call) : Type 0 where
-  pub kind : known ≡ Known port (nameOf call)
-  pub whole : lengthOf (nameOf call) ≤ length xs
+  pub name : Name
+  pub named : nameOf call ≡ some name
+  pub kind : known ≡ Known port name
+  pub whole : lengthOf name ≤ length xs
 
 of-decoded : (p port : Port) (name : Name) (call : Call) (xs : List ℕ)
     → Decoded p call ≡ decodeCall port name xs → lengthOf name ≤ length xs
     → OfKind (Known port name) xs p call
 of-decoded p port name call xs e h =
     let n : Named port name (Decoded p call) = subst (λ (d : Decoding). Named port name d) (sym e) (named port name xs) in
-    record { kind = rw (n .0, n .1); whole = rw (n .1) h }
+    record { name = name; named = n .1; kind = rw (n .0); whole = h }
 
 of-known : (k : Kind) (xs : List ℕ) (p : Port) (call : Call) → Decoded p call ≡ decodeKnown k xs → OfKind k xs p call
 unfolding decodeKnown
@@ -221,22 +224,29 @@ pub decoded-kind : (wire : Port) (kind : ℕ) (xs : List ℕ) (p : Port) (call :
 unfolding decodeBody
 decoded-kind wire kind xs p call e = of-known (kindOf wire kind) xs p call e
 
--- ---- the calls of the host port
-
-host-next : (kind : ℕ) (xs : List ℕ) (d : Decoding) → d ≡ decodeBody Host kind xs → {port : Port} {call : Call} {payload rest : List ℕ}
+next-kind : (wire : Port) (kind : ℕ) (xs : List ℕ) (d : Decoding) → d ≡ decodeBody wire kind xs → {port : Port} {call : Call} {payload rest : List ℕ}
     → nextOf xs d ≡ sent port call payload rest
-    → port ≡ Host
+    → OfKind (kindOf wire kind) xs port call
 unfolding nextOf
-host-next kind xs (Decoded p c) h {port} e =
-    let same : p ≡ port = cc in
-    sym same ∙ host-kinds kind (decoded-kind Host kind xs p c h .kind)
-host-next kind xs Bad h e = let z : _≡_ {A = ℕ} 0 1 = cc in absurd (omega arith)
+next-kind wire kind xs (Decoded p c) h {port} {call} e =
+    let at-port : p ≡ port = cc in
+    let same : c ≡ call = cc in
+    decoded-kind wire kind xs port call (sym (ap₂ Decoded at-port same) ∙ h)
+next-kind wire kind xs Bad h e = let z : _≡_ {A = ℕ} 0 1 = cc in absurd (omega arith)
+
+pub sent-kind : (wire : Port) (kind : ℕ) (xs : List ℕ) {port : Port} {call : Call} {payload rest : List ℕ}
+    → decode wire (kind ∷ xs) ≡ sent port call payload rest
+    → OfKind (kindOf wire kind) xs port call
+unfolding decode
+sent-kind wire kind xs e = next-kind wire kind xs (decodeBody wire kind xs) refl e
+
+-- ---- the calls of the host port
 
 -- A record that arrives at the host port and is not refused is a call at the host port.
 pub host-sent : (xs : List ℕ) {port : Port} {call : Call} {payload rest : List ℕ} → decode Host xs ≡ sent port call payload rest → port ≡ Host
 unfolding decode
 host-sent [] e = let z : _≡_ {A = ℕ} 0 1 = cc in absurd (omega arith)
-host-sent (kind ∷ xs) e = host-next kind xs (decodeBody Host kind xs) refl e
+host-sent (kind ∷ xs) e = host-kinds kind (sent-kind Host kind xs e .kind)
 
 -- ---- an input gets shorter
 
@@ -245,8 +255,8 @@ next-shorter : (xs : List ℕ) (d : Decoding) {port : Port} {call : Call} {paylo
     → length rest ≤ length xs
 unfolding nextOf
 next-shorter xs (Decoded p call) {rest = rest} e =
-    let left : drop (lengthOf (nameOf call)) xs ≡ rest = cc in
-    omega (arith, ap length left, length-drop (lengthOf (nameOf call)) xs)
+    let left : drop (bodyOf call) xs ≡ rest = cc in
+    omega (arith, ap length left, length-drop (bodyOf call) xs)
 next-shorter xs Bad e = let z : _≡_ {A = ℕ} 0 1 = cc in absurd (omega arith)
 
 pub decode-shorter : (wire : Port) (xs : List ℕ) {port : Port} {call : Call} {payload rest : List ℕ}

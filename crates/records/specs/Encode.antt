@@ -1,6 +1,7 @@
 -- The bytes of a call record, as a host writes it.
 use Prim.Native.Nat.{ℕ, _<_, _^_}
-use mathlib.Core.List.{List, _∷_, _++_}
+use mathlib.Core.List.{List, [], _∷_, _++_}
+use mathlib.Core.Option.{Option, none, some}
 use lib.ListN.{replicate}
 use Rattle.card.specs.declared.Port.{Port}
 use Rattle.card.specs.declared.Credential.{Credential}
@@ -11,9 +12,10 @@ use Rattle.card.specs.declared.AllocOperands.{AllocOperands}
 use Rattle.card.specs.declared.DeleteOperands.{DeleteOperands}
 use Rattle.card.specs.declared.KeyOperands.{KeyOperands}
 use Rattle.card.specs.declared.Call.{Call}
-use Rattle.card.specs.declared.Call.the-variants.{Read, Write, Alloc, AllocContig, Create, Delete, DeleteTree, KeyRead, KeyWrite, Renew, Force, Free, Tick, Audit}
+use Rattle.card.specs.declared.Call.the-variants.{Read, Write, Alloc, AllocContig, Create, Delete, DeleteTree, KeyRead, KeyWrite, Renew, Force, Free, Tick, Audit, Rent}
 use Rattle.fields.specs.Bytes.{bytes}
 use Rattle.kinds.specs.Kinds.{kindNumber}
+use Rattle.kinds.specs.declared.Name.{Name}
 use Rattle.records.specs.Decode.{nameOf}
 
 unfoldable pub credentialBytes : Credential → List ℕ
@@ -55,10 +57,16 @@ body (Force o) ys = bytes 2 (o .block) ++ ys
 body Free ys = ys
 body (Tick o) ys = bytes 8 (o .seconds) ++ ys
 body Audit ys = ys
+body (Rent o) ys = ys
+
+-- The kind of a named call in front of its body. A call without a name has no record.
+unfoldable pub behindKind : Port → Option Name → List ℕ → List ℕ
+behindKind port none xs = []
+behindKind port (some name) xs = kindNumber port name ∷ xs
 
 -- A record: the kind, the operands, the data.
 unfoldable pub encode : Port → Call → List ℕ → List ℕ
-encode port call payload = kindNumber port (nameOf call) ∷ body call payload
+encode port call payload = behindKind port (nameOf call) (body call payload)
 
 -- ---- what can be encoded
 
@@ -100,3 +108,4 @@ FitsCall (Force o) = Fits 2 (o .block)
 FitsCall Free = Unit {0}
 FitsCall (Tick o) = Fits 8 (o .seconds)
 FitsCall Audit = Unit {0}
+FitsCall (Rent o) = Unit {0}

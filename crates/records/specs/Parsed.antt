@@ -5,8 +5,7 @@ use mathlib.Core.List.{List}
 use lib.ListN.{length}
 use Rattle.card.specs.declared.Port.{Port}
 use Rattle.card.specs.declared.Call.{Call}
-use Rattle.kinds.specs.Kinds.{lengthOf, operandsLength}
-use Rattle.records.specs.Decode.{nameOf}
+use Rattle.records.specs.Decode.{bodyOf, operandsOf}
 use Rattle.records.specs.declared.Decoding.{Decoding}
 use Rattle.records.specs.declared.Decoding.the-variants.{Decoded, Bad}
 use Rattle.records.specs.declared.Parsed.{Parsed}
@@ -19,5 +18,5 @@ pub record ParsedIs (want : Decoding) (xs : List ℕ) (r : Parsed) : Type 0 wher
   pub decodes : r .decoding ≡ want
   pub ordered : r .payload ≤ r .end
   pub within : r .end ≤ length xs
-  pub payloadAt : {port : Port} {call : Call} → r .decoding ≡ Decoded port call → r .payload ≡ operandsLength (nameOf call)
-  pub endAt : {port : Port} {call : Call} → r .decoding ≡ Decoded port call → r .end ≡ lengthOf (nameOf call)
+  pub payloadAt : {port : Port} {call : Call} → r .decoding ≡ Decoded port call → r .payload ≡ operandsOf call
+  pub endAt : {port : Port} {call : Call} → r .decoding ≡ Decoded port call → r .end ≡ bodyOf call

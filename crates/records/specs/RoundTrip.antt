@@ -1,8 +1,9 @@
 -- Decoding an encoded call, whatever follows it, gives the call, its port, its data and what follows.
-use Prim.Native.Nat.{ℕ, _+_, _≤_}
-use mathlib.Core.Path.{_≡_, refl, sym, ap, _∙_}
+use Prim.Native.Nat.{ℕ, _+_, _-_, _≤_}
+use mathlib.Core.Path.{_≡_, refl, sym, ap, _∙_, subst}
 use mathlib.Core.Bool.{Bool, true, false, cond, false≢true}
 use mathlib.Core.List.{List, [], _∷_, _++_, append-assoc}
+use mathlib.Core.Option.{Option, none, some}
 use native.Mathlib.Omega.{arith}
 use lib.Dec.{eqb}
 use lib.ListN.{length, drop, getD, replicate, length-append}
@@ -22,14 +23,15 @@ use Rattle.card.specs.declared.AllocOperands.{AllocOperands}
 use Rattle.card.specs.declared.DeleteOperands.{DeleteOperands}
 use Rattle.card.specs.declared.KeyOperands.{KeyOperands}
 use Rattle.card.specs.declared.Call.{Call}
-use Rattle.card.specs.declared.Call.the-variants.{Read, Write, Alloc, AllocContig, Create, Delete, DeleteTree, KeyRead, KeyWrite, Renew, Force, Free, Tick, Audit}
+use Rattle.card.specs.declared.Call.the-variants.{Read, Write, Alloc, AllocContig, Create, Delete, DeleteTree, KeyRead, KeyWrite, Renew, Force, Free, Tick, Audit, Rent}
 use Rattle.fields.specs.Bytes.{number, bytes, zeroed}
 use Rattle.fields.specs.BytesLaws.{length-bytes, number-bytes}
 use Rattle.kinds.specs.Kinds.{row, names, kindNumber, lengthOf, dataLength, operandsLength, takes, hasKind, among, kindOf}
+use Rattle.kinds.specs.KindsLaws.{parts}
 use Rattle.fields.specs.Fields.{credential, newKey}
-use Rattle.records.specs.Decode.{withCredential, createWith, keyWith, renewWith, decodeKey, decodeCall, nameOf, dataOf, sent, nextOf, decode}
+use Rattle.records.specs.Decode.{withCredential, createWith, keyWith, renewWith, decodeKey, decodeCall, nameOf, operandsOf, dataOf, sent, nextOf, decode}
 use Rattle.records.specs.DecodeLaws as laws
-use Rattle.records.specs.Encode.{credentialBytes, newKeyBytes, allocBody, deleteBody, keyBody, body, encode, Fits, FitsCredential, FitsNewKey, FitsAlloc, FitsDelete, FitsKey, FitsCall}
+use Rattle.records.specs.Encode.{credentialBytes, newKeyBytes, allocBody, deleteBody, keyBody, body, behindKind, encode, Fits, FitsCredential, FitsNewKey, FitsAlloc, FitsDelete, FitsKey, FitsCall}
 use Rattle.kinds.specs.declared.Name.{Name}
 use Rattle.kinds.specs.declared.Name.the-variants.{Read as READ, Write as WRITE, Alloc as ALLOC, Create as CREATE, Delete as DELETE, KeyRead as KEY-READ, Renew as RENEW, Force as FORCE, Free as FREE, Tick as TICK, Audit as AUDIT, AllocContig as ALLOC-CONTIG, KeyWrite as KEY-WRITE, DeleteTree as DELETE-TREE}
 use Rattle.kinds.specs.declared.Kind.{Kind}
@@ -108,7 +110,7 @@ byte-at n xs x ys t h = sym (getD-drop n xs 0 0) ∙ at (λ zs. getD zs 0 0) t (
 opened : (b : ℕ) (c : Credential) (ys : List ℕ) → Then 19 (bytes 2 b ++ (credentialBytes c ++ ys)) ys
 opened b c ys = then-more (then-bytes 2 b _) (then-credential c ys)
 
-behind : (call : Call) (ys : List ℕ) → Then (operandsLength (nameOf call)) (body call ys) ys
+behind : (call : Call) (ys : List ℕ) → Then (operandsOf call) (body call ys) ys
 unfolding operandsLength lengthOf dataLength row nameOf body
 behind (Read o) ys = then-more (opened _ _ _) (then-bytes 4 _ ys)
 behind (Write o) ys = then-more (opened _ _ _) (then-bytes 4 _ ys)
@@ -126,6 +128,7 @@ behind (Force o) ys = then-bytes 2 _ ys
 behind Free ys = record { skip = refl; long = omega arith }
 behind (Tick o) ys = then-bytes 8 _ ys
 behind Audit ys = record { skip = refl; long = omega arith }
+behind (Rent o) ys = record { skip = refl; long = omega arith }
 
 -- ---- each call
 
@@ -167,7 +170,12 @@ decoded-key port mode o ys h =
     (sym (at credential (then-bytes 2 (o .block) _) (credential-back (o .credential) _ (h .1 .0))))
     (sym (at newKey (opened (o .block) (o .credential) _) (newKey-back (o .key) ys (h .1 .1))))
 
-decoded : (port : Port) (call : Call) (ys : List ℕ) → FitsCall call → Decoded port call ≡ decodeCall port (nameOf call) (body call ys)
+-- The bytes are a body of the call, if it has a name.
+abbrev DecodedBy : Port → Call → List ℕ → Option Name → Type 0
+DecodedBy port call xs none = Unit {0}
+DecodedBy port call xs (some name) = Decoded port call ≡ decodeCall port name xs
+
+decoded : (port : Port) (call : Call) (ys : List ℕ) → FitsCall call → DecodedBy port call (body call ys) (nameOf call)
 unfolding FitsCall nameOf body withCredential createWith renewWith
 decoded port (Read o) ys h =
     laws.read port _
@@ -206,6 +214,7 @@ decoded port (Force o) ys h = laws.force port _ (sym (number-bytes 2 (o .block) 
 decoded port Free ys h = laws.free port ys
 decoded port (Tick o) ys h = laws.tick port _ (sym (number-bytes 8 (o .seconds) ys h))
 decoded port Audit ys h = laws.audit port ys
+decoded port (Rent o) ys h = tt
 
 -- ---- a record
 
@@ -261,24 +270,6 @@ known-kind Host Service t name e = absurd (false≢true t)
 known-kind Service Host t name e = among-found (kindNumber Host name) Host (names Host) _ (host-kind name)
 known-kind Service Service t name e = service-kind name e
 
--- A body is its operands, then its data.
-parts : (name : Name) → operandsLength name + dataLength name ≡ lengthOf name
-unfolding operandsLength lengthOf dataLength row
-parts READ = refl
-parts WRITE = refl
-parts ALLOC = refl
-parts CREATE = refl
-parts DELETE = refl
-parts KEY-READ = refl
-parts RENEW = refl
-parts FORCE = refl
-parts FREE = refl
-parts TICK = refl
-parts AUDIT = refl
-parts ALLOC-CONTIG = refl
-parts KEY-WRITE = refl
-parts DELETE-TREE = refl
-
 body-append : (call : Call) (ys zs : List ℕ) → body call ys ++ zs ≡ body call (ys ++ zs)
 unfolding body
 body-append (Read o) ys zs = simp append-assoc
@@ -295,23 +286,30 @@ body-append (Force o) ys zs = simp append-assoc
 body-append Free ys zs = refl
 body-append (Tick o) ys zs = simp append-assoc
 body-append Audit ys zs = refl
+body-append (Rent o) ys zs = refl
 
 module _
     (wire port : Port)
     (taken : takes wire port ≡ true)
     (call : Call)
+    (name : Name)
+    (named : nameOf call ≡ some name)
     (payload rest : List ℕ)
-    (has : hasKind port (nameOf call) ≡ true)
+    (has : hasKind port name ≡ true)
     (fits : FitsCall call)
-    (sized : length payload ≡ dataLength (nameOf call))
+    (sized : length payload ≡ dataLength name)
   where
-    all-of-it : Then (lengthOf (nameOf call)) (body call (payload ++ rest)) rest
-    all-of-it = rw parts at (then-more (behind call (payload ++ rest)) (then-list (dataLength (nameOf call)) payload rest sized))
+    operands : Then (operandsLength name) (body call (payload ++ rest)) (payload ++ rest)
+    operands = rw named at (behind call (payload ++ rest))
+
+    all-of-it : Then (lengthOf name) (body call (payload ++ rest)) rest
+    all-of-it = rw parts at (then-more operands (then-list (dataLength name) payload rest sized))
 
     pub round-trip : decode wire (encode port call payload ++ rest) ≡ sent port call payload rest
-    unfolding decode encode nextOf dataOf
+    unfolding decode encode behindKind nextOf dataOf
     round-trip =
         let xs = body call (payload ++ rest) in
-        let enough : lengthOf (nameOf call) ≤ length xs = omega (arith, all-of-it .long) in
-        let call-is = laws.whole wire (kindNumber port (nameOf call)) xs refl (known-kind wire port taken (nameOf call) has) refl enough (decoded port call (payload ++ rest) fits) in
-        rw (body-append, ← call-is, all-of-it .skip, behind call (payload ++ rest) .skip, take-at payload rest _ sized)
+        let enough : lengthOf name ≤ length xs = omega (arith, all-of-it .long) in
+        let by-name = subst (DecodedBy port call xs) named (decoded port call (payload ++ rest) fits) in
+        let call-is = laws.whole wire (kindNumber port name) xs refl (known-kind wire port taken name has) refl enough by-name in
+        rw (named, body-append, ← call-is, named, all-of-it .skip, operands .skip, take-at payload rest (lengthOf name - operandsLength name) (omega (arith, parts name)))

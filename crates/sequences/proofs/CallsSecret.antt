@@ -1,9 +1,8 @@
 -- Demand 3 of any sequence of C functions at the host port: calls by their operands, records one by one, and batches.
 use Prim.Native.Nat.{ℕ, _-_}
 use mathlib.Core.Path.{_≡_, refl, sym, ap, ap₂, _∙_, subst}
-use mathlib.Core.Bool.{Bool, true, false, cond, false≢true}
+use mathlib.Core.Bool.{Bool, true, false, cond}
 use mathlib.Core.List.{List, [], _∷_, _++_, map, map-append}
-use native.Mathlib.Omega.{arith}
 use lib.ListN.{length, take}
 use borrow.Author.Tests.{eqb-true}
 use Rattle.card.specs.Contents.{overwrite}
@@ -31,18 +30,19 @@ use Rattle.serving.specs.Serve.{lentSize, serve}
 use Rattle.serving.specs.Held.{requestsIn}
 use Rattle.serving.proofs.BytesSecret.{Told, told, batchAct, take-hosts, only}
 use Rattle.parameters.specs.Numbers.{numbersOf, recordOf, wireOf, callAt, atPort, decodeAt}
+use Rattle.parameters.specs.NumbersLaws.{numbers-record}
 use Rattle.parameters.specs.declared.Wire.{Wire}
 use Rattle.parameters.specs.declared.Wire.the-variants.{At}
-use Rattle.interface.specs.Functions.{Function, read, write, alloc, allocContig, create, delete, deleteTree, keyRead, keyWrite, renew, force, tick, free, audit, serve as serveRecord, Lending, lendingOf, functionPort}
+use Rattle.interface.specs.Functions.{Function, read, write, alloc, allocContig, create, delete, deleteTree, keyRead, keyWrite, renew, force, tick, free, audit, rent, serve as serveRecord, Lending, lendingOf, functionPort}
 use Rattle.interface.specs.Batch.{stopNumber}
-use Rattle.sequences.specs.Sequence.{Memory, cardOf, Step, calls, batches, Returned, fromCall, fromBatch, Called, isFive, sentOf, sentAt, callsOf, callsIn, byReply, callReturns, batchReturns, returnsOf, returnsIn, portNumber, AllAtHost, requestOf, requestsOf, requestsBy, keysBy}
+use Rattle.sequences.specs.Sequence.{Memory, cardOf, Step, calls, batches, Returned, fromCall, fromBatch, Called, isWhole, sentOf, sentAt, callsOf, callsIn, byReply, callReturns, batchReturns, returnsOf, returnsIn, portNumber, AllAtHost, requestOf, requestsOf, requestsBy, keysBy}
 use Rattle.sequences.proofs.CallsSafe.{CallsSafe, calls-safe}
 
 -- ---- the statement
 
 -- The calls of a sequence on the memory that a caller lends.
 abbrev pub callsMade : Memory → List Step → List Sent
-callsMade m steps = callsIn (isFive (m .info)) (cardOf m) steps
+callsMade m steps = callsIn (isWhole (m .info)) (cardOf m) steps
 
 -- From memory m to m' the sequence returned rs, and from n to n' it returned ss.
 pub record CallsSecret (steps : List Step) (m n : Memory) (rs ss : List Returned) (m' n' : Memory) : Type 0 where
@@ -96,26 +96,27 @@ at-host (force block) e = refl
 at-host (tick seconds value) e = refl
 at-host (free value) e = refl
 at-host audit e = refl
+at-host (rent price value) e = refl
 at-host (serveRecord port kind body out places value) e = at-wire port kind body e
 
 -- ---- a step as an act of a host
 
 -- An act that holds, makes and returns what the step does.
-record StepAct (bytes : ℕ) (five : Bool) (s : Step) : Type 0 where
+record StepAct (bytes : ℕ) (whole : Bool) (s : Step) : Type 0 where
   pub act : Act bytes Returned
   pub holds : act .held ≡ requestsOf bytes s
-  pub returns : (c : Card) → act .answer c ≡ returnsOf five c s
-  pub makes : (c : Card) → c .public .info .bytes ≡ bytes → hostSession (take (act .made c) (act .held)) ≡ callsOf five c s
+  pub returns : (c : Card) → act .answer c ≡ returnsOf whole c s
+  pub makes : (c : Card) → c .public .info .bytes ≡ bytes → hostSession (take (act .made c) (act .held)) ≡ callsOf whole c s
 
-module _ (bytes : ℕ) (five : Bool) where
+module _ (bytes : ℕ) (whole : Bool) where
   -- ---- one call
 
   module _ (l : Lending) where
     record CallAct (d : Decoding) : Type 0 where
       pub act : Act bytes Returned
       pub holds : act .held ≡ requestOf d l
-      pub returns : (c : Card) → act .answer c ≡ callReturns five c d l
-      pub makes : (c : Card) → hostSession (take (act .made c) (act .held)) ≡ cond five (sentOf d l) []
+      pub returns : (c : Card) → act .answer c ≡ callReturns whole c d l
+      pub makes : (c : Card) → hostSession (take (act .made c) (act .held)) ≡ cond whole (sentOf d l) []
 
     abbrev asked : Call → Request
     asked call = request call (l .input) (l .out) (l .places)
@@ -124,9 +125,9 @@ module _ (bytes : ℕ) (five : Bool) where
     unfolding replies callReturns
     one-act call = record {
       held = asked call ∷ [];
-      answer = λ c. callReturns five c (Decoded Host call) l;
-      made = λ c. cond five 1 0;
-      told = λ c d sc sd h. (ap (λ (r : Reply). cond five (byReply r (l .value)) (fromCall 1 (l .value) (l .out) (l .places))) (only h), refl);
+      answer = λ c. callReturns whole c (Decoded Host call) l;
+      made = λ c. cond whole 1 0;
+      told = λ c d sc sd h. (ap (λ (r : Reply). cond whole (byReply r (l .value)) (fromCall 1 (l .value) (l .out) (l .places))) (only h), refl);
     }
 
     one-made : (t : Bool) (port : Port) (call : Call) → port ≡ Host → hostSession (take (cond t 1 0) (asked call ∷ [])) ≡ cond t (record { port = port; request = asked call } ∷ []) []
@@ -142,17 +143,17 @@ module _ (bytes : ℕ) (five : Bool) where
     call-act (Decoded port call) h = record {
       act = one-act call;
       holds = refl;
-      returns = λ c. ap (λ (p : Port). callReturns five c (Decoded p call) l) (sym h);
-      makes = λ c. one-made five port call h;
+      returns = λ c. ap (λ (p : Port). callReturns whole c (Decoded p call) l) (sym h);
+      makes = λ c. one-made whole port call h;
     }
     call-act Bad h = record {
-      act = record { held = []; answer = λ c. callReturns five c Bad l; made = λ c. 0; told = λ c d sc sd e. (refl, refl) };
+      act = record { held = []; answer = λ c. callReturns whole c Bad l; made = λ c. 0; told = λ c d sc sd e. (refl, refl) };
       holds = refl;
       returns = λ c. refl;
-      makes = λ c. none-made five;
+      makes = λ c. none-made whole;
     }
 
-  call-step : (f : Function) → functionPort f ≡ 0 → StepAct bytes five (calls f)
+  call-step : (f : Function) → functionPort f ≡ 0 → StepAct bytes whole (calls f)
   unfolding requestsOf returnsOf callsOf
   call-step f e =
       let a : CallAct (lendingOf f) (lendingOf f .decoding) = call-act (lendingOf f) (lendingOf f .decoding) (at-host f e) in
@@ -165,17 +166,17 @@ module _ (bytes : ℕ) (five : Bool) where
     room = length answers
 
     abbrev byTold : Told → Returned
-    byTold t = cond five (fromBatch (stopNumber (t .stop)) (t .records) (length input - length (t .left)) (length (t .output)) (overwrite answers 0 (t .output))) (fromBatch 1 records taken written answers)
+    byTold t = cond whole (fromBatch (stopNumber (t .stop)) (t .records) (length input - length (t .left)) (length (t .output)) (overwrite answers 0 (t .output))) (fromBatch 1 records taken written answers)
 
     batch-act : Act bytes Returned
     unfolding batchAct batchReturns
     batch-act = record {
       held = requestsIn bytes input;
-      answer = λ c. batchReturns five c (At Host) input answers records taken written;
-      made = λ c. cond five (serve Host c input room .records) 0;
+      answer = λ c. batchReturns whole c (At Host) input answers records taken written;
+      made = λ c. cond whole (serve Host c input room .records) 0;
       told = λ c d sc sd h.
           let same : told (serve Host c input room) ≡ told (serve Host d input room) = batchAct bytes input room .told c d sc sd h .0 in
-          (ap byTold same, ap (λ (t : Told). cond five (t .records) 0) same);
+          (ap byTold same, ap (λ (t : Told). cond whole (t .records) 0) same);
     }
 
     batch-made : (t : Bool) (c : Card) → c .public .info .bytes ≡ bytes
@@ -188,18 +189,18 @@ module _ (bytes : ℕ) (five : Bool) where
         ∙ ap (λ (size : ℕ). take n (map (sentWith (lentSize size)) (arrivals Host input .records))) (sym sc)
     batch-made false c sc = refl
 
-    batch-step : (port : ℕ) → port ≡ 0 → StepAct bytes five (batches port input answers records taken written)
+    batch-step : (port : ℕ) → port ≡ 0 → StepAct bytes whole (batches port input answers records taken written)
     unfolding batch-act requestsOf returnsOf callsOf wireOf
     batch-step port e =
         let w : wireOf port ≡ At Host = rw e refl in
         record {
           act = batch-act;
           holds = refl;
-          returns = λ c. ap (λ (v : Wire). batchReturns five c v input answers records taken written) (sym w);
-          makes = λ c sc. batch-made five c sc ∙ ap (λ (v : Wire). cond five (sentAt v c input room) []) (sym w);
+          returns = λ c. ap (λ (v : Wire). batchReturns whole c v input answers records taken written) (sym w);
+          makes = λ c sc. batch-made whole c sc ∙ ap (λ (v : Wire). cond whole (sentAt v c input room) []) (sym w);
         }
 
-  step-act : (s : Step) → portNumber s ≡ 0 → StepAct bytes five s
+  step-act : (s : Step) → portNumber s ≡ 0 → StepAct bytes whole s
   step-act (calls f) e = call-step f e
   step-act (batches port input answers records taken written) e = batch-step input answers records taken written port e
 
@@ -208,14 +209,14 @@ module _ (bytes : ℕ) (five : Bool) where
   record SequenceActs (steps : List Step) : Type 0 where
     pub acts : List (Act bytes Returned)
     pub holds : heldBy acts ≡ requestsBy bytes steps
-    pub returns : (c : Card) → c .public .info .bytes ≡ bytes → answersBy c acts ≡ returnsIn five c steps
-    pub makes : (c : Card) → c .public .info .bytes ≡ bytes → hostSession (madeBy c acts) ≡ callsIn five c steps
+    pub returns : (c : Card) → c .public .info .bytes ≡ bytes → answersBy c acts ≡ returnsIn whole c steps
+    pub makes : (c : Card) → c .public .info .bytes ≡ bytes → hostSession (madeBy c acts) ≡ callsIn whole c steps
 
   sequence-acts : (steps : List Step) → AllAtHost steps → SequenceActs steps
   unfolding heldBy requestsBy answersBy returnsIn madeBy callsIn
   sequence-acts [] h = record { acts = []; holds = refl; returns = λ c sc. refl; makes = λ c sc. refl }
   sequence-acts (s ∷ steps) h =
-      let one : StepAct bytes five s = step-act s (h .0) in
+      let one : StepAct bytes whole s = step-act s (h .0) in
       let rest : SequenceActs steps = sequence-acts steps (h .1) in
       let first : Card → List Request = λ c. take (one .act .made c) (one .act .held) in
       let sized : (c : Card) → c .public .info .bytes ≡ bytes → afterAll c (hostSession (first c)) .public .info .bytes ≡ bytes = λ c sc. afterAll-bytes c (hostSession (first c)) ∙ sc in
@@ -224,24 +225,18 @@ module _ (bytes : ℕ) (five : Bool) where
         holds = ap₂ (λ (xs ys : List Request). xs ++ ys) (one .holds) (rest .holds);
         returns = λ c sc.
             ap₂ (λ (r : Returned) (rs : List Returned). r ∷ rs) (one .returns c)
-            (rest .returns (afterAll c (hostSession (first c))) (sized c sc) ∙ ap (λ (ss : List Sent). returnsIn five (afterAll c ss) steps) (one .makes c sc));
+            (rest .returns (afterAll c (hostSession (first c))) (sized c sc) ∙ ap (λ (ss : List Sent). returnsIn whole (afterAll c ss) steps) (one .makes c sc));
         makes = λ c sc.
             map-append sentByHost (first c) (madeBy (afterAll c (hostSession (first c))) (rest .acts))
             ∙ ap₂ (λ (xs ys : List Sent). xs ++ ys) (one .makes c sc)
-            (rest .makes (afterAll c (hostSession (first c))) (sized c sc) ∙ ap (λ (ss : List Sent). callsIn five (afterAll c ss) steps) (one .makes c sc));
+            (rest .makes (afterAll c (hostSession (first c))) (sized c sc) ∙ ap (λ (ss : List Sent). callsIn whole (afterAll c ss) steps) (one .makes c sc));
       }
 
 -- ---- the theorem
 
--- A record of five numbers is what its card says.
-five-numbers : (xs : List ℕ) → isFive xs ≡ true → xs ≡ numbersOf (recordOf xs)
-five-numbers (a ∷ b ∷ c ∷ d ∷ e ∷ []) h = refl
-five-numbers [] h = absurd (false≢true h)
-five-numbers (a ∷ []) h = absurd (false≢true h)
-five-numbers (a ∷ b ∷ []) h = absurd (false≢true h)
-five-numbers (a ∷ b ∷ c ∷ []) h = absurd (false≢true h)
-five-numbers (a ∷ b ∷ c ∷ d ∷ []) h = absurd (false≢true h)
-five-numbers (a ∷ b ∷ c ∷ d ∷ e ∷ f ∷ xs) h = let long : length (a ∷ b ∷ c ∷ d ∷ e ∷ f ∷ xs) ≡ 5 = eqb-true _ _ h in absurd (omega arith)
+-- A record that has its numbers is what its card says.
+whole-numbers : (xs : List ℕ) → isWhole xs ≡ true → xs ≡ numbersOf (recordOf xs)
+whole-numbers xs h = sym (numbers-record xs (eqb-true _ _ h))
 
 module _ {steps : List Step} {m n m' n' : Memory} {rs ss : List Returned} (atHost : AllAtHost steps)
     (runs : Called m steps rs m') (runsOther : Called n steps ss n')
@@ -256,8 +251,8 @@ module _ {steps : List Step} {m n m' n' : Memory} {rs ss : List Returned} (atHos
   abbrev K : ℕ → ℕ → Bool
   K = keysBy c steps
 
-  abbrev hasFive : Bool
-  hasFive = isFive (m .info)
+  abbrev isWholeBefore : Bool
+  isWholeBefore = isWhole (m .info)
 
   abbrev bytes : ℕ
   bytes = c .public .info .bytes
@@ -271,11 +266,11 @@ module _ {steps : List Step} {m n m' n' : Memory} {rs ss : List Returned} (atHos
   same-bytes : d .public .info .bytes ≡ bytes
   same-bytes = ap (λ (p : Public). p .info .bytes) (sym (same .samePublic))
 
-  same-five : isFive (n .info) ≡ hasFive
-  same-five = ap isFive (sym sameRecord)
+  same-whole : isWhole (n .info) ≡ isWholeBefore
+  same-whole = ap isWhole (sym sameRecord)
 
-  sequence : SequenceActs bytes hasFive steps
-  sequence = sequence-acts bytes hasFive steps atHost
+  sequence : SequenceActs bytes isWholeBefore steps
+  sequence = sequence-acts bytes isWholeBefore steps atHost
 
   has-keys : HasKeys K (heldBy (sequence .acts))
   unfolding keysBy
@@ -285,11 +280,11 @@ module _ {steps : List Step} {m n m' n' : Memory} {rs ss : List Returned} (atHos
   both = acts-secret K (sequence .acts) has-keys c d sc sd refl same
 
   -- The same calls are made on both.
-  same-calls : callsIn hasFive d steps ≡ callsMade m steps
+  same-calls : callsIn isWholeBefore d steps ≡ callsMade m steps
   same-calls = sym (sequence .makes d same-bytes) ∙ ap hostSession (sym (both .made)) ∙ sequence .makes c refl
 
   other-calls : callsMade n steps ≡ callsMade m steps
-  other-calls = ap (λ (t : Bool). callsIn t d steps) same-five ∙ same-calls
+  other-calls = ap (λ (t : Bool). callsIn t d steps) same-whole ∙ same-calls
 
   secret : Secret K (callsMade m steps) c d
   secret = subst (λ (made : List Sent). Secret K made c d) (sequence .makes c refl) (both .secret)
@@ -302,12 +297,12 @@ module _ {steps : List Step} {m n m' n' : Memory} {rs ss : List Returned} (atHos
       subst (λ (x : Card). EqualBut (HiddenOrStillFree K c x) x (cardOf n')) (sym (left-safe .leaves))
       (subst (λ (y : Card). EqualBut (HiddenOrStillFree K c (afterAll c (callsMade m steps))) (afterAll c (callsMade m steps)) y) (sym after-other) (secret .cards))
 
-  same-info : (t : Bool) → hasFive ≡ t → m' .info ≡ n' .info
+  same-info : (t : Bool) → isWholeBefore ≡ t → m' .info ≡ n' .info
   same-info true e =
-      five-numbers (m' .info) (left-safe .five ∙ e)
+      whole-numbers (m' .info) (left-safe .whole ∙ e)
       ∙ ap (λ (p : Public). numbersOf (p .info)) (same-cards .samePublic)
-      ∙ sym (five-numbers (n' .info) (right-safe .five ∙ same-five ∙ e))
-  same-info false e = left-safe .notFive e ∙ sameRecord ∙ sym (right-safe .notFive (same-five ∙ e))
+      ∙ sym (whole-numbers (n' .info) (right-safe .whole ∙ same-whole ∙ e))
+  same-info false e = left-safe .notWhole e ∙ sameRecord ∙ sym (right-safe .notWhole (same-whole ∙ e))
 
   all-alike : CallsSecret steps m n rs ss m' n'
   all-alike = record {
@@ -316,9 +311,9 @@ module _ {steps : List Step} {m n m' n' : Memory} {rs ss : List Returned} (atHos
         ∙ sym (sequence .returns c refl)
         ∙ both .answers
         ∙ sequence .returns d same-bytes
-        ∙ ap (λ (t : Bool). returnsIn t d steps) (sym same-five)
+        ∙ ap (λ (t : Bool). returnsIn t d steps) (sym same-whole)
         ∙ sym (right-safe .returns);
-    sameInfo = same-info hasFive refl;
+    sameInfo = same-info isWholeBefore refl;
     cards = same-cards;
     kept = λ b h f. ap (λ (x : Card). block x b) (left-safe .leaves) ∙ secret .kept b h f;
     keptOnOther = λ b h f. ap (λ (x : Card). block x b) after-other ∙ secret .keptOnOther b h (ap (λ (made : List Sent). lastTaken d made b) (sym other-calls) ∙ f);

@@ -28,7 +28,7 @@ use Rattle.parameters.specs.declared.Wire.the-variants.{At}
 use Rattle.adapter.specs.Effects.{effect}
 use Rattle.interface.specs.Functions.{tick}
 use Rattle.interface.specs.Batch.{BatchIs}
-use Rattle.sequences.specs.Sequence.{Memory, cardOf, Step, calls, batches, Returned, fromCall, fromBatch, stateOf, Called, none, called, batched, isFive, sentOf, sentAt, callsOf, callsIn, callReturns, batchReturns, returnsOf, returnsIn, portNumber, AllAtHost, requestOf, requestsOf, requestsBy, keysBy}
+use Rattle.sequences.specs.Sequence.{Memory, cardOf, Step, calls, batches, Returned, fromCall, fromBatch, stateOf, Called, none, called, batched, isWhole, sentOf, sentAt, callsOf, callsIn, callReturns, batchReturns, returnsOf, returnsIn, portNumber, AllAtHost, requestOf, requestsOf, requestsBy, keysBy}
 use Rattle.sequences.proofs.CallsSafe.{CallsSafe, calls-safe}
 use Rattle.sequences.proofs.CallsSecret.{calls-secret}
 
@@ -42,8 +42,8 @@ returnedNumbers (fromBatch number records read written answers ∷ rs) = (number
 
 abbrev pub callsSafeTest : Memory → List Step → List Returned → Memory → Bool
 callsSafeTest m steps rs n =
-    sameLists (returnedNumbers rs) (returnedNumbers (returnsIn (isFive (m .info)) (cardOf m) steps))
-    && sameLists (cardNumbers (cardOf n)) (cardNumbers (afterAll (cardOf m) (callsIn (isFive (m .info)) (cardOf m) steps)))
+    sameLists (returnedNumbers rs) (returnedNumbers (returnsIn (isWhole (m .info)) (cardOf m) steps))
+    && sameLists (cardNumbers (cardOf n)) (cardNumbers (afterAll (cardOf m) (callsIn (isWhole (m .info)) (cardOf m) steps)))
 
 pub calls-safe-tested : {m n : Memory} {steps : List Step} {rs : List Returned} → Called m steps rs n → callsSafeTest m steps rs n ≡ true
 calls-safe-tested {m} {n} {steps} {rs} runs =
@@ -84,10 +84,10 @@ unfoldable computing : Unit {0}
 unfolding batching wireOf effect BatchIs sentOf sentAt callsOf callsIn callReturns batchReturns returnsOf returnsIn requestOf requestsOf requestsBy keysBy
 computing = tt
 
--- The tables of a card, with a record of so many pointers at a second.
+-- The tables of a card, with a record of so many pointers at a second and a total of 0.
 abbrev memoryOf : ℕ → ℕ → Card → Memory
 memoryOf used time c = record {
-  info = 16 ∷ 1 ∷ 512 ∷ used ∷ time ∷ [];
+  info = 16 ∷ 1 ∷ 512 ∷ used ∷ time ∷ 0 ∷ [];
   flags = c .public .flags;
   keys = c .keys;
   counts = c .public .counts;

@@ -68,9 +68,9 @@ without-result d = record { does = d; gives = refl }
 
 -- ---- the calls of a sequence, and what it returns, by the rules
 
--- The record has its five numbers; no function makes a call where it has not.
-abbrev pub isFive : List ℕ → Bool
-isFive info = eqb (length info) recordLength
+-- The record has its numbers; no function makes a call where it has not.
+abbrev pub isWhole : List ℕ → Bool
+isWhole info = eqb (length info) recordLength
 
 -- The call that a function makes of its operands, if they hold one, with what is lent with it.
 unfoldable pub sentOf : Decoding → Lending → List Sent
@@ -83,40 +83,40 @@ sentAt (At wire) c input room = take (serve wire c input room .records) (map (se
 sentAt Nowhere c input room = []
 
 unfoldable pub callsOf : Bool → Card → Step → List Sent
-callsOf five c (calls f) = cond five (sentOf (lendingOf f .decoding) (lendingOf f)) []
-callsOf five c (batches port input answers records read written) = cond five (sentAt (wireOf port) c input (length answers)) []
+callsOf whole c (calls f) = cond whole (sentOf (lendingOf f .decoding) (lendingOf f)) []
+callsOf whole c (batches port input answers records read written) = cond whole (sentAt (wireOf port) c input (length answers)) []
 
 -- All calls of a sequence, in order, each step on the card that those before it left.
 unfoldable pub callsIn : Bool → Card → List Step → List Sent
-callsIn five c [] = []
-callsIn five c (s ∷ steps) = callsOf five c s ++ callsIn five (afterAll c (callsOf five c s)) steps
+callsIn whole c [] = []
+callsIn whole c (s ∷ steps) = callsOf whole c s ++ callsIn whole (afterAll c (callsOf whole c s)) steps
 
 -- What a function returns, by the reply of the rules; or 13 where there is no call, and 1 where the record has not its numbers.
 abbrev pub byReply : Reply → ℕ → Returned
 byReply r value = fromCall (answerNumber (r .answer)) (valueAfter (r .answer) value) (r .out) (r .places)
 
 unfoldable pub callReturns : Bool → Card → Decoding → Lending → Returned
-callReturns five c (Decoded port call) l =
-    cond five (byReply (reply (perform port c (request call (l .input) (l .out) (l .places)))) (l .value)) (fromCall 1 (l .value) (l .out) (l .places))
-callReturns five c Bad l = fromCall 13 (l .value) (l .out) (l .places)
+callReturns whole c (Decoded port call) l =
+    cond whole (byReply (reply (perform port c (request call (l .input) (l .out) (l .places)))) (l .value)) (fromCall 1 (l .value) (l .out) (l .places))
+callReturns whole c Bad l = fromCall 13 (l .value) (l .out) (l .places)
 
 -- What a batch returns, by what the rule makes of its bytes; or 13 at no port, and 1 where the record has not its numbers.
 abbrev pub byPlay : Play → List ℕ → List ℕ → Returned
 byPlay p input answers = fromBatch (stopNumber (p .stop)) (p .records) (length input - length (p .left)) (length (p .output)) (overwrite answers 0 (p .output))
 
 unfoldable pub batchReturns : Bool → Card → Wire → List ℕ → List ℕ → ℕ → ℕ → ℕ → Returned
-batchReturns five c (At wire) input answers records read written =
-    cond five (byPlay (serve wire c input (length answers)) input answers) (fromBatch 1 records read written answers)
-batchReturns five c Nowhere input answers records read written = fromBatch 13 records read written answers
+batchReturns whole c (At wire) input answers records read written =
+    cond whole (byPlay (serve wire c input (length answers)) input answers) (fromBatch 1 records read written answers)
+batchReturns whole c Nowhere input answers records read written = fromBatch 13 records read written answers
 
 unfoldable pub returnsOf : Bool → Card → Step → Returned
-returnsOf five c (calls f) = callReturns five c (lendingOf f .decoding) (lendingOf f)
-returnsOf five c (batches port input answers records read written) = batchReturns five c (wireOf port) input answers records read written
+returnsOf whole c (calls f) = callReturns whole c (lendingOf f .decoding) (lendingOf f)
+returnsOf whole c (batches port input answers records read written) = batchReturns whole c (wireOf port) input answers records read written
 
 -- What each step returns, on the card that those before it left.
 unfoldable pub returnsIn : Bool → Card → List Step → List Returned
-returnsIn five c [] = []
-returnsIn five c (s ∷ steps) = returnsOf five c s ∷ returnsIn five (afterAll c (callsOf five c s)) steps
+returnsIn whole c [] = []
+returnsIn whole c (s ∷ steps) = returnsOf whole c s ∷ returnsIn whole (afterAll c (callsOf whole c s)) steps
 
 -- ---- at the host port
 

@@ -1,1 +1,2 @@
 pub mod Ticked
+pub mod Rounding

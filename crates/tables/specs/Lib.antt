@@ -7,5 +7,7 @@ pub mod InUseLaws
 pub mod PlaceLaws
 pub mod Free
 pub mod FreeLaws
+pub mod Rented
+pub mod RentedLaws
 pub mod Merge
 pub mod MergeLaws

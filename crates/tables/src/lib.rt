@@ -11,6 +11,7 @@ ghost use Rattle.card.specs.Plan.{withUsed, withTime};
 ghost use Rattle.card.specs.Calls.{freshInfo};
 ghost use Rattle.tables.specs.Rank.{rank};
 ghost use Rattle.tables.specs.Free.{unallocatedBelow};
+ghost use Rattle.tables.specs.Rented.{rentedBelow};
 ghost use Rattle.tables.specs.Places.{removeAt, raisedAt, PutAt, TakenAt};
 ghost use Rattle.tables.specs.Merge.{MergedIn};
 ghost use Rattle.tables.specs.InUse.{Sorted, Addable, Mergeable, Raisable, Lowerable, Paired};
@@ -27,12 +28,13 @@ pub fn with_used(info: Info, used: usize) -> Info
         bytes: info.bytes,
         used,
         time: info.time,
+        total: info.total,
     }
 }
 
-// Another time.
-pub fn with_time(info: Info, time: u64) -> Info
-    ensures { λ r. ⌜ r ≡ withTime info time ⌝ }
+// Another time, and the total that goes with it.
+pub fn with_time(info: Info, time: u64, total: u64) -> Info
+    ensures { λ r. ⌜ r ≡ withTime info time total ⌝ }
 {
     Info {
         blocks: info.blocks,
@@ -40,6 +42,7 @@ pub fn with_time(info: Info, time: u64) -> Info
         bytes: info.bytes,
         used: info.used,
         time,
+        total,
     }
 }
 
@@ -53,6 +56,7 @@ pub fn fresh(blocks: usize, roots: usize, bytes: usize) -> Info
         bytes,
         used: 0,
         time: 0,
+        total: 0,
     }
 }
 
@@ -96,6 +100,21 @@ pub fn count_free(flags: &[u8]) -> usize
         block += 1;
     }
     free
+}
+
+// The number of allocated blocks that are no roots.
+pub fn count_rented(roots: usize, flags: &[u8]) -> usize
+    ensures { λ r. ⌜ r ≡ length (rentedBelow roots (now (flags .entry)) (length (now (flags .entry)))) ⌝ }
+{
+    let mut rented: usize = 0;
+    let mut block = roots;
+    while block < flags.len() {
+        if flags::allocated(flags[block]) {
+            rented += 1;
+        }
+        block += 1;
+    }
+    rented
 }
 
 // ---- pointers: the first `used` places of the table, ascending

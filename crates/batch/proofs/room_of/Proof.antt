@@ -8,7 +8,7 @@ use denote.Enum.Declared.{tagOf}
 use borrow.Author.Needs.{needs}
 use Rattle.card.proofs.Call.{the-type}
 use Rattle.card.specs.declared.Call.{Call}
-use Rattle.card.specs.declared.Call.the-variants.{Read, Write, Alloc, AllocContig, Create, Delete, DeleteTree, KeyRead, KeyWrite, Renew, Force, Free, Tick, Audit}
+use Rattle.card.specs.declared.Call.the-variants.{Read, Write, Alloc, AllocContig, Create, Delete, DeleteTree, KeyRead, KeyWrite, Renew, Force, Free, Tick, Audit, Rent}
 use Rattle.serving.specs.Serve.{answerRoom}
 use Rattle.batch.proofs.AnswerBytesLaws.{lent-most, room-read}
 use Rattle.batch.proofs.room_of.Statement.{statement}
@@ -34,6 +34,7 @@ room-other size (Force o) h = refl
 room-other size Free h = absurd (miss callsWithoutResults 11 tt h)
 room-other size (Tick o) h = absurd (miss callsWithoutResults 12 tt h)
 room-other size Audit h = refl
+room-other size (Rent o) h = absurd (miss callsWithoutResults 14 tt h)
 
 enum-told : tie.Need-enum-told
 enum-told c = search needs
@@ -64,6 +65,9 @@ enum-told-6 c = search needs
 enum-told-7 : tie.Need-enum-told-7
 enum-told-7 c = search needs
 
+enum-told-8 : tie.Need-enum-told-8
+enum-told-8 c = search needs
+
 returns : tie.Need-returns
 returns c = search room-read
 
@@ -92,7 +96,11 @@ unfolding answerRoom
 returns-7 c = search needs
 
 returns-8 : tie.Need-returns-8
-returns-8 c = search room-other
+unfolding answerRoom
+returns-8 c = search needs
+
+returns-9 : tie.Need-returns-9
+returns-9 c = search room-other
 
 pub room-of-spec : {M : Type 1} → statement M
 room-of-spec =
@@ -107,6 +115,7 @@ room-of-spec =
     enum-told-5
     enum-told-6
     enum-told-7
+    enum-told-8
     returns
     returns-2
     returns-3
@@ -114,4 +123,5 @@ room-of-spec =
     returns-5
     returns-6
     returns-7
-    returns-8)
+    returns-8
+    returns-9)

@@ -1,5 +1,5 @@
--- One row for each mistake in the rules that a must-fail edit makes: the mistake turns it from true to false, and so its theorem. And rows by which what a
--- theorem excepts is seen to happen.
+-- One row for each mistake in the rules that a must-fail edit makes: a test of the theorem (Tests.antt) at a given card and given calls. Each is true by its
+-- theorem; with the mistake it computes to false, and so the theorem is false. And rows by which what a theorem excepts is seen to happen.
 use Prim.Native.Nat.{ℕ, _-_}
 use mathlib.Core.Path.{_≡_, refl}
 use mathlib.Core.Bool.{Bool, true, false, _&&_}
@@ -14,9 +14,10 @@ use Rattle.card.specs.Plan.{withUsed, withTime}
 use Rattle.card.specs.Calls.{freshInfo, format}
 use Rattle.card.specs.Lists.{sumBelow}
 use Rattle.card.specs.Ledger.{made, taken, madeInAll, takenInAll}
+use Rattle.card.specs.RentAdded.{added, addedInAll}
 use Rattle.card.specs.Session.{Request, Sent, performed, refusals, portOf, replies, afterAll, traits}
 use Rattle.card.specs.Reach.{shows, someShows, presents, presented, keyPresented, sealed, isOne, takesLast, lastTaken}
-use Rattle.card.specs.Trials.{rules, blankCard, playerCard, lending, send, key, read, writeAll, alloc, create, delete, deleteTree, free, trialTable, trialReports}
+use Rattle.card.specs.Trials.{rules, blankCard, playerCard, lending, send, key, read, writeAll, alloc, create, delete, deleteTree, free, tick, trialTable, trialReports, rentedFor, rentTable, rentReports}
 use Rattle.card.specs.declared.Port.the-variants.{Host, Service}
 use Rattle.card.specs.declared.Mode.{Mode}
 use Rattle.card.specs.declared.Mode.the-variants.{Reading, Writing}
@@ -32,11 +33,11 @@ use Rattle.card.proofs.Guarantees.Windows.{byRead, byWrite, byRenew}
 use Rattle.card.proofs.Secrecy.Bounds.{bounds}
 use Rattle.card.proofs.Secrecy.Example.{hosted}
 use Rattle.card.proofs.Computed.Same.{sameList, sameLists, replyNumbers, allLines}
-use Rattle.card.proofs.Computed.Tests.{refusalUnchangedTest, portsAlikeTest, doneSoundTest, countsRightTest, pointersAscendingTest, formatSoundTest, untouchedTest, firstNumber, refusedIffTest, noneHold, madeAndTakenTest, ledgerTest, countsLedgerTest, runFoundTest, runAdjoinsTest, runNearestTest, treeLeastTest, treeSparesTest, treeCycleTest, treeKeyedTest, treeHidesTest, oneKeyUnsealedTest, otherKeyKeptTest, ownKeySetTest, bothWindowsClosedTest, writeAccessNeededTest, windowSetByTest, windowLaterTest, intervalZeroKeptTest, isSound, endsSooner, windowsKeptTest, withContents, sameHiddenTest, secrecyTest, trialsTest}
+use Rattle.card.proofs.Computed.Tests.{refusalUnchangedTest, portsAlikeTest, doneSoundTest, countsRightTest, pointersAscendingTest, formatSoundTest, untouchedTest, firstNumber, refusedIffTest, noneHold, madeAndTakenTest, ledgerTest, countsLedgerTest, runFoundTest, runAdjoinsTest, runNearestTest, treeLeastTest, treeSparesTest, treeCycleTest, treeKeyedTest, treeHidesTest, oneKeyUnsealedTest, otherKeyKeptTest, ownKeySetTest, bothWindowsClosedTest, writeAccessNeededTest, windowSetByTest, windowLaterTest, intervalZeroKeptTest, isSound, endsSooner, windowsKeptTest, withContents, sameHiddenTest, secrecyTest, rentSummedTest, rentUnchangedTest, rentNearestTest, rentAlikeTest, trialsTest, rentTrialsTest}
 
 -- To compute a row, its proof unfolds this one name. A wrong rule makes use of `orElse`.
 unfoldable pub computing : Unit {0}
-unfolding orElse rules playerCard refusals portOf replies afterAll sumBelow made taken madeInAll takenInAll traits shows someShows presents presented keyPresented sealed isOne takesLast lastTaken trialTable trialReports bounds sameList sameLists replyNumbers allLines firstNumber noneHold
+unfolding orElse rules playerCard refusals portOf replies afterAll sumBelow made taken madeInAll takenInAll added addedInAll traits shows someShows presents presented keyPresented sealed isOne takesLast lastTaken trialTable trialReports rentTable rentReports bounds sameList sameLists replyNumbers allLines firstNumber noneHold
 computing = tt
 
 -- ---- cards, drawn by hand: no rule has made them
@@ -49,7 +50,7 @@ drawn used flags keys counts pointers contents =
 -- A card at this second, with these windows.
 abbrev timed : Card → ℕ → List ℕ → Card
 timed c time windows =
-    card (withTime (c .public .info) time) (c .public .flags) (c .keys) (c .public .counts) (c .public .pointers) (c .public .multiplicities) windows (c .contents)
+    card (withTime (c .public .info) time (c .public .info .total)) (c .public .flags) (c .keys) (c .public .counts) (c .public .pointers) (c .public .multiplicities) windows (c .contents)
 
 -- The root points to blocks 1 and 2.
 abbrev twoBelow : Card
@@ -149,170 +150,134 @@ atMostOne b = leb b 1
 
 -- ---- refusal-unchanged
 
-pub refused-read-empties-its-buffer : refusalUnchangedTest playerCard (read Host 5 Nothing 0) ≡ true
-unfolding computing
-refused-read-empties-its-buffer = refl
+abbrev refused-read-empties-its-buffer : Bool
+refused-read-empties-its-buffer = refusalUnchangedTest playerCard (read Host 5 Nothing 0)
 
-pub delete-answers-a-refusal-and-deletes : refusalUnchangedTest twoBelow (delete Service 0 1) ≡ true
-unfolding computing
-delete-answers-a-refusal-and-deletes = refl
+abbrev delete-answers-a-refusal-and-deletes : Bool
+delete-answers-a-refusal-and-deletes = refusalUnchangedTest twoBelow (delete Service 0 1)
 
-pub tree-deleted-before-fifteen-is-judged : refusalUnchangedTest (keyed (zeros 8192)) (deleteTree Service 0 1) ≡ true
-unfolding computing
-tree-deleted-before-fifteen-is-judged = refl
+abbrev tree-deleted-before-fifteen-is-judged : Bool
+tree-deleted-before-fifteen-is-judged = refusalUnchangedTest (keyed (zeros 8192)) (deleteTree Service 0 1)
 
 -- ---- ports-alike
 
-pub service-free-answers-nothing : portsAlikeTest playerCard Free (lending []) ≡ true
-unfolding computing
-service-free-answers-nothing = refl
+abbrev service-free-answers-nothing : Bool
+service-free-answers-nothing = portsAlikeTest playerCard Free (lending [])
 
-pub service-tick-stands-still : portsAlikeTest playerCard (Tick (record { seconds = 5 })) (lending []) ≡ true
-unfolding computing
-service-tick-stands-still = refl
+abbrev service-tick-stands-still : Bool
+service-tick-stands-still = portsAlikeTest playerCard (Tick (record { seconds = 5 })) (lending [])
 
 -- ---- done-sound
 
-pub freed-block-keeps-its-keys : doneSoundTest (keyed (zeros 8192)) (delete Service 0 1) ≡ true
-unfolding computing
-freed-block-keeps-its-keys = refl
+abbrev freed-block-keeps-its-keys : Bool
+freed-block-keeps-its-keys = doneSoundTest (keyed (zeros 8192)) (delete Service 0 1)
 
-pub root-pointed-to-at-the-service-port : doneSoundTest twoBelow (create Service 1 Nothing 0 Nothing) ≡ true
-unfolding computing
-root-pointed-to-at-the-service-port = refl
+abbrev root-pointed-to-at-the-service-port : Bool
+root-pointed-to-at-the-service-port = doneSoundTest twoBelow (create Service 1 Nothing 0 Nothing)
 
-pub no-seven-at-the-highest-multiplicity : doneSoundTest (often 65535) (create Service 0 Nothing 2 Nothing) ≡ true
-unfolding computing
-no-seven-at-the-highest-multiplicity = refl
+abbrev no-seven-at-the-highest-multiplicity : Bool
+no-seven-at-the-highest-multiplicity = doneSoundTest (often 65535) (create Service 0 Nothing 2 Nothing)
 
-pub multiplicity-left-behind-the-pointers : doneSoundTest twoBelow (delete Service 0 2) ≡ true
-unfolding computing
-multiplicity-left-behind-the-pointers = refl
+abbrev multiplicity-left-behind-the-pointers : Bool
+multiplicity-left-behind-the-pointers = doneSoundTest twoBelow (delete Service 0 2)
 
 -- ---- counts-right
 
-pub dropped-pointer-still-counted : countsRightTest twice (delete Service 1 2) ≡ true
-unfolding computing
-dropped-pointer-still-counted = refl
+abbrev dropped-pointer-still-counted : Bool
+dropped-pointer-still-counted = countsRightTest twice (delete Service 1 2)
 
-pub created-pointer-counted-at-its-source : countsRightTest twoBelow (create Service 1 Nothing 2 Nothing) ≡ true
-unfolding computing
-created-pointer-counted-at-its-source = refl
+abbrev created-pointer-counted-at-its-source : Bool
+created-pointer-counted-at-its-source = countsRightTest twoBelow (create Service 1 Nothing 2 Nothing)
 
-pub pointer-counted-once-whatever-its-multiplicity : countsRightTest twoBelow (create Service 0 Nothing 1 Nothing) ≡ true
-unfolding computing
-pointer-counted-once-whatever-its-multiplicity = refl
+abbrev pointer-counted-once-whatever-its-multiplicity : Bool
+pointer-counted-once-whatever-its-multiplicity = countsRightTest twoBelow (create Service 0 Nothing 1 Nothing)
 
 -- ---- made-and-taken, ledger and counts-ledger
 
-pub existing-pointer-not-raised : madeAndTakenTest twoBelow (create Service 0 Nothing 1 Nothing) 0 1 ≡ true
-unfolding computing
-existing-pointer-not-raised = refl
+abbrev existing-pointer-not-raised : Bool
+existing-pointer-not-raised = madeAndTakenTest twoBelow (create Service 0 Nothing 1 Nothing) 0 1
 
-pub delete-takes-the-pointer-whole : madeAndTakenTest (often 2) (delete Service 0 2) 0 2 ≡ true
-unfolding computing
-delete-takes-the-pointer-whole = refl
+abbrev delete-takes-the-pointer-whole : Bool
+delete-takes-the-pointer-whole = madeAndTakenTest (often 2) (delete Service 0 2) 0 2
 
-pub allotted-block-pointed-to-twice : ledgerTest playerCard (alloc Service 0 65535 1 ∷ []) 0 1 ≡ true
-unfolding computing
-allotted-block-pointed-to-twice = refl
+abbrev allotted-block-pointed-to-twice : Bool
+allotted-block-pointed-to-twice = ledgerTest playerCard (alloc Service 0 65535 1 ∷ []) 0 1
 
-pub multiplicities-not-shifted : ledgerTest (often 2) (alloc Service 0 65535 1 ∷ delete Service 0 2 ∷ []) 0 2 ≡ true
-unfolding computing
-multiplicities-not-shifted = refl
+abbrev multiplicities-not-shifted : Bool
+multiplicities-not-shifted = ledgerTest (often 2) (alloc Service 0 65535 1 ∷ delete Service 0 2 ∷ []) 0 2
 
-pub removed-pointer-taken-once : madeAndTakenTest (often 2) (deleteTree Service 0 2) 0 2 ≡ true
-unfolding computing
-removed-pointer-taken-once = refl
+abbrev removed-pointer-taken-once : Bool
+removed-pointer-taken-once = madeAndTakenTest (often 2) (deleteTree Service 0 2) 0 2
 
-pub raised-pointer-counted-twice : countsLedgerTest twoBelow (create Service 0 Nothing 1 Nothing ∷ []) 1 ≡ true
-unfolding computing
-raised-pointer-counted-twice = refl
+abbrev raised-pointer-counted-twice : Bool
+raised-pointer-counted-twice = countsLedgerTest twoBelow (create Service 0 Nothing 1 Nothing ∷ []) 1
 
-pub lowered-pointer-still-counted : countsLedgerTest (often 2) (delete Service 0 2 ∷ []) 2 ≡ true
-unfolding computing
-lowered-pointer-still-counted = refl
+abbrev lowered-pointer-still-counted : Bool
+lowered-pointer-still-counted = countsLedgerTest (often 2) (delete Service 0 2 ∷ []) 2
 
 -- ---- pointers-ascending
 
-pub dropped-pointer-leaves-a-one : pointersAscendingTest twoBelow (delete Service 0 2) ≡ true
-unfolding computing
-dropped-pointer-leaves-a-one = refl
+abbrev dropped-pointer-leaves-a-one : Bool
+dropped-pointer-leaves-a-one = pointersAscendingTest twoBelow (delete Service 0 2)
 
-pub created-pointer-put-last : pointersAscendingTest chain (create Service 0 Nothing 2 Nothing) ≡ true
-unfolding computing
-created-pointer-put-last = refl
+abbrev created-pointer-put-last : Bool
+created-pointer-put-last = pointersAscendingTest chain (create Service 0 Nothing 2 Nothing)
 
 -- ---- format-sound
 
-pub format-leaves-the-pointers : formatSoundTest 16 1 512 twoBelow ≡ true
-unfolding computing
-format-leaves-the-pointers = refl
+abbrev format-leaves-the-pointers : Bool
+format-leaves-the-pointers = formatSoundTest 16 1 512 twoBelow
 
-pub format-leaves-the-multiplicities : formatSoundTest 16 1 512 twoBelow ≡ true
-unfolding computing
-format-leaves-the-multiplicities = refl
+abbrev format-leaves-the-multiplicities : Bool
+format-leaves-the-multiplicities = formatSoundTest 16 1 512 twoBelow
 
-pub format-leaves-the-windows : formatSoundTest 16 1 512 opened ≡ true
-unfolding computing
-format-leaves-the-windows = refl
+abbrev format-leaves-the-windows : Bool
+format-leaves-the-windows = formatSoundTest 16 1 512 opened
 
 -- ---- untouched
 
-pub unallocated-block-written : untouchedTest playerCard (writeAll Service 5 Nothing 0 7) 5 ≡ true
-unfolding computing
-unallocated-block-written = refl
+abbrev unallocated-block-written : Bool
+unallocated-block-written = untouchedTest playerCard (writeAll Service 5 Nothing 0 7) 5
 
-pub reused-block-unzeroed : untouchedTest (withContents playerCard (replicate 8192 7)) (alloc Service 0 65535 1) 1 ≡ true
-unfolding computing
-reused-block-unzeroed = refl
+abbrev reused-block-unzeroed : Bool
+reused-block-unzeroed = untouchedTest (withContents playerCard (replicate 8192 7)) (alloc Service 0 65535 1) 1
 
 -- ---- refused-iff
 
-pub done-though-refused : refusedIffTest blankCard free ≡ true
-unfolding computing
-done-though-refused = refl
+abbrev done-though-refused : Bool
+done-though-refused = refusedIffTest blankCard free
 
-pub last-refusal-answered : refusedIffTest playerCard (read Host 5 Nothing 86401) ≡ true
-unfolding computing
-last-refusal-answered = refl
+abbrev last-refusal-answered : Bool
+last-refusal-answered = refusedIffTest playerCard (read Host 5 Nothing 86401)
 
 -- ---- run-found, run-adjoins and run-nearest: a run below the root, by its hint and count
 
 abbrev below0 : ℕ → ℕ → AllocOperands
 below0 hint count = record { reference = 0; credential = Nothing; hint = hint; count = count }
 
-pub run-in-the-first-stretch-alone : runFoundTest Service gapped (below0 65535 3) (lending []) ≡ true
-unfolding computing
-run-in-the-first-stretch-alone = refl
+abbrev run-in-the-first-stretch-alone : Bool
+run-in-the-first-stretch-alone = runFoundTest Service gapped (below0 65535 3) (lending [])
 
-pub fourteen-before-ten : runFoundTest Service playerCard (below0 65535 16) (lending []) ≡ true
-unfolding computing
-fourteen-before-ten = refl
+abbrev fourteen-before-ten : Bool
+fourteen-before-ten = runFoundTest Service playerCard (below0 65535 16) (lending [])
 
-pub eleven-before-fourteen : runFoundTest Service (apart 0) (below0 65535 5) (lending []) ≡ true
-unfolding computing
-eleven-before-fourteen = refl
+abbrev eleven-before-fourteen : Bool
+eleven-before-fourteen = runFoundTest Service (apart 0) (below0 65535 5) (lending [])
 
-pub allocated-block-in-the-middle : runAdjoinsTest Service gapped (below0 65535 3) (lending []) ≡ true
-unfolding computing
-allocated-block-in-the-middle = refl
+abbrev allocated-block-in-the-middle : Bool
+allocated-block-in-the-middle = runAdjoinsTest Service gapped (below0 65535 3) (lending [])
 
-pub run-past-the-last-block : runAdjoinsTest Service playerCard (below0 15 2) (lending []) ≡ true
-unfolding computing
-run-past-the-last-block = refl
+abbrev run-past-the-last-block : Bool
+run-past-the-last-block = runAdjoinsTest Service playerCard (below0 15 2) (lending [])
 
-pub run-given-descending : runAdjoinsTest Service playerCard (below0 8 3) (lending []) ≡ true
-unfolding computing
-run-given-descending = refl
+abbrev run-given-descending : Bool
+run-given-descending = runAdjoinsTest Service playerCard (below0 8 3) (lending [])
 
-pub nearest-block-for-the-first : runNearestTest Service (apart 24) (below0 9 3) (lending []) 12 ≡ true
-unfolding computing
-nearest-block-for-the-first = refl
+abbrev nearest-block-for-the-first : Bool
+nearest-block-for-the-first = runNearestTest Service (apart 24) (below0 9 3) (lending []) 12
 
-pub hint-passed-over : runNearestTest Service playerCard (below0 8 3) (lending []) 8 ≡ true
-unfolding computing
-hint-passed-over = refl
+abbrev hint-passed-over : Bool
+hint-passed-over = runNearestTest Service playerCard (below0 8 3) (lending []) 8
 
 -- ---- tree-least, tree-spares, tree-cycle and tree-keyed: a pointer removed, by its ends, and with it a tree
 
@@ -322,49 +287,38 @@ treeOf a b = record { source = a; credential = Nothing; destination = b }
 abbrev noRoot : ℕ → Bool
 noRoot b = ltb 0 b
 
-pub one-generation-only : treeLeastTest Service chain (treeOf 0 1) (lending []) noRoot ≡ true
-unfolding computing
-one-generation-only = refl
+abbrev one-generation-only : Bool
+one-generation-only = treeLeastTest Service chain (treeOf 0 1) (lending []) noRoot
 
-pub two-rounds-too-few : treeLeastTest Service path (treeOf 0 1) (lending []) noRoot ≡ true
-unfolding computing
-two-rounds-too-few = refl
+abbrev two-rounds-too-few : Bool
+two-rounds-too-few = treeLeastTest Service path (treeOf 0 1) (lending []) noRoot
 
-pub pointer-from-outside-overlooked : treeLeastTest Service twice (treeOf 0 1) (lending []) (λ b. eqb b 1) ≡ true
-unfolding computing
-pointer-from-outside-overlooked = refl
+abbrev pointer-from-outside-overlooked : Bool
+pointer-from-outside-overlooked = treeLeastTest Service twice (treeOf 0 1) (lending []) (λ b. eqb b 1)
 
-pub root-freed-with-its-tree : treeLeastTest Service chain (treeOf 0 1) (lending []) noRoot ≡ true
-unfolding computing
-root-freed-with-its-tree = refl
+abbrev root-freed-with-its-tree : Bool
+root-freed-with-its-tree = treeLeastTest Service chain (treeOf 0 1) (lending []) noRoot
 
-pub counts-left-with-freed-sources : treeSparesTest Service twice (treeOf 0 1) (lending []) ≡ true
-unfolding computing
-counts-left-with-freed-sources = refl
+abbrev counts-left-with-freed-sources : Bool
+counts-left-with-freed-sources = treeSparesTest Service twice (treeOf 0 1) (lending [])
 
-pub freed-blocks-keep-their-pointers : treeSparesTest Service twice (treeOf 0 1) (lending []) ≡ true
-unfolding computing
-freed-blocks-keep-their-pointers = refl
+abbrev freed-blocks-keep-their-pointers : Bool
+freed-blocks-keep-their-pointers = treeSparesTest Service twice (treeOf 0 1) (lending [])
 
-pub multiplicities-left-in-their-places : treeSparesTest Service shared (treeOf 0 1) (lending []) ≡ true
-unfolding computing
-multiplicities-left-in-their-places = refl
+abbrev multiplicities-left-in-their-places : Bool
+multiplicities-left-in-their-places = treeSparesTest Service shared (treeOf 0 1) (lending [])
 
-pub greatest-set-freed : treeCycleTest Service cycle (treeOf 0 1) (lending []) noRoot ≡ true
-unfolding computing
-greatest-set-freed = refl
+abbrev greatest-set-freed : Bool
+greatest-set-freed = treeCycleTest Service cycle (treeOf 0 1) (lending []) noRoot
 
-pub destination-freed-though-pointed-to : treeCycleTest Service cycle (treeOf 0 1) (lending []) noRoot ≡ true
-unfolding computing
-destination-freed-though-pointed-to = refl
+abbrev destination-freed-though-pointed-to : Bool
+destination-freed-though-pointed-to = treeCycleTest Service cycle (treeOf 0 1) (lending []) noRoot
 
-pub fifteen-judged-on-read-keys : treeKeyedTest Service writeKeyed (treeOf 0 1) (lending []) ≡ true
-unfolding computing
-fifteen-judged-on-read-keys = refl
+abbrev fifteen-judged-on-read-keys : Bool
+fifteen-judged-on-read-keys = treeKeyedTest Service writeKeyed (treeOf 0 1) (lending [])
 
-pub fifteen-judged-on-the-destination-alone : treeKeyedTest Service chainKeyed (treeOf 0 1) (lending []) ≡ true
-unfolding computing
-fifteen-judged-on-the-destination-alone = refl
+abbrev fifteen-judged-on-the-destination-alone : Bool
+fifteen-judged-on-the-destination-alone = treeKeyedTest Service chainKeyed (treeOf 0 1) (lending [])
 
 -- ---- tree-hides
 
@@ -376,23 +330,19 @@ belowOpen =
 abbrev treeFrom1 : Credential → DeleteOperands
 treeFrom1 credential = record { source = 1; credential = credential; destination = 2 }
 
-pub fifteen-never-judged : treeHidesTest nested (treeFrom1 (KeyCredential 3 4)) (lending []) atMostOne ≡ true
-unfolding computing
-fifteen-never-judged = refl
+abbrev fifteen-never-judged : Bool
+fifteen-never-judged = treeHidesTest nested (treeFrom1 (KeyCredential 3 4)) (lending []) atMostOne
 
-pub fifteen-judged-on-the-source : treeHidesTest belowOpen (treeFrom1 (Reference 0)) (lending []) atMostOne ≡ true
-unfolding computing
-fifteen-judged-on-the-source = refl
+abbrev fifteen-judged-on-the-source : Bool
+fifteen-judged-on-the-source = treeHidesTest belowOpen (treeFrom1 (Reference 0)) (lending []) atMostOne
 
 -- ---- one-key-unsealed
 
-pub sealed-by-one-key : oneKeyUnsealedTest (λ high low. false) readKeyed Reading 1 ≡ true
-unfolding computing
-sealed-by-one-key = refl
+abbrev sealed-by-one-key : Bool
+sealed-by-one-key = oneKeyUnsealedTest (λ high low. false) readKeyed Reading 1
 
-pub sealed-by-the-write-key : oneKeyUnsealedTest (λ high low. false) writeKeyed Writing 1 ≡ true
-unfolding computing
-sealed-by-the-write-key = refl
+abbrev sealed-by-the-write-key : Bool
+sealed-by-the-write-key = oneKeyUnsealedTest (λ high low. false) writeKeyed Writing 1
 
 -- ---- other-key-kept, own-key-set, both-windows-closed and write-access-needed: a key of block 1, by its credential and the new key
 
@@ -403,47 +353,37 @@ of1 credential key = record { block = 1; credential = credential; key = key }
 abbrev keyedOpen : Card
 keyedOpen = timed (keyed (zeros 8192)) 0 (0 ∷ 0 ∷ 10 ∷ 10 ∷ zeros 28)
 
-pub write-key-cleared-with-the-read-key : otherKeyKeptTest Service (keyed (zeros 8192)) Reading (of1 Nothing (Present 5 6)) (lending []) ≡ true
-unfolding computing
-write-key-cleared-with-the-read-key = refl
+abbrev write-key-cleared-with-the-read-key : Bool
+write-key-cleared-with-the-read-key = otherKeyKeptTest Service (keyed (zeros 8192)) Reading (of1 Nothing (Present 5 6)) (lending [])
 
-pub flag-of-the-other-key-cleared : otherKeyKeptTest Service (keyed (zeros 8192)) Reading (of1 Nothing (Present 5 6)) (lending []) ≡ true
-unfolding computing
-flag-of-the-other-key-cleared = refl
+abbrev flag-of-the-other-key-cleared : Bool
+flag-of-the-other-key-cleared = otherKeyKeptTest Service (keyed (zeros 8192)) Reading (of1 Nothing (Present 5 6)) (lending [])
 
-pub absent-key-flagged : ownKeySetTest Service (keyed (zeros 8192)) Writing (of1 Nothing Absent) (lending []) ≡ true
-unfolding computing
-absent-key-flagged = refl
+abbrev absent-key-flagged : Bool
+absent-key-flagged = ownKeySetTest Service (keyed (zeros 8192)) Writing (of1 Nothing Absent) (lending [])
 
-pub low-word-set-first : ownKeySetTest Service twoBelow Writing (of1 Nothing (Present 3 4)) (lending []) ≡ true
-unfolding computing
-low-word-set-first = refl
+abbrev low-word-set-first : Bool
+low-word-set-first = ownKeySetTest Service twoBelow Writing (of1 Nothing (Present 3 4)) (lending [])
 
-pub window-of-its-own-mode-closed : bothWindowsClosedTest Host keyedOpen Writing (of1 (KeyCredential 3 4) (Present 3 4)) (lending []) ≡ true
-unfolding computing
-window-of-its-own-mode-closed = refl
+abbrev window-of-its-own-mode-closed : Bool
+window-of-its-own-mode-closed = bothWindowsClosedTest Host keyedOpen Writing (of1 (KeyCredential 3 4) (Present 3 4)) (lending [])
 
-pub windows-left-by-an-absent-key : bothWindowsClosedTest Service keyedOpen Reading (of1 Nothing Absent) (lending []) ≡ true
-unfolding computing
-windows-left-by-an-absent-key = refl
+abbrev windows-left-by-an-absent-key : Bool
+windows-left-by-an-absent-key = bothWindowsClosedTest Service keyedOpen Reading (of1 Nothing Absent) (lending [])
 
-pub old-read-key-sets-a-new-one : writeAccessNeededTest (keyed (zeros 8192)) Reading (of1 (KeyCredential 1 2) (Present 5 6)) (lending []) ≡ true
-unfolding computing
-old-read-key-sets-a-new-one = refl
+abbrev old-read-key-sets-a-new-one : Bool
+old-read-key-sets-a-new-one = writeAccessNeededTest (keyed (zeros 8192)) Reading (of1 (KeyCredential 1 2) (Present 5 6)) (lending [])
 
-pub key-taken-away-without-access : writeAccessNeededTest twoBelow Writing (of1 Nothing Absent) (lending []) ≡ true
-unfolding computing
-key-taken-away-without-access = refl
+abbrev key-taken-away-without-access : Bool
+key-taken-away-without-access = writeAccessNeededTest twoBelow Writing (of1 Nothing Absent) (lending [])
 
 -- ---- window-set-by
 
-pub window-set-by-a-refused-read : windowSetByTest twoBelow (read Host 1 Nothing 10) Reading 1 ≡ true
-unfolding computing
-window-set-by-a-refused-read = refl
+abbrev window-set-by-a-refused-read : Bool
+window-set-by-a-refused-read = windowSetByTest twoBelow (read Host 1 Nothing 10) Reading 1
 
-pub service-read-opens-a-window : windowSetByTest playerCard (read Service 0 Nothing 10) Reading 0 ≡ true
-unfolding computing
-service-read-opens-a-window = refl
+abbrev service-read-opens-a-window : Bool
+service-read-opens-a-window = windowSetByTest playerCard (read Service 0 Nothing 10) Reading 0
 
 -- ---- window-later, interval-zero-kept and windows-kept: the root with both keys, at second 20, its windows with these ends
 
@@ -456,37 +396,29 @@ force b = send Host (Force (record { block = b }))
 abbrev renewReading : ℕ → Sent
 renewReading interval = send Host (Renew (record { mode = 0; block = 0; high = 1; low = 2; interval = interval }))
 
-pub interval-counted-from-the-end : windowLaterTest (at20 30 0) (read Host 0 (KeyCredential 1 2) 15) (byRead _) ≡ true
-unfolding computing
-interval-counted-from-the-end = refl
+abbrev interval-counted-from-the-end : Bool
+interval-counted-from-the-end = windowLaterTest (at20 30 0) (read Host 0 (KeyCredential 1 2) 15) (byRead _)
 
-pub renew-leaves-an-open-window : windowLaterTest (at20 30 0) (renewReading 15) (byRenew _) ≡ true
-unfolding computing
-renew-leaves-an-open-window = refl
+abbrev renew-leaves-an-open-window : Bool
+renew-leaves-an-open-window = windowLaterTest (at20 30 0) (renewReading 15) (byRenew _)
 
-pub later-end-by-interval-0 : intervalZeroKeptTest (at20 10 0) (read Host 0 (KeyCredential 1 2) 0) (byRead _) ≡ true
-unfolding computing
-later-end-by-interval-0 = refl
+abbrev later-end-by-interval-0 : Bool
+later-end-by-interval-0 = intervalZeroKeptTest (at20 10 0) (read Host 0 (KeyCredential 1 2) 0) (byRead _)
 
-pub interval-0-closes : intervalZeroKeptTest (at20 0 30) (writeAll Host 0 (KeyCredential 3 4) 0 7) (byWrite _) ≡ true
-unfolding computing
-interval-0-closes = refl
+abbrev interval-0-closes : Bool
+interval-0-closes = intervalZeroKeptTest (at20 0 30) (writeAll Host 0 (KeyCredential 3 4) 0 7) (byWrite _)
 
-pub renew-cuts : windowsKeptTest (at20 30 0) (renewReading 5) Reading 0 ≡ true
-unfolding computing
-renew-cuts = refl
+abbrev renew-cuts : Bool
+renew-cuts = windowsKeptTest (at20 30 0) (renewReading 5) Reading 0
 
-pub interval-of-5-cuts : windowsKeptTest (at20 30 0) (read Host 0 (KeyCredential 1 2) 5) Reading 0 ≡ true
-unfolding computing
-interval-of-5-cuts = refl
+abbrev interval-of-5-cuts : Bool
+interval-of-5-cuts = windowsKeptTest (at20 30 0) (read Host 0 (KeyCredential 1 2) 5) Reading 0
 
-pub write-compares-with-the-read-window : windowsKeptTest (at20 30 60) (writeAll Host 0 (KeyCredential 3 4) 5 7) Writing 0 ≡ true
-unfolding computing
-write-compares-with-the-read-window = refl
+abbrev write-compares-with-the-read-window : Bool
+write-compares-with-the-read-window = windowsKeptTest (at20 30 60) (writeAll Host 0 (KeyCredential 3 4) 5 7) Writing 0
 
-pub force-shuts-another-block : windowsKeptTest keyedOpen (force 0) Reading 1 ≡ true
-unfolding computing
-force-shuts-another-block = refl
+abbrev force-shuts-another-block : Bool
+force-shuts-another-block = windowsKeptTest keyedOpen (force 0) Reading 1
 
 -- What `windows-kept` excepts happens: on a sound card FORCE, either key change, freeing and FORMAT each let a window end sooner.
 abbrev shortens : Card → Card → Mode → ℕ → Bool
@@ -514,41 +446,92 @@ format-shortens = refl
 
 -- ---- same-hidden
 
-pub reach-looks-at-contents : sameHiddenTest (λ high low. eqb high 9 && eqb low 2) (keyed (replicate 8192 9)) (zeros 8192) (λ b. eqb b 0) Reading 1 ≡ true
-unfolding computing
-reach-looks-at-contents = refl
+abbrev reach-looks-at-contents : Bool
+reach-looks-at-contents = sameHiddenTest (λ high low. eqb high 9 && eqb low 2) (keyed (replicate 8192 9)) (zeros 8192) (λ b. eqb b 0) Reading 1
 
 -- Without a key presented a root with both keys is sealed, whatever it holds.
-pub sealed-by-its-contents : sameHiddenTest (λ high low. false) (keyedRoot (replicate 8192 9)) (zeros 8192) (λ b. false) Reading 0 ≡ true
-unfolding computing
-sealed-by-its-contents = refl
+abbrev sealed-by-its-contents : Bool
+sealed-by-its-contents = sameHiddenTest (λ high low. false) (keyedRoot (replicate 8192 9)) (zeros 8192) (λ b. false) Reading 0
 
 -- ---- secrecy
 
-pub any-key-opens : secrecyTest nested (below 6) atMostOne (reads 2 (KeyCredential 5 0) 0 ∷ []) ≡ true
-unfolding computing
-any-key-opens = refl
+abbrev any-key-opens : Bool
+any-key-opens = secrecyTest nested (below 6) atMostOne (reads 2 (KeyCredential 5 0) 0 ∷ [])
 
-pub reference-stands-in-for-a-key : secrecyTest nested (below 6) atMostOne (reads 1 (KeyCredential 1 2) 10 ∷ reads 2 (Reference 1) 0 ∷ []) ≡ true
-unfolding computing
-reference-stands-in-for-a-key = refl
+abbrev reference-stands-in-for-a-key : Bool
+reference-stands-in-for-a-key = secrecyTest nested (below 6) atMostOne (reads 1 (KeyCredential 1 2) 10 ∷ reads 2 (Reference 1) 0 ∷ [])
 
-pub closed-parent-opens-its-children : secrecyTest nested (below 6) atMostOne (reads 3 (Reference 2) 0 ∷ []) ≡ true
-unfolding computing
-closed-parent-opens-its-children = refl
+abbrev closed-parent-opens-its-children : Bool
+closed-parent-opens-its-children = secrecyTest nested (below 6) atMostOne (reads 3 (Reference 2) 0 ∷ [])
 
-pub renew-presents-no-key : secrecyTest nested (below 6) atMostOne (hosted (Renew (record { mode = 0; block = 2; high = 5; low = 6; interval = 10 })) ∷ reads 3 (Reference 2) 0 ∷ []) ≡ true
-unfolding computing
-renew-presents-no-key = refl
+abbrev renew-presents-no-key : Bool
+renew-presents-no-key = secrecyTest nested (below 6) atMostOne (hosted (Renew (record { mode = 0; block = 2; high = 5; low = 6; interval = 10 })) ∷ reads 3 (Reference 2) 0 ∷ [])
 
-pub last-pointer-to-the-source : secrecyTest nested (below 6) atMostOne (hosted (Delete (record { source = 1; credential = KeyCredential 3 4; destination = 4 })) ∷ hosted (Alloc (record { reference = 1; credential = KeyCredential 3 4; hint = 4; count = 1 })) ∷ []) ≡ true
-unfolding computing
-last-pointer-to-the-source = refl
+abbrev last-pointer-to-the-source : Bool
+last-pointer-to-the-source = secrecyTest nested (below 6) atMostOne (hosted (Delete (record { source = 1; credential = KeyCredential 3 4; destination = 4 })) ∷ hosted (Alloc (record { reference = 1; credential = KeyCredential 3 4; hint = 4; count = 1 })) ∷ [])
 
--- ---- trials
+-- ---- rent-summed, rent-unchanged, rent-nearest and rent-alike
 
--- All rows of the table in one: window_open_at_its_end, root_counted_as_free, destination_tested_for_reading, write_window_serves_reading,
--- eleven_on_an_existing_pointer and nine_judged_on_places.
-pub trials-computed : trialsTest trialTable ≡ true
+abbrev rent-left-to-the-next-tick : Bool
+rent-left-to-the-next-tick = rentSummedTest twoBelow (tick 5 ∷ [])
+
+abbrev rent-replaces-the-total : Bool
+rent-replaces-the-total = rentSummedTest twoBelow (tick 5 ∷ tick 7 ∷ [])
+
+abbrev rent-paid-by-asking : Bool
+rent-paid-by-asking = rentUnchangedTest (rentedFor 86400 43200) (record { price = 1000 })
+
+abbrev second-passes-by-asking : Bool
+second-passes-by-asking = rentUnchangedTest (rentedFor 86400 43200) (record { price = 1000 })
+
+abbrev half-a-cent-downward : Bool
+half-a-cent-downward = rentNearestTest (rentedFor 86400 43200) (record { price = 1000 }) 1
+
+abbrev every-fraction-upward : Bool
+every-fraction-upward = rentNearestTest (rentedFor 86400 43199) (record { price = 1000 }) 0
+
+-- Four blocks for so long that another thousandth of a cent is seen.
+abbrev ticks : List Request
+ticks = hosted (Tick (record { seconds = 100000000 })) ∷ []
+
+abbrev price-read-from-contents : Bool
+price-read-from-contents = rentAlikeTest nested (below 6) atMostOne ticks (record { price = 1000 })
+
+abbrev seconds-read-from-contents : Bool
+seconds-read-from-contents = rentAlikeTest nested (below 6) atMostOne ticks (record { price = 1000 })
+
+-- ---- trials and rent-trials: a row of each table, by its place
+
+abbrev root-counted-as-free : Bool
+root-counted-as-free = trialsTest 0
+
+abbrev window-open-at-its-end : Bool
+window-open-at-its-end = trialsTest 7
+
+abbrev destination-tested-for-reading : Bool
+destination-tested-for-reading = trialsTest 13
+
+abbrev write-window-serves-reading : Bool
+write-window-serves-reading = trialsTest 15
+
+abbrev nine-judged-on-places : Bool
+nine-judged-on-places = trialsTest 22
+
+abbrev eleven-on-an-existing-pointer : Bool
+eleven-on-an-existing-pointer = trialsTest 24
+
+abbrev rent-for-the-roots : Bool
+rent-for-the-roots = trialsTest 31
+
+abbrev highest-price-refused : Bool
+highest-price-refused = rentTrialsTest 5
+
+abbrev total-compared-with-the-blocks-of-the-card : Bool
+total-compared-with-the-blocks-of-the-card = rentTrialsTest 7
+
+-- ---- the row of an edit
+
+-- An edit puts its row here, and false for what it computes to.
+pub shown : true ≡ true
 unfolding computing
-trials-computed = refl
+shown = refl

@@ -50,7 +50,7 @@ true-sameLists {xs} e = subst (λ (zs : List (List ℕ)). sameLists xs zs ≡ tr
 -- A card's record and its seven tables.
 abbrev pub cardNumbers : Card → List (List ℕ)
 cardNumbers c =
-    (c .public .info .blocks ∷ c .public .info .roots ∷ c .public .info .bytes ∷ c .public .info .used ∷ c .public .info .time ∷ [])
+    (c .public .info .blocks ∷ c .public .info .roots ∷ c .public .info .bytes ∷ c .public .info .used ∷ c .public .info .time ∷ c .public .info .total ∷ [])
     ∷ c .public .flags
     ∷ c .keys
     ∷ c .public .counts

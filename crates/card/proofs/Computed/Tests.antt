@@ -1,6 +1,6 @@
 -- For each theorem about the rules a test: what it says of given cards and calls, or a part of it, as a value that can be computed.
 -- Each test is shown to hold of everything by its theorem. So where a test is false, its theorem is false.
-use Prim.Native.Nat.{ℕ, _+_, _<_, max}
+use Prim.Native.Nat.{ℕ, zero, suc, _+_, _*_, _<_, max}
 use mathlib.Core.Path.{_≡_, refl, sym, ap, _∙_, subst}
 use mathlib.Core.Logic.{_⊎_, inl, inr, ⊎-elim}
 use mathlib.Core.Bool.{Bool, true, false, _&&_, _||_, not, cond}
@@ -25,10 +25,11 @@ use Rattle.card.specs.ChangesLaws.{other-mode}
 use Rattle.card.specs.Calls.{refusalNumber, answerNumber, answerValues, isDone, format, noHint, distance, isRun, freedWith}
 use Rattle.card.specs.RunsLaws.{run-blocks, blocks-run}
 use Rattle.card.specs.Ledger.{made as madeBy, taken as takenBy, madeInAll, takenInAll}
+use Rattle.card.specs.RentAdded.{addedInAll}
 use Rattle.card.specs.Session.{Request, Sent, portOf, EitherPort, refusals, perform, performed, reply, replies, afterAll, hostSession}
 use Rattle.card.specs.SessionLaws.{ports-alike}
 use Rattle.card.specs.Reach.{presents, presented, keyPresented, sealed, Reach, unsealedRoot, byKey, Hidden, lastTaken}
-use Rattle.card.specs.Trials.{Trial, trialTable, trialReports, trials}
+use Rattle.card.specs.Trials.{trialTable, trialReports, trials, lending, rentTable, rentReports, rentExpected, rent-trials}
 use Rattle.card.specs.declared.Port.{Port}
 use Rattle.card.specs.declared.Port.the-variants.{Host, Service}
 use Rattle.card.specs.declared.Mode.{Mode}
@@ -39,16 +40,18 @@ use Rattle.card.specs.declared.NewKey.{NewKey}
 use Rattle.card.specs.declared.Refusal.{Refusal}
 use Rattle.card.specs.declared.Answer.{Answer}
 use Rattle.card.specs.declared.Answer.the-variants.{Refused, Done, Value}
-use Rattle.card.specs.declared.Refusal.the-variants.{Misshapen, Unsound, NotAllocated, BadOperand, NotOpened, IsRoot, CannotPoint, NoPointer, HasPointers, TooFewBlocks, TooFewPlaces, TimeEnds, BadRecord, NoRun, HasWriteKey}
+use Rattle.card.specs.declared.Refusal.the-variants.{Misshapen, Unsound, NotAllocated, BadOperand, NotOpened, IsRoot, CannotPoint, NoPointer, HasPointers, TooFewBlocks, TooFewPlaces, TimeEnds, BadRecord, NoRun, HasWriteKey, PriceTooHigh}
 use Rattle.card.specs.declared.Call.{Call}
-use Rattle.card.specs.declared.Call.the-variants.{Read, Write, Alloc, AllocContig, Create, Delete, DeleteTree, KeyRead, KeyWrite, Renew, Force, Free, Tick, Audit}
+use Rattle.card.specs.declared.Call.the-variants.{Read, Write, Alloc, AllocContig, Create, Delete, DeleteTree, KeyRead, KeyWrite, Renew, Force, Free, Tick, Audit, Rent}
 use Rattle.card.specs.declared.AllocOperands.{AllocOperands}
 use Rattle.card.specs.declared.DeleteOperands.{DeleteOperands}
+use Rattle.card.specs.declared.RentOperands.{RentOperands}
 use Rattle.card.specs.declared.KeyOperands.{KeyOperands}
 use Rattle.card.proofs.Guarantees.Judged.{RefusedBy}
 use Rattle.card.proofs.Guarantees.Unchanged.{Unchanged, refusal-unchanged}
 use Rattle.card.proofs.Guarantees.KeepsSound.{done-sound, counts-right, pointers-ascending}
 use Rattle.card.proofs.Guarantees.Ledger.{made-and-taken, ledger, counts-ledger}
+use Rattle.card.proofs.Guarantees.Rent.{rent-summed, renting, rent-unchanged, rent-nearest}
 use Rattle.card.proofs.Guarantees.Format.{format-sound}
 use Rattle.card.proofs.Guarantees.Untouched.{LeftAlone, AllottedZeroed, untouched}
 use Rattle.card.proofs.Guarantees.RefusedIff.{RefusedIff, refused-iff}
@@ -60,6 +63,7 @@ use Rattle.card.proofs.Guarantees.Keys.{setting, WriteAccess, byWriteKe
 use Rattle.card.proofs.Guarantees.Windows.{SetsWindow, SetBy, Shortens, byForce, byKeyRead, byKeyWrite, byFreeing, window-set-by, window-later, interval-zero-kept, windows-kept}
 use Rattle.card.proofs.Secrecy.Theorem.{EqualBut, HiddenOrFree, Secret, same-hidden, secrecy}
 use Rattle.card.proofs.Secrecy.Trees.{Survives, tree-hides}
+use Rattle.card.proofs.Secrecy.Rent.{asked, rent-alike}
 use Rattle.card.proofs.Secrecy.Bounds.{bounds, reach-inside}
 use Rattle.card.proofs.Computed.Same.{sameList, sameList-true, true-sameList, sameLists, true-sameLists, cardNumbers, replyNumbers, allLines}
 
@@ -184,6 +188,42 @@ counts-ledger-tested c ss b =
     true-implies (isSound c && ltb b (c .public .info .blocks)) _
     (λ h. eq-eqb _ _ (counts-ledger c ss (isSound-true (and-left _ _ h)) b (ltb-true _ _ (and-right (isSound c) _ h))))
 
+-- ---- rent-summed, rent-unchanged and rent-nearest
+
+abbrev pub rentSummedTest : Card → List Sent → Bool
+rentSummedTest c ss = eqb (afterAll c ss .public .info .total) (c .public .info .total + addedInAll c ss)
+
+pub rent-summed-tested : (c : Card) (ss : List Sent) → rentSummedTest c ss ≡ true
+rent-summed-tested c ss = eq-eqb _ _ (rent-summed c ss)
+
+abbrev pub rentUnchangedTest : Card → RentOperands → Bool
+rentUnchangedTest c o = sameLists (cardNumbers (perform Host c (renting o (lending [])) .after)) (cardNumbers c)
+
+pub rent-unchanged-tested : (c : Card) (o : RentOperands) → rentUnchangedTest c o ≡ true
+rent-unchanged-tested c o = true-sameLists (ap cardNumbers (rent-unchanged Host c o (lending []) .after))
+
+-- No other number is nearer than the one that is answered, and of two as near it is the upper one.
+abbrev nearestOf : ℕ → ℕ → Answer → Bool
+nearestOf parts other (Refused r) = true
+nearestOf parts other Done = true
+nearestOf parts other (Value v) =
+    let far = distance (v * 86400000) parts in
+    let away = distance (other * 86400000) parts in
+    leb far away && implies (eqb away far) (leb other v)
+
+abbrev pub rentNearestTest : Card → RentOperands → ℕ → Bool
+rentNearestTest c o other = nearestOf (c .public .info .total * o .price) other (asked Host c o (lending []))
+
+pub rent-nearest-tested : (c : Card) (o : RentOperands) (other : ℕ) → rentNearestTest c o other ≡ true
+rent-nearest-tested c o other = go (asked Host c o (lending [])) refl
+  where
+    go : (a : Answer) → asked Host c o (lending []) ≡ a → nearestOf (c .public .info .total * o .price) other a ≡ true
+    go (Refused r) e = refl
+    go Done e = refl
+    go (Value v) e =
+        let n = rent-nearest Host c o (lending []) v e in
+        and-true _ _ (le-leb _ _ (n .near other)) (true-implies _ _ (λ h. le-leb _ _ (n .upper other (eqb-true _ _ h))))
+
 -- ---- untouched
 
 abbrev pub untouchedTest : Card → Sent → ℕ → Bool
@@ -296,6 +336,7 @@ refusal-14 TimeEnds e = absurd (omega (arith, e))
 refusal-14 BadRecord e = absurd (omega (arith, e))
 refusal-14 NoRun e = refl
 refusal-14 HasWriteKey e = absurd (omega (arith, e))
+refusal-14 PriceTooHigh e = absurd (omega (arith, e))
 
 answer-14 : (a : Answer) → answerNumber a ≡ 14 → a ≡ Refused NoRun
 answer-14 (Refused r) e = ap Refused (refusal-14 r e)
@@ -848,6 +889,7 @@ closesBlock (Force o) b = eqb (o .block) b
 closesBlock Free b = false
 closesBlock (Tick o) b = false
 closesBlock Audit b = false
+closesBlock (Rent o) b = false
 
 abbrev pub endsSooner : Card → Card → Mode → ℕ → Bool
 endsSooner c d m b = ltb (windowEnd (d .public) m b) (windowEnd (c .public) m b)
@@ -976,10 +1018,49 @@ secrecy-tested c contents named session =
     and-true _ _ (true-sameLists (ap replyNumbers (secret c contents named session h .answers)))
     (true-allBelow (keeps c contents named session) _ (λ b l. kept-all c contents named session h b)))
 
+-- ---- rent-alike
+
+-- On two such cards: equal totals after the session, and RENT answers the same.
+module _ (c : Card) (contents : List ℕ) (named : ℕ → Bool) (session : List Request) (o : RentOperands) where
+  abbrev left : Card → Card
+  left d = afterAll d (hostSession session)
+
+  abbrev numbersAsked : Card → List ℕ
+  numbersAsked d = answerNumber (asked Host d o (lending [])) ∷ answerValues (asked Host d o (lending []))
+
+  abbrev pub rentAlikeTest : Bool
+  rentAlikeTest =
+      implies (comparable (presented session) c contents named)
+      (eqb (left c .public .info .total) (left (withContents c contents) .public .info .total)
+      && sameList (numbersAsked (left c)) (numbersAsked (left (withContents c contents))))
+
+pub rent-alike-tested : (c : Card) (contents : List ℕ) (named : ℕ → Bool) (session : List Request) (o : RentOperands) → rentAlikeTest c contents named session o ≡ true
+rent-alike-tested c contents named session o =
+    true-implies (comparable (presented session) c contents named) _
+    (λ h.
+    let s = both-sound (presented session) c contents named h in
+    let alike = rent-alike session c (withContents c contents) (s .0) (s .1) (equal-else (presented session) c contents named h) in
+    and-true _ _ (eq-eqb _ _ (alike .totals)) (true-sameList (ap (λ (a : Answer). answerNumber a ∷ answerValues a) (alike .cents Host o (lending [])))))
+
 -- ---- trials
 
-abbrev pub trialsTest : List Trial → Bool
-trialsTest rows = sameLists (allLines (map trialReports rows)) (allLines (map (λ t. t .expected) rows))
+-- What holds of every row of a table holds of the row at a place; behind the last there is none.
+module _ {A : Type 0} {B : Type 0} (f g : A → B) where
+  row-at : (n : ℕ) (rows : List A) → map f rows ≡ map g rows → map f (take 1 (drop n rows)) ≡ map g (take 1 (drop n rows))
+  row-at zero [] e = refl
+  row-at zero (x ∷ rows) e = ap (take 1) e
+  row-at (suc n) [] e = refl
+  row-at (suc n) (x ∷ rows) e = row-at n rows (ap (drop 1) e)
 
-pub trials-tested : trialsTest trialTable ≡ true
-trials-tested = true-sameLists (ap allLines trials)
+-- A row of the table, by its place.
+abbrev pub trialsTest : ℕ → Bool
+trialsTest n = sameLists (allLines (map trialReports (take 1 (drop n trialTable)))) (allLines (map (λ t. t .expected) (take 1 (drop n trialTable))))
+
+pub trials-tested : (n : ℕ) → trialsTest n ≡ true
+trials-tested n = true-sameLists (ap allLines (row-at trialReports (λ t. t .expected) n trialTable trials))
+
+abbrev pub rentTrialsTest : ℕ → Bool
+rentTrialsTest n = sameLists (allLines (map rentReports (take 1 (drop n rentTable)))) (allLines (map rentExpected (take 1 (drop n rentTable))))
+
+pub rent-trials-tested : (n : ℕ) → rentTrialsTest n ≡ true
+rent-trials-tested n = true-sameLists (ap allLines (row-at rentReports rentExpected n rentTable rent-trials))

@@ -132,6 +132,7 @@ module _ (blocks roots bytes : ℕ) (c : Card) (inRanges : InRanges blocks roots
     counts = λ b l. zeros-at blocks b;
     pointed = λ b l r e. absurd-test e (ap allocatedFlag (freshFlags-other blocks roots b r));
     windowsLow = λ m b l. subst (λ (n : ℕ). n ≤ 0 + 86400) (sym (zeros-at (2 * blocks) _)) (omega arith);
+    totalLow = omega arith;
   }
 
   -- A root's part lies within the zeros.

@@ -15,8 +15,9 @@ use Rattle.card.specs.Card.{Public, Card, flag, allocatedFlag, allocated
 use Rattle.card.specs.Soundness.{timeLimit}
 use Rattle.card.specs.SoundCard.{SoundCard}
 use Rattle.card.specs.SoundnessLaws.{multiplicityRight-low, allocated-below}
+use Rattle.card.specs.RentLaws.{rent-in-time}
 use Rattle.card.specs.Plan.{NoneHolds, setWindow, freeBlock, addPointer, raisePointer, lowerPointer, dropPointer, withFlags, changePublic, change, changes, Buffers, Result, settle}
-use Rattle.card.specs.Calls.{missing, windowAfter, opensWindow, wanted, picks, takeAll, closeWindows, modeOf, readPlan, writePlan, allocPlan, runStarts, nearestRun, allocContigPlan, createPlan, deletePlan, deleteTreePlan, keyPlan, renewPlan, forcePlan, freePlan, tickPlan, auditPlan}
+use Rattle.card.specs.Calls.{missing, windowAfter, opensWindow, wanted, picks, takeAll, closeWindows, modeOf, readPlan, writePlan, allocPlan, runStarts, nearestRun, allocContigPlan, createPlan, deletePlan, deleteTreePlan, keyPlan, renewPlan, forcePlan, freePlan, tickPlan, auditPlan, rentPlan}
 use Rattle.card.specs.Session.{Request, plan, perform}
 use Rattle.card.specs.declared.Port.{Port}
 use Rattle.card.specs.declared.Port.the-variants.{Host, Service}
@@ -34,7 +35,7 @@ use Rattle.card.specs.declared.TickOperands.{TickOperands}
 use Rattle.card.specs.declared.Refusal.{Refusal}
 use Rattle.card.specs.declared.Answer.the-variants.{Refused}
 use Rattle.card.specs.declared.Call.{Call}
-use Rattle.card.specs.declared.Call.the-variants.{Read, Write, Alloc, AllocContig, Create, Delete, DeleteTree, KeyRead, KeyWrite, Renew, Force, Free, Tick, Audit}
+use Rattle.card.specs.declared.Call.the-variants.{Read, Write, Alloc, AllocContig, Create, Delete, DeleteTree, KeyRead, KeyWrite, Renew, Force, Free, Tick, Audit, Rent}
 use Rattle.card.proofs.Guarantees.Steps.{allocated-set, allocated-other, unallocated-flag, setWindow-sound, setBlock-sound, setKey-sound, setTime-sound}
 use Rattle.card.specs.ChangesLaws.{keyed-allocated, inserted-length}
 use Rattle.card.proofs.Guarantees.PointerSteps.{sound-but, addPointer-sound, takeAdd-sound, raise-sound, lower-sound, times-right, times-counted, dropOne-sound, dropLast-sound}
@@ -114,7 +115,9 @@ key-sound port c opened mode o s h =
 
 tick-sound : (c : Card) (o : TickOperands) → SoundCard c → NoneHolds (tickPlan (c .public) o .checks) → SoundCard (changes c (tickPlan (c .public) o .steps))
 unfolding tickPlan changes
-tick-sound c o s h = setTime-sound (c .public .info .time + o .seconds) s (omega arith) (leb-false timeLimit (c .public .info .time + o .seconds) (h .0))
+tick-sound c o s h =
+    setTime-sound (c .public .info .time + o .seconds) _ s (omega arith) (leb-false timeLimit (c .public .info .time + o .seconds) (h .0))
+    (rent-in-time (c .public) (o .seconds) (s .shaped .inRanges .blocksHigh) (s .isSound .totalLow))
 
 -- ---- CREATE and DELETE
 
@@ -263,7 +266,7 @@ contig-sound port c opened o places s h =
 
 call-sound : (port : Port) (c : Card) (call : Call) (lent : Buffers) → SoundCard c → NoneHolds (plan port c call lent .checks)
     → SoundCard (changes c (plan port c call lent .steps))
-unfolding plan freePlan auditPlan changes
+unfolding plan freePlan auditPlan rentPlan changes
 call-sound port c (Read o) lent = read-sound port c _ o _
 call-sound port c (Write o) lent = write-sound port c _ o _
 call-sound port c (Alloc o) lent = alloc-sound port c _ o _
@@ -278,6 +281,7 @@ call-sound port c (Force o) lent = force-sound c o
 call-sound port c Free lent = λ s h. s
 call-sound port c (Tick o) lent = tick-sound c o
 call-sound port c Audit lent = λ s h. s
+call-sound port c (Rent o) lent = λ s h. s
 
 -- Document 01, "A done call .. leaves a sound card"; a refused one leaves the card itself.
 pub done-sound : (port : Port) (c : Card) (q : Request) → SoundCard c → SoundCard (perform port c q .after)

@@ -22,7 +22,7 @@ use Rattle.card.specs.SoundnessLaws.{allocated-below, pointerRight-true,
 use Rattle.card.specs.Soundness.{pointerRight}
 use Rattle.card.specs.Plan.{NoneHolds, Change, setWindow, setBlock, setKey, takeBlock, freeBlock, addPointer, raisePointer, lowerPointer, dropPointer, dropFrom, setTime, changePublic, change, changes, Buffers, Result, refused, placesAfter, settle}
 use Rattle.card.specs.ChangesLaws.{used-in-step, inserted-take, insertedTimes-take, setTimes-take, removed-take, removedTimes-take}
-use Rattle.card.specs.Calls.{freshCard, windowAfter, opensWindow, wanted, picks, takeAll, readPlan, writePlan, allocPlan, runStarts, nearestRun, allocContigPlan, createPlan, deletePlan, freedWith, deleteTreePlan, keyPlan, renewPlan, forcePlan, freePlan, tickPlan, auditPlan}
+use Rattle.card.specs.Calls.{freshCard, windowAfter, opensWindow, wanted, picks, takeAll, readPlan, writePlan, allocPlan, runStarts, nearestRun, allocContigPlan, createPlan, deletePlan, freedWith, deleteTreePlan, keyPlan, renewPlan, forcePlan, freePlan, tickPlan, auditPlan, rentPlan}
 use Rattle.card.specs.Takeable.{Without, Takeable}
 use Rattle.card.specs.PicksLaws.{distinct-head, picks-takeable, picks-length}
 use Rattle.card.specs.RunsLaws.{run-takeable, run-length}
@@ -39,7 +39,7 @@ use Rattle.card.specs.declared.AllocOperands.{AllocOperands}
 use Rattle.card.specs.declared.CreateOperands.{CreateOperands}
 use Rattle.card.specs.declared.DeleteOperands.{DeleteOperands}
 use Rattle.card.specs.declared.Call.{Call}
-use Rattle.card.specs.declared.Call.the-variants.{Read, Write, Alloc, AllocContig, Create, Delete, DeleteTree, KeyRead, KeyWrite, Renew, Force, Free, Tick, Audit}
+use Rattle.card.specs.declared.Call.the-variants.{Read, Write, Alloc, AllocContig, Create, Delete, DeleteTree, KeyRead, KeyWrite, Renew, Force, Free, Tick, Audit, Rent}
 use Rattle.card.proofs.Guarantees.PointerSteps.{block-narrow, no-pointer, times-right}
 use Rattle.card.proofs.Guarantees.Severing.{treeDeleted, deleted-multiplicity}
 use Rattle.card.proofs.Guarantees.KeepsSound.{not-missing, takeable-below, takeable-free, taken-sound, taken-allocated, taken-rest, taken-room, done-sound}
@@ -91,7 +91,7 @@ Plain (raisePointer a b) = ⊥
 Plain (lowerPointer a b) = ⊥
 Plain (dropPointer a b) = ⊥
 Plain (dropFrom bs) = ⊥
-Plain (setTime t) = Unit {0}
+Plain (setTime t total) = Unit {0}
 
 plain-kept : (p : Public) (step : Change) → Plain step → (a b : ℕ) → multiplicity (changePublic step p) a b ≡ multiplicity p a b
 unfolding changePublic multiplicity
@@ -105,7 +105,7 @@ plain-kept p (raisePointer a b) h x y = absurd h
 plain-kept p (lowerPointer a b) h x y = absurd h
 plain-kept p (dropPointer a b) h x y = absurd h
 plain-kept p (dropFrom bs) h x y = absurd h
-plain-kept p (setTime t) h x y = refl
+plain-kept p (setTime t total) h x y = refl
 
 abbrev PlainAll : List Change → Type 0
 PlainAll [] = Unit {0}
@@ -388,6 +388,7 @@ refused-booked c (Force o) lent r a b = refl
 refused-booked c Free lent r a b = refl
 refused-booked c (Tick o) lent r a b = refl
 refused-booked c Audit lent r a b = refl
+refused-booked c (Rent o) lent r a b = refl
 
 module _ (port : Port) (c : Card) (lent : Buffers) (s : SoundCard c) (a b : ℕ) (narrow : b < 65536) where
   -- Where no pointer is touched.
@@ -395,7 +396,7 @@ module _ (port : Port) (c : Card) (lent : Buffers) (s : SoundCard c) (a b : ℕ)
   plain-booked steps h = ap (λ (n : ℕ). n + 0) (plain-all c steps h a b)
 
   call-booked : (call : Call) → NoneHolds (plan port c call lent .checks) → Booked c call (settle c lent (plan port c call lent) none) a b
-  unfolding plan settle made taken readPlan writePlan allocPlan allocContigPlan createPlan deletePlan deleteTreePlan keyPlan renewPlan forcePlan freePlan tickPlan auditPlan changes
+  unfolding plan settle made taken readPlan writePlan allocPlan allocContigPlan createPlan deletePlan deleteTreePlan keyPlan renewPlan forcePlan freePlan tickPlan auditPlan rentPlan changes
   call-booked (Read o) h = plain-booked (plan port c (Read o) lent .steps) (opensWindow-plain port (c .public) _ (o .block) (o .interval))
   call-booked (Write o) h = plain-booked (plan port c (Write o) lent .steps) (tt, opensWindow-plain port (c .public) _ (o .block) (o .interval))
   call-booked (Alloc o) h = made-booked _ _ _ (alloc-made port c (admits port c Writing (o .reference) (o .credential)) o (lent .places) s h a b narrow)
@@ -412,6 +413,7 @@ module _ (port : Port) (c : Card) (lent : Buffers) (s : SoundCard c) (a b : ℕ)
   call-booked Free h = refl
   call-booked (Tick o) h = plain-booked (plan port c (Tick o) lent .steps) (tt, tt)
   call-booked Audit h = refl
+  call-booked (Rent o) h = refl
 
 -- 2026-05: after any call on any card, at either port, done or refused, the multiplicity of the pointer from a to b is what it was,
 -- and one more for each that the call made, one less for each that it took away: a DELETE_TREE takes the whole multiplicity of each pointer that goes. Block numbers have 16 bits.
@@ -520,7 +522,7 @@ count-sum {c} s b l =
 
 -- ---- counts after a list of calls
 
-after-sound : (c : Card) (ss : List Sent) → SoundCard c → SoundCard (afterAll c ss)
+pub after-sound : (c : Card) (ss : List Sent) → SoundCard c → SoundCard (afterAll c ss)
 unfolding afterAll
 after-sound c [] sound = sound
 after-sound c (s ∷ ss) sound = after-sound (performed c s .after) ss (done-sound (s .port) c (s .request) sound)

@@ -17,7 +17,7 @@ use Rattle.card.specs.PointersLaws.{source-pointer, destination-pointer,
 use Rattle.card.specs.BesideLaws.{InStep, Moved, moved-insert, moved-remove, moved-set, all-insertBeside, all-removeBeside, all-setBeside, beside-all, beside-absent, total-counted, uncounted}
 use Rattle.card.specs.Contents.{zeros}
 use Rattle.card.specs.Card.{Public, Card, flag, allocatedFlag, keyFlag, allocated, windowAt, windowEnd, longestInterval, count, inUse, timesInUse, multiplicity, highestMultiplicity, pointsTo, hasPointers}
-use Rattle.card.specs.Soundness.{pointerRight, multiplicityRight}
+use Rattle.card.specs.Soundness.{mostBlocks, pointerRight, multiplicityRight}
 use Rattle.card.specs.SoundCard.{Shaped, KeyZero, Empty, RightPointer, SoundCard}
 use Rattle.card.specs.SoundnessLaws.{pointerRight-true, true-pointerRight, multiplicityRight-low, multiplicityRight-high, true-multiplicityRight, allocated-below, allocated-flag, flag-allocated}
 use Rattle.card.specs.Plan.{takeBlock, freeBlock, addPointer, raisePointer, lowerPointer, dropPointer, withFlags, withCount, withMultiplicity, changePublic, changeKeys, changeContents, change}
@@ -43,6 +43,7 @@ pub record SoundExcept (X : ℕ → Type 0) (c : Card) : Type 0 where
   pub counts : (b : ℕ) → b < c .public .info .blocks → count (c .public) b ≡ pointersTo b (inUse (c .public)) (timesInUse (c .public))
   pub pointed : (b : ℕ) → (X b → ⊥) → b < c .public .info .blocks → c .public .info .roots ≤ b → allocatedFlag (flag (c .public) b) ≡ true → 1 ≤ count (c .public) b
   pub windowsLow : (mode : Mode) (b : ℕ) → b < c .public .info .blocks → windowEnd (c .public) mode b ≤ c .public .info .time + longestInterval
+  pub totalLow : c .public .info .total ≤ c .public .info .time * mostBlocks
 
 -- Sound, but that block x may be so.
 abbrev pub SoundBut : ℕ → Card → Type 0
@@ -64,6 +65,7 @@ sound-but x s = record {
   counts = s .isSound .counts;
   pointed = λ b other. s .isSound .pointed b;
   windowsLow = s .isSound .windowsLow;
+  totalLow = s .isSound .totalLow;
 }
 
 -- With a pointer to each block of X the card is sound.
@@ -84,6 +86,7 @@ except-sound s f = record {
     counts = s .counts;
     pointed = λ b l r a. ⊎-elim (λ other. s .pointed b other l r a) (λ one. one) (f b l r a);
     windowsLow = s .windowsLow;
+    totalLow = s .totalLow;
   };
 }
 
@@ -129,6 +132,7 @@ takeBlock-sound {c} b s below free =
       counts = s .isSound .counts;
       pointed = λ x other l r e. s .isSound .pointed x l r (subst (λ (f : ℕ). allocatedFlag f ≡ true) (getD-set-other (p .flags) b x 1 0 other) e);
       windowsLow = s .isSound .windowsLow;
+      totalLow = s .isSound .totalLow;
     }
 
 -- Counts stay right where the number beside one pointer to b moves, and b's count with it.
@@ -207,6 +211,7 @@ addPointer-sound {c} a b s fromAllocated toAllocated noRoot different absent roo
       pointed = λ x other l r e.
           subst (λ (n : ℕ). 1 ≤ n) (sym (getD-set-other (p .counts) b x (count p b + 1) 0 other)) (s .pointed x other l r e);
       windowsLow = s .windowsLow;
+      totalLow = s .totalLow;
     })
     (subst (λ (n : ℕ). 1 ≤ n) (sym (getD-set-same (p .counts) b (count p b + 1) 0 inCounts)) (omega arith))
 
@@ -264,6 +269,7 @@ dropPointer-sound {c} a b s toAllocated there =
       pointed = λ x other l r e.
           subst (λ (n : ℕ). 1 ≤ n) (sym (getD-set-other (p .counts) b x (count p b - old) 0 other)) (s .isSound .pointed x l r e);
       windowsLow = s .isSound .windowsLow;
+      totalLow = s .isSound .totalLow;
     }
 
 -- Both windows of a block set to 0.
@@ -369,6 +375,7 @@ freeBlock-except {c} {X} {Y} b s others below noRoot uncount unpoint =
           none;
       windowsLow = λ m x l.
           closed-either (λ (n : ℕ). n ≤ p .info .time + longestInterval) (p .windows) b (windowAt m x) (omega arith) (s .windowsLow m x l);
+      totalLow = s .totalLow;
     }
 
 pub freeBlock-sound : {c : Card} (b : ℕ) → SoundBut b c
@@ -508,6 +515,7 @@ module _ {c : Card} (a b : ℕ) (s : SoundCard c) (toAllocated : allocated (c .p
         pointed = λ x other l r e.
             subst (λ (n : ℕ). 1 ≤ n) (sym (getD-set-other (p .counts) b x counted 0 other)) (s .isSound .pointed x l r e);
         windowsLow = s .isSound .windowsLow;
+        totalLow = s .isSound .totalLow;
       })
       (subst (λ (n : ℕ). 1 ≤ n) (sym (getD-set-same (p .counts) b counted 0 inCounts)) (omega (arith, times-counted)))
 

@@ -181,6 +181,7 @@ module _ (c : Card) (bs : List ℕ) {X : ℕ → Type 0} (s : SoundExcept X c) (
         counts = λ x l. rw (listed, timed) (counted x l);
         pointed = λ x other l r e. rw (counted x l) (still-counted x (cut .rest x (false-unless _ other) l r e));
         windowsLow = s .windowsLow;
+        totalLow = s .totalLow;
       }
 
 -- ---- the blocks freed one after the other

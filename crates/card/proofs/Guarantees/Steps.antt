@@ -14,7 +14,7 @@ use Rattle.card.specs.Pointers.{source, destination}
 use Rattle.card.specs.Contents.{fill}
 use Rattle.card.specs.ContentsLaws.{fill-length, block-fits}
 use Rattle.card.specs.Card.{Public, Card, card, flag, allocatedFlag, keyFlag, allocated, windowAt, windowEnd, longestInterval, count, inUse, keyHigh, keyLow}
-use Rattle.card.specs.Soundness.{timeLimit, pointerRight}
+use Rattle.card.specs.Soundness.{timeLimit, mostBlocks, pointerRight}
 use Rattle.card.specs.SoundCard.{Shaped, KeyZero, Empty, RightPointer, SoundCard}
 use Rattle.card.specs.SoundnessLaws.{pointerRight-true, true-pointerRight, allocated-below, allocated-flag, flag-allocated}
 use Rattle.card.specs.Plan.{setWindow, setBlock, setKey, setTime, isPresent, otherMode, keyedFlags, withFlags, changePublic, changeKeys, changeContents, change}
@@ -25,7 +25,7 @@ use Rattle.card.specs.ChangesLaws.{getD-set-either, getD-set-cases, wind
 -- ---- shape
 
 -- A card with tables of the same lengths has the same shape, with as many pointers as fit and a time below the limit.
-pub shaped-with : {c : Card} {flags keys counts pointers multiplicities windows contents : List ℕ} {used time : ℕ} → Shaped c
+pub shaped-with : {c : Card} {flags keys counts pointers multiplicities windows contents : List ℕ} {used time total : ℕ} → Shaped c
     → length flags ≡ length (c .public .flags)
     → length keys ≡ length (c .keys)
     → length counts ≡ length (c .public .counts)
@@ -35,7 +35,7 @@ pub shaped-with : {c : Card} {flags keys counts pointers multiplicities windows 
     → length contents ≡ length (c .contents)
     → used ≤ length pointers
     → time < timeLimit
-    → Shaped (card (record { blocks = c .public .info .blocks; roots = c .public .info .roots; bytes = c .public .info .bytes; used = used; time = time }) flags keys counts pointers multiplicities windows contents)
+    → Shaped (card (record { blocks = c .public .info .blocks; roots = c .public .info .roots; bytes = c .public .info .bytes; used = used; time = time; total = total }) flags keys counts pointers multiplicities windows contents)
 shaped-with {c} {flags} {keys} {counts} {pointers} {multiplicities} {windows} {contents} s f k n p m w d u t = record {
   inRanges = s .inRanges;
   timeHigh = t;
@@ -116,6 +116,7 @@ setWindow-sound {c} mode b end s a low = record {
         getD-set-either (λ (n : ℕ). n ≤ c .public .info .time + longestInterval) (c .public .windows) (windowAt mode b) end (windowAt m x)
         low
         (s .isSound .windowsLow m x l);
+    totalLow = s .isSound .totalLow;
   };
 }
 
@@ -138,13 +139,15 @@ setBlock-sound {c} b ys s l whole = record {
     counts = s .isSound .counts;
     pointed = s .isSound .pointed;
     windowsLow = s .isSound .windowsLow;
+    totalLow = s .isSound .totalLow;
   };
 }
 
--- Set the time, to a later one below the limit.
-pub setTime-sound : {c : Card} (time : ℕ) → SoundCard c → c .public .info .time ≤ time → time < timeLimit → SoundCard (change c (setTime time))
+-- Set the time, to a later one below the limit, and the total, to one that can have come about by then.
+pub setTime-sound : {c : Card} (time total : ℕ) → SoundCard c → c .public .info .time ≤ time → time < timeLimit → total ≤ time * mostBlocks
+    → SoundCard (change c (setTime time total))
 unfolding change changePublic changeKeys changeContents pointerRight allocated
-setTime-sound {c} time s later low = record {
+setTime-sound {c} time total s later low in-time = record {
   shaped = shaped-with (s .shaped) refl refl refl refl refl refl refl (s .shaped .usedHigh) low;
   isSound = record {
     flagsLow = s .isSound .flagsLow;
@@ -159,6 +162,7 @@ setTime-sound {c} time s later low = record {
     counts = s .isSound .counts;
     pointed = s .isSound .pointed;
     windowsLow = λ m x l. omega (arith, s .isSound .windowsLow m x l);
+    totalLow = in-time;
   };
 }
 
@@ -252,5 +256,6 @@ setKey-sound {c} mode b key s a =
             (λ r e. s .isSound .pointed b below r (allocated-flag p b a))
             (λ other. s .isSound .pointed x l);
         windowsLow = s .isSound .windowsLow;
+        totalLow = s .isSound .totalLow;
       };
     }

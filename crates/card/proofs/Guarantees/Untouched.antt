@@ -17,7 +17,7 @@ use Rattle.card.specs.Card.{Public, Card, allocatedFlag, allocated, coun
 use Rattle.card.specs.SoundCard.{SoundCard}
 use Rattle.card.specs.SoundnessLaws.{allocated-below, flag-allocated}
 use Rattle.card.specs.Plan.{NoneHolds, setWindow, setBlock, takeBlock, freeBlock, addPointer, raisePointer, lowerPointer, dropPointer, withFlags, changePublic, changeContents, change, changes, Buffers}
-use Rattle.card.specs.Calls.{windowAfter, opensWindow, wanted, takeAll, freedWith, readPlan, writePlan, allocPlan, allocContigPlan, createPlan, deletePlan, deleteTreePlan, keyPlan, renewPlan, forcePlan, freePlan, tickPlan, auditPlan}
+use Rattle.card.specs.Calls.{windowAfter, opensWindow, wanted, takeAll, freedWith, readPlan, writePlan, allocPlan, allocContigPlan, createPlan, deletePlan, deleteTreePlan, keyPlan, renewPlan, forcePlan, freePlan, tickPlan, auditPlan, rentPlan}
 use Rattle.card.specs.Session.{Request, plan, perform}
 use Rattle.card.specs.declared.Port.{Port}
 use Rattle.card.specs.declared.Port.the-variants.{Host, Service}
@@ -27,7 +27,7 @@ use Rattle.card.specs.declared.WriteOperands.{WriteOperands}
 use Rattle.card.specs.declared.DeleteOperands.{DeleteOperands}
 use Rattle.card.specs.declared.KeyOperands.{KeyOperands}
 use Rattle.card.specs.declared.Call.{Call}
-use Rattle.card.specs.declared.Call.the-variants.{Read, Write, Alloc, AllocContig, Create, Delete, DeleteTree, KeyRead, KeyWrite, Renew, Force, Free, Tick, Audit}
+use Rattle.card.specs.declared.Call.the-variants.{Read, Write, Alloc, AllocContig, Create, Delete, DeleteTree, KeyRead, KeyWrite, Renew, Force, Free, Tick, Audit, Rent}
 use Rattle.card.proofs.Guarantees.Steps.{block-within, allocated-other}
 use Rattle.card.specs.Takeable.{Takeable}
 use Rattle.card.specs.PicksLaws.{picks-takeable}
@@ -213,7 +213,7 @@ allotted-untouched c reference bs b free s t =
 
 call-untouched : (port : Port) (c : Card) (call : Call) (lent : Buffers) (b : ℕ) → allocated (c .public) b ≡ false → SoundCard c
     → NoneHolds (plan port c call lent .checks) → Untouched c (changes c (plan port c call lent .steps)) b
-unfolding plan readPlan allocPlan allocContigPlan createPlan renewPlan forcePlan freePlan tickPlan auditPlan changes change changePublic changeContents allocated
+unfolding plan readPlan allocPlan allocContigPlan createPlan renewPlan forcePlan freePlan tickPlan auditPlan rentPlan changes change changePublic changeContents allocated
 call-untouched port c (Read o) lent b free s h = inl (opensWindow-left port c (c .public) Reading (o .block) (o .interval) b free)
 call-untouched port c (Write o) lent b free s h = inl (write-left port c _ o (lent .input) b free s h)
 call-untouched port c (Alloc o) lent b free s h = allotted-untouched c (o .reference) _ b free s (picks-takeable (c .public) (wanted (o .hint)) (o .count))
@@ -228,6 +228,7 @@ call-untouched port c (Force o) lent b free s h = inl (record { notAllocated = f
 call-untouched port c Free lent b free s h = inl (record { notAllocated = free; same = refl })
 call-untouched port c (Tick o) lent b free s h = inl (record { notAllocated = free; same = refl })
 call-untouched port c Audit lent b free s h = inl (record { notAllocated = free; same = refl })
+call-untouched port c (Rent o) lent b free s h = inl (record { notAllocated = free; same = refl })
 
 -- On any card, sound or not, a call leaves an unallocated block as it was, or leaves it allocated and filled with zeros.
 pub untouched : (port : Port) (c : Card) (q : Request) (b : ℕ) → allocated (c .public) b ≡ false → Untouched c (perform port c q .after) b

@@ -18,7 +18,7 @@ use Rattle.card.specs.SoundCard.{SoundCard}
 use Rattle.card.specs.SoundnessLaws.{allocated-below}
 use Rattle.card.specs.Plan.{NoneHolds, setWindow, setBlock, takeBlock, freeBlock, addPointer, raisePointer, lowerPointer, dropPointer, changePublic, change, changes, Buffers, Result, done, settle}
 use Rattle.card.specs.ChangesLaws.{getD-set-raised, getD-set-changed, windowAt-block, windowAt-mode, windowAt-within}
-use Rattle.card.specs.Calls.{isDone, windowAfter, opensWindow, wanted, picks, takeAll, freedWith, modeOf, readPlan, writePlan, allocPlan, runStarts, nearestRun, allocContigPlan, createPlan, deletePlan, deleteTreePlan, keyPlan, renewPlan, forcePlan, freePlan, tickPlan, auditPlan}
+use Rattle.card.specs.Calls.{isDone, windowAfter, opensWindow, wanted, picks, takeAll, freedWith, modeOf, readPlan, writePlan, allocPlan, runStarts, nearestRun, allocContigPlan, createPlan, deletePlan, deleteTreePlan, keyPlan, renewPlan, forcePlan, freePlan, tickPlan, auditPlan, rentPlan}
 use Rattle.card.specs.Session.{Request, plan, portOf, perform}
 use Rattle.card.specs.declared.Port.{Port}
 use Rattle.card.specs.declared.Port.the-variants.{Host, Service}
@@ -31,7 +31,7 @@ use Rattle.card.specs.declared.RenewOperands.{RenewOperands}
 use Rattle.card.specs.declared.ForceOperands.{ForceOperands}
 use Rattle.card.specs.declared.Answer.the-variants.{Done}
 use Rattle.card.specs.declared.Call.{Call}
-use Rattle.card.specs.declared.Call.the-variants.{Read, Write, Alloc, AllocContig, Create, Delete, DeleteTree, KeyRead, KeyWrite, Renew, Force, Free, Tick, Audit}
+use Rattle.card.specs.declared.Call.the-variants.{Read, Write, Alloc, AllocContig, Create, Delete, DeleteTree, KeyRead, KeyWrite, Renew, Force, Free, Tick, Audit, Rent}
 use Rattle.card.proofs.Guarantees.Steps.{unallocated-flag}
 use Rattle.card.proofs.Guarantees.Severing.{treeDeleted, freed-allocated, deleted-frees, deleted-spares, deleted-blocks, deleted-sound}
 use Rattle.card.proofs.Guarantees.KeepsSound.{not-missing}
@@ -110,7 +110,7 @@ tree-closed c a b s held there call m x =
 
 plan-left : (port : Port) (c : Card) (call : Call) (lent : Buffers) → SoundCard c → NoneHolds (plan port c call lent .checks)
     → WindowsLeft port c (changes c (plan port c call lent .steps)) call
-unfolding plan portOf readPlan writePlan allocPlan allocContigPlan createPlan deletePlan deleteTreePlan keyPlan renewPlan forcePlan freePlan tickPlan auditPlan changes change changePublic allocated
+unfolding plan portOf readPlan writePlan allocPlan allocContigPlan createPlan deletePlan deleteTreePlan keyPlan renewPlan forcePlan freePlan tickPlan auditPlan rentPlan changes change changePublic allocated
 plan-left port c (Read o) lent s h =
     ⊎-elim (λ e. same e) (λ r. oneSet (r .0) (byRead o) (r .1)) (opens-left port c (c .public) Reading (o .block) (o .interval))
 plan-left port c (Write o) lent s h =
@@ -148,6 +148,7 @@ plan-left port c (Force o) lent s h = bothClosed (o .block) (byForce o refl) ref
 plan-left port c Free lent s h = same refl
 plan-left port c (Tick o) lent s h = same refl
 plan-left port c Audit lent s h = same refl
+plan-left port c (Rent o) lent s h = same refl
 
 -- ---- what sets a window
 

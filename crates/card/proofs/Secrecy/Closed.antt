@@ -60,7 +60,7 @@ Allowed G p (raisePointer a b) = Unit {0}
 Allowed G p (lowerPointer a b) = Unit {0}
 Allowed G p (dropPointer a b) = contains (pointer a b) (inUse p) ≡ true
 Allowed G p (dropFrom bs) = Unit {0}
-Allowed G p (setTime t) = p .info .time ≤ t
+Allowed G p (setTime t total) = p .info .time ≤ t
 
 -- A block that is taken joins the set.
 abbrev pub TakenBy : Change → ℕ → Type 0
@@ -74,7 +74,7 @@ TakenBy (raisePointer a b) x = ⊥
 TakenBy (lowerPointer a b) x = ⊥
 TakenBy (dropPointer a b) x = ⊥
 TakenBy (dropFrom bs) x = ⊥
-TakenBy (setTime t) x = ⊥
+TakenBy (setTime t total) x = ⊥
 
 abbrev pub Grown : (ℕ → Type 0) → Change → ℕ → Type 0
 Grown G step x = G x ⊎ TakenBy step x
@@ -147,7 +147,7 @@ regular-change G c (dropPointer a b) r h = record {
   usedHigh = used-dropped (c .public) a b (r .usedHigh) h;
 }
 regular-change G c (dropFrom bs) r h = record { blocksHigh = r .blocksHigh; flags = r .flags; contents = r .contents; usedHigh = used-kept (c .public) bs }
-regular-change G c (setTime t) r h = record { blocksHigh = r .blocksHigh; flags = r .flags; contents = r .contents; usedHigh = r .usedHigh }
+regular-change G c (setTime t total) r h = record { blocksHigh = r .blocksHigh; flags = r .flags; contents = r .contents; usedHigh = r .usedHigh }
 
 -- ---- the frame
 
@@ -412,10 +412,10 @@ module _ (K : ℕ → ℕ → Bool) (G : ℕ → Type 0) (c : Card) (r : Regular
         wasPointed = λ y g p. (same-set G y g, keep-contains (notFrom bs) (pointer y x) (inUse (c .public)) (rw (inUse-kept (c .public) bs) at p));
       }))
 
-  closed-setTime : (t : ℕ) → Allowed G (c .public) (setTime t) → Closed K (Grown G (setTime t)) (change c (setTime t))
+  closed-setTime : (t total : ℕ) → Allowed G (c .public) (setTime t total) → Closed K (Grown G (setTime t total)) (change c (setTime t total))
   unfolding change changePublic changeKeys changeContents allocated sealed keyPresented hasKey windowOpen pointsTo
-  closed-setTime t h =
-      frame K G (Grown G (setTime t)) c (change c (setTime t)) closed refl (λ x g. inl g)
+  closed-setTime t total h =
+      frame K G (Grown G (setTime t total)) c (change c (setTime t total)) closed refl (λ x g. inl g)
       (λ x al.
       inr
       (record {
@@ -441,4 +441,4 @@ module _ (K : ℕ → ℕ → Bool) (G : ℕ → Type 0) (c : Card) (r : Regular
   closed-change (lowerPointer a b) h = closed-lowerPointer a b
   closed-change (dropPointer a b) h = closed-dropPointer a b h
   closed-change (dropFrom bs) h = closed-dropFrom bs
-  closed-change (setTime t) h = closed-setTime t h
+  closed-change (setTime t total) h = closed-setTime t total h

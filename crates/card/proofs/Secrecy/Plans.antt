@@ -19,7 +19,7 @@ use Rattle.card.specs.SoundCard.{SoundCard}
 use Rattle.card.specs.SoundnessLaws.{pointerRight-true, allocated-below}
 use Rattle.card.specs.Access.{admits}
 use Rattle.card.specs.Plan.{NoneHolds, setWindow, setBlock, setKey, takeBlock, freeBlock, addPointer, raisePointer, lowerPointer, dropPointer, changePublic, Shown, nothing, blockPart, numbers, Plan, Buffers}
-use Rattle.card.specs.Calls.{windowAfter, opensWindow, closeWindows, modeOf, wanted, takeAll, readPlan, writePlan, allocPlan, allocContigPlan, createPlan, deletePlan, freedWith, freeEach, deleteTreePlan, keyPlan, renewPlan, forcePlan, freePlan, tickPlan, auditPlan}
+use Rattle.card.specs.Calls.{windowAfter, opensWindow, closeWindows, modeOf, wanted, takeAll, readPlan, writePlan, allocPlan, allocContigPlan, createPlan, deletePlan, freedWith, freeEach, deleteTreePlan, keyPlan, renewPlan, forcePlan, freePlan, tickPlan, auditPlan, rentPlan}
 use Rattle.card.specs.Session.{keyCall, plan, traits}
 use Rattle.card.specs.Reach.{shows, presents, someShows}
 use Rattle.card.specs.declared.Port.the-variants.{Host}
@@ -35,8 +35,9 @@ use Rattle.card.specs.declared.KeyOperands.{KeyOperands}
 use Rattle.card.specs.declared.RenewOperands.{RenewOperands}
 use Rattle.card.specs.declared.ForceOperands.{ForceOperands}
 use Rattle.card.specs.declared.TickOperands.{TickOperands}
+use Rattle.card.specs.declared.RentOperands.{RentOperands}
 use Rattle.card.specs.declared.Call.{Call}
-use Rattle.card.specs.declared.Call.the-variants.{Read, Write, Alloc, AllocContig, Create, Delete, DeleteTree, KeyRead, KeyWrite, Renew, Force, Free, Tick, Audit}
+use Rattle.card.specs.declared.Call.the-variants.{Read, Write, Alloc, AllocContig, Create, Delete, DeleteTree, KeyRead, KeyWrite, Renew, Force, Free, Tick, Audit, Rent}
 use Rattle.card.specs.NearestLaws.{contains-here, contains-there}
 use Rattle.card.specs.TreeLaws.{ordinary-below, orphans-ordinary}
 use Rattle.card.specs.Takeable.{Without, Distinct, none, more, Takeable}
@@ -287,6 +288,10 @@ module _ (K : ℕ → ℕ → Bool) (G : ℕ → Type 0) (c : Card) (s : SoundCa
   unfolding plan auditPlan
   safe-audit lent = record { shownIn = tt; allowed = tt }
 
+  safe-rent : (o : RentOperands) (lent : Buffers) → Safe G c (plan Host c (Rent o) lent)
+  unfolding plan rentPlan
+  safe-rent o lent = record { shownIn = tt; allowed = tt }
+
   -- A host's call that no check refuses is safe.
   pub safe : (call : Call) (lent : Buffers) → CallPresents K call → NoneHolds (plan Host c call lent .checks) → Safe G c (plan Host c call lent)
   safe (Read o) lent k n = safe-read o lent k n
@@ -303,3 +308,4 @@ module _ (K : ℕ → ℕ → Bool) (G : ℕ → Type 0) (c : Card) (s : SoundCa
   safe Free lent k n = safe-free lent
   safe (Tick o) lent k n = safe-tick o lent
   safe Audit lent k n = safe-audit lent
+  safe (Rent o) lent k n = safe-rent o lent

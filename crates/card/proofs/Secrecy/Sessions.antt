@@ -14,7 +14,7 @@ use Rattle.card.specs.SoundCard.{SoundCard}
 use Rattle.card.specs.Access.{opens, admits}
 use Rattle.card.specs.Plan.{setWindow, freeBlock, addPointer, raisePointer, lowerPointer, dropPointer, NoneHolds, first, Shown, nothing, blockPart, numbers, Plan, Buffers, Result, refused, done, outAfter, settle, judgeSound}
 use Rattle.card.specs.PlanLaws.{first-none, judge-sound}
-use Rattle.card.specs.Calls.{opensWindow, windowAfter, modeOf, wanted, picks, takeAll, readPlan, writePlan, allocPlan, runStarts, nearestRun, allocContigPlan, createPlan, deletePlan, deleteTreePlan, keyPlan, renewPlan, forcePlan, freePlan, tickPlan, auditPlan}
+use Rattle.card.specs.Calls.{opensWindow, windowAfter, modeOf, wanted, picks, takeAll, readPlan, writePlan, allocPlan, runStarts, nearestRun, allocContigPlan, createPlan, deletePlan, deleteTreePlan, keyPlan, renewPlan, forcePlan, freePlan, tickPlan, auditPlan, rentPlan}
 use Rattle.card.specs.Session.{Request, plan, perform, reply, replies, afterAll, hostSession, traits}
 use Rattle.card.specs.Reach.{shows, presents, someShows, takesLast, isOne, lastTaken}
 use Rattle.card.specs.declared.Port.the-variants.{Host}
@@ -24,7 +24,7 @@ use Rattle.card.specs.declared.Credential.{Credential}
 use Rattle.card.specs.declared.Credential.the-variants.{Key as KeyCredential}
 use Rattle.card.specs.declared.Refusal.{Refusal}
 use Rattle.card.specs.declared.Call.{Call}
-use Rattle.card.specs.declared.Call.the-variants.{Read, Write, Alloc, AllocContig, Create, Delete, DeleteTree, KeyRead, KeyWrite, Renew, Force, Free, Tick, Audit}
+use Rattle.card.specs.declared.Call.the-variants.{Read, Write, Alloc, AllocContig, Create, Delete, DeleteTree, KeyRead, KeyWrite, Renew, Force, Free, Tick, Audit, Rent}
 use Rattle.card.proofs.Secrecy.Closed.{Closed}
 use Rattle.card.proofs.Secrecy.StepsAlike.{Alike, Kept, GrownAll, grows, closed-changes, alike-changes, covered, Frees, FreesNone, KeptApart, apart-changes}
 use Rattle.card.proofs.Secrecy.Opened.{AllPresented}
@@ -80,6 +80,7 @@ module _ (K : ℕ → ℕ → Bool) (L : Public → List ℕ → List ℕ → Ty
   plan-same Free lent k = ap freePlan (alike .samePublic)
   plan-same (Tick o) lent k = ap (λ (p : Public). tickPlan p o) (alike .samePublic)
   plan-same Audit lent k = refl
+  plan-same (Rent o) lent k = ap (λ (p : Public). rentPlan p o) (alike .samePublic)
 
   -- What is shown is the same.
   same-shown : (shown : Shown) (out : List ℕ) → ShownIn G shown → outAfter c shown out ≡ outAfter d shown out
@@ -182,7 +183,7 @@ module _ (K : ℕ → ℕ → Bool) (G : ℕ → Type 0) (c : Card) (s : SoundCa
   -- A done call that does not take the last pointer of a block outside the set away frees that block by no change.
   frees-none : (call : Call) (lent : Buffers) → CallPresents K call → NoneHolds (plan Host c call lent .checks) → takesLast call (plan Host c call lent .answer) x ≡ false
       → FreesNone (plan Host c call lent .steps) x
-  unfolding plan takesLast isOne readPlan writePlan allocPlan allocContigPlan createPlan deletePlan keyPlan renewPlan forcePlan freePlan tickPlan auditPlan opensWindow traits
+  unfolding plan takesLast isOne readPlan writePlan allocPlan allocContigPlan createPlan deletePlan keyPlan renewPlan forcePlan freePlan tickPlan auditPlan rentPlan opensWindow traits
   frees-none (Read o) lent k n e = go (eqb (o .interval) 0)
     where
       go : (t : Bool) → FreesNone (cond t [] (setWindow Reading (o .block) (windowAfter (c .public) Reading (o .block) (o .interval)) ∷ [])) x
@@ -218,6 +219,7 @@ module _ (K : ℕ → ℕ → Bool) (G : ℕ → Type 0) (c : Card) (s : SoundCa
   frees-none Free lent k n e = tt
   frees-none (Tick o) lent k n e = (λ f. f, tt)
   frees-none Audit lent k n e = tt
+  frees-none (Rent o) lent k n e = tt
 
   one-settled : (q : Request) → CallPresents K (q .call) → (o : Option Refusal) → first (plan Host c (q .call) (q .lent) .checks) ≡ o
       → takesLast (q .call) (settle c (q .lent) (plan Host c (q .call) (q .lent)) o .answer) x ≡ false

@@ -29,7 +29,7 @@ WrittenBy (raisePointer a b) x = ⊥
 WrittenBy (lowerPointer a b) x = ⊥
 WrittenBy (dropPointer a b) x = ⊥
 WrittenBy (dropFrom bs) x = ⊥
-WrittenBy (setTime t) x = ⊥
+WrittenBy (setTime t total) x = ⊥
 
 -- A block lies within the contents.
 fits : (c : Card) (b : ℕ) → Regular c → b < c .public .info .blocks → b * c .public .info .bytes + c .public .info .bytes ≤ length (c .contents)
@@ -49,7 +49,7 @@ block-kept G c (raisePointer a b) r h x n = refl
 block-kept G c (lowerPointer a b) r h x n = refl
 block-kept G c (dropPointer a b) r h x n = refl
 block-kept G c (dropFrom bs) r h x n = refl
-block-kept G c (setTime t) r h x n = refl
+block-kept G c (setTime t total) r h x n = refl
 
 -- ---- two cards
 
@@ -86,7 +86,7 @@ module _ (L : Public → List ℕ → List ℕ → Type 0) (kept : Kept L) (G : 
   same-written (lowerPointer a b) h x w = absurd w
   same-written (dropPointer a b) h x w = absurd w
   same-written (dropFrom bs) h x w = absurd w
-  same-written (setTime t) h x w = absurd w
+  same-written (setTime t total) h x w = absurd w
 
   -- A block of the grown set was in the set, or is written.
   joins : (step : Change) (x : ℕ) → Grown G step x → G x ⊎ WrittenBy step x
@@ -100,7 +100,7 @@ module _ (L : Public → List ℕ → List ℕ → Type 0) (kept : Kept L) (G : 
   joins (lowerPointer a b) x g = g
   joins (dropPointer a b) x g = g
   joins (dropFrom bs) x g = g
-  joins (setTime t) x g = g
+  joins (setTime t total) x g = g
 
   written-or-not : (step : Change) (x : ℕ) → WrittenBy step x ⊎ (WrittenBy step x → ⊥)
   written-or-not (setWindow mode b end) x = inr (λ w. w)
@@ -113,7 +113,7 @@ module _ (L : Public → List ℕ → List ℕ → Type 0) (kept : Kept L) (G : 
   written-or-not (lowerPointer a b) x = inr (λ w. w)
   written-or-not (dropPointer a b) x = inr (λ w. w)
   written-or-not (dropFrom bs) x = inr (λ w. w)
-  written-or-not (setTime t) x = inr (λ w. w)
+  written-or-not (setTime t total) x = inr (λ w. w)
 
   pub alike-change : (step : Change) → Allowed G (c .public) step → Alike L (Grown G step) (change c step) (change d step)
   unfolding change
@@ -189,7 +189,7 @@ allocated-before c (raisePointer y b) G r h x a = inr a
 allocated-before c (lowerPointer y b) G r h x a = inr a
 allocated-before c (dropPointer y b) G r h x a = inr a
 allocated-before c (dropFrom bs) G r h x a = inr a
-allocated-before c (setTime t) G r h x a = inr a
+allocated-before c (setTime t total) G r h x a = inr a
 
 pub covered : (G : ℕ → Type 0) (c : Card) (steps : List Change) → Regular c → AllowedAll G (c .public) steps → (x : ℕ)
     → allocated (changes c steps .public) x ≡ true → GrownAll G steps x ⊎ (allocated (c .public) x ≡ true)
@@ -213,7 +213,7 @@ Frees (raisePointer a b) x = ⊥
 Frees (lowerPointer a b) x = ⊥
 Frees (dropPointer a b) x = ⊥
 Frees (dropFrom bs) x = ⊥
-Frees (setTime t) x = ⊥
+Frees (setTime t total) x = ⊥
 
 abbrev pub FreesNone : List Change → ℕ → Type 0
 FreesNone [] x = Unit {0}
@@ -238,7 +238,7 @@ module _ (G : ℕ → Type 0) (c : Card) (r : Regular c) (x : ℕ) (a : allocate
   unwritten (lowerPointer y b) h w = w
   unwritten (dropPointer y b) h w = w
   unwritten (dropFrom bs) h w = w
-  unwritten (setTime t) h w = w
+  unwritten (setTime t total) h w = w
 
   still-outside : (step : Change) → Allowed G (c .public) step → Grown G step x → ⊥
   still-outside (setWindow mode b end) h g = ⊎-elim out (λ k. k) g
@@ -251,7 +251,7 @@ module _ (G : ℕ → Type 0) (c : Card) (r : Regular c) (x : ℕ) (a : allocate
   still-outside (lowerPointer y b) h g = ⊎-elim out (λ k. k) g
   still-outside (dropPointer y b) h g = ⊎-elim out (λ k. k) g
   still-outside (dropFrom bs) h g = ⊎-elim out (λ k. k) g
-  still-outside (setTime t) h g = ⊎-elim out (λ k. k) g
+  still-outside (setTime t total) h g = ⊎-elim out (λ k. k) g
 
   still-allocated : (step : Change) → Allowed G (c .public) step → (Frees step x → ⊥) → allocated (changePublic step (c .public)) x ≡ true
   unfolding changePublic allocated
@@ -265,7 +265,7 @@ module _ (G : ℕ → Type 0) (c : Card) (r : Regular c) (x : ℕ) (a : allocate
   still-allocated (lowerPointer y b) h n = a
   still-allocated (dropPointer y b) h n = a
   still-allocated (dropFrom bs) h n = a
-  still-allocated (setTime t) h n = a
+  still-allocated (setTime t total) h n = a
 
   apart-change : (step : Change) → Allowed G (c .public) step → (Frees step x → ⊥) → KeptApart (Grown G step) c (change c step) x
   unfolding change

@@ -1,5 +1,5 @@
 -- `dispatch::perform_sound` meets its contract: each arm by one law.
-use Rattle.card.specs.BuffersLaws.{with-read, with-write, with-alloc, with-alloc-contig, with-create, with-delete, with-delete-tree, with-key, with-renew, with-force, with-free, with-tick, with-audit}
+use Rattle.card.specs.BuffersLaws.{with-read, with-write, with-alloc, with-alloc-contig, with-create, with-delete, with-delete-tree, with-key, with-renew, with-force, with-free, with-tick, with-audit, with-rent}
 use Rattle.card.specs.declared.Mode.the-variants.{Reading, Writing}
 use borrow.Author.Needs.{needs}
 use Rattle.dispatch.proofs.perform_sound.Statement.{statement}
@@ -90,6 +90,12 @@ enum-known-call-12 c = search needs
 
 tick-sound-requires : tie.Need-tick-sound-requires
 tick-sound-requires c κs = search needs
+
+enum-known-call-13 : tie.Need-enum-known-call-13
+enum-known-call-13 c = search needs
+
+rent-sound-requires : tie.Need-rent-sound-requires
+rent-sound-requires c κs = search needs
 
 enum-told-2 : tie.Need-enum-told-2
 enum-told-2 c = search needs
@@ -441,8 +447,36 @@ returns-13 c =
     with-tick (start .args .port) _ (start .args .input .now) (start .args .out .now) (start .args .places .now) (start .args .call) (at-call12 .call12 .given .1)
     (c .tick-sound .ensures (start .args .port))
 
+same-length-95 : tie.Need-same-length-95
+same-length-95 c = search needs
+
+same-length-96 : tie.Need-same-length-96
+same-length-96 c = search needs
+
+same-length-97 : tie.Need-same-length-97
+same-length-97 c = search needs
+
+same-length-98 : tie.Need-same-length-98
+same-length-98 c = search needs
+
+same-length-99 : tie.Need-same-length-99
+same-length-99 c = search needs
+
+same-length-100 : tie.Need-same-length-100
+same-length-100 c = search needs
+
+same-length-101 : tie.Need-same-length-101
+same-length-101 c = search needs
+
 returns-14 : tie.Need-returns-14
-returns-14 c = search with-audit
+returns-14 c =
+    let at-call13 : tie.After-call13 = search in
+    let start : tie.Start = search in
+    with-rent (start .args .port) _ (start .args .input .now) (start .args .out .now) (start .args .places .now) (start .args .call) (at-call13 .call13 .given .1)
+    (c .rent-sound .ensures (start .args .port))
+
+returns-15 : tie.Need-returns-15
+returns-15 c = search with-audit
 
 pub perform-sound-spec : {M : Type 1} → statement M
 perform-sound-spec =
@@ -474,6 +508,8 @@ perform-sound-spec =
     free-sound-requires
     enum-known-call-12
     tick-sound-requires
+    enum-known-call-13
+    rent-sound-requires
     enum-told-2
     same-length
     same-length-2
@@ -582,4 +618,12 @@ perform-sound-spec =
     same-length-93
     same-length-94
     returns-13
-    returns-14)
+    same-length-95
+    same-length-96
+    same-length-97
+    same-length-98
+    same-length-99
+    same-length-100
+    same-length-101
+    returns-14
+    returns-15)

@@ -25,6 +25,9 @@ with-used-requires c κs = search needs
 shared-slice-read-with-time : tie.Need-shared-slice-read-with-time
 shared-slice-read-with-time c = search needs
 
+shared-slice-read-with-time-2 : tie.Need-shared-slice-read-with-time-2
+shared-slice-read-with-time-2 c = search needs
+
 with-time-requires : tie.Need-with-time-requires
 with-time-requires c κs = search needs
 
@@ -43,5 +46,6 @@ load-spec =
     shared-slice-read-with-used
     with-used-requires
     shared-slice-read-with-time
+    shared-slice-read-with-time-2
     with-time-requires
     returns)

@@ -1,5 +1,5 @@
 -- `parameters::store` meets its contract.
-use Rattle.parameters.specs.NumbersLaws.{still-five, stored}
+use Rattle.parameters.specs.NumbersLaws.{still-fifth, still-sixth, stored}
 use borrow.Author.Needs.{needs}
 use Rattle.parameters.proofs.store.Statement.{statement}
 use Rattle.parameters.proofs.store.Tie as tie
@@ -17,7 +17,10 @@ slice-write-numbers-4 : tie.Need-slice-write-numbers-4
 slice-write-numbers-4 c = search needs
 
 slice-write-numbers-5 : tie.Need-slice-write-numbers-5
-slice-write-numbers-5 c = still-five (c .args .numbers .now) _ _ _ _ (c .pre)
+slice-write-numbers-5 c = still-fifth (c .args .numbers .now) _ _ _ _ (c .pre)
+
+slice-write-numbers-6 : tie.Need-slice-write-numbers-6
+slice-write-numbers-6 c = still-sixth (c .args .numbers .now) _ _ _ _ (c .pre) _
 
 same-length : tie.Need-same-length
 same-length c = search needs
@@ -34,5 +37,6 @@ store-spec =
     slice-write-numbers-3
     slice-write-numbers-4
     slice-write-numbers-5
+    slice-write-numbers-6
     same-length
     returns)

@@ -2,19 +2,21 @@
 use Prim.Native.Nat.{_-_}
 use mathlib.Core.Logic.{⊎-elim}
 use native.Mathlib.Omega.{arith}
+use mathlib.Core.Bool.{true, false}
 use lib.ListN.{length}
-use Rattle.tables.proofs.Counted.{Counted, counted-start, counted-free, counted-passed, counted-whole}
+use Rattle.tables.specs.Free.{isUnallocated}
+use Rattle.tables.proofs.Counted.{Counted, free-start, free-more, free-whole}
 use Rattle.tables.proofs.count_free.Statement.{statement}
 use Rattle.tables.proofs.count_free.Tie as tie
 
 abbrev Inv-loop : tie.InvT-loop
-Inv-loop flags free₀ block₀ free block = Counted flags free block
+Inv-loop flags free₀ block₀ free block = Counted isUnallocated flags 0 free block
 
 abbrev μ-loop : tie.MeasureT-loop
 μ-loop flags free₀ block₀ free block = length flags - block
 
 loop-holds : tie.Need-loop-holds Inv-loop μ-loop
-loop-holds c = counted-start _
+loop-holds c = free-start _
 
 shared-slice-read-allocated : tie.Need-shared-slice-read-allocated Inv-loop μ-loop
 shared-slice-read-allocated c = omega arith
@@ -38,12 +40,12 @@ loop-again c =
     let inside = c .before .before .before .loop-test .taken in
     let told = c .before .allocated .ensures in
     ⊎-elim
-    (λ w. counted-free inv inside told (w .0 .taken) (w .1))
-    (λ w. counted-passed inv inside told (w .0 .left) (w .1))
+    (λ w. free-more inv inside told true (w .0 .taken) (w .1))
+    (λ w. free-more inv inside told false (w .0 .left) (w .1))
     (c .if1 .came)
 
 returns : tie.Need-returns Inv-loop μ-loop
-returns c = counted-whole (c .before .loop .inv) (c .loop-test .left)
+returns c = free-whole (c .before .loop .inv) (c .loop-test .left)
 
 pub count-free-spec : {M : Type 1} → statement M
 count-free-spec =
