@@ -321,15 +321,15 @@ trialTable =
     ∷ deleteTree Service 1 3
     ∷ []
     yields (0 ∷ 1 ∷ []) ∷ (0 ∷ 2 ∷ []) ∷ (6 ∷ []) ∷ (5 ∷ []) ∷ (3 ∷ []) ∷ [])
-    -- 2026-08: of a fresh card nothing is asked, for its root is not counted; two blocks for 21,600 seconds at 1,000 are half a cent, which is 1
-    ∷ (tick 21600
+    -- 2026-08: of a fresh card nothing is asked for a day, for its root is not counted; two blocks for 21,600 seconds at 1,000 are half a cent, which is 1
+    ∷ (tick 86400
     ∷ rent 1000
     ∷ alloc Service 0 65535 2
     ∷ rent 1000
     ∷ tick 21600
     ∷ rent 1000
     ∷ []
-    yields (0 ∷ 21600 ∷ []) ∷ (0 ∷ 0 ∷ []) ∷ (0 ∷ 1 ∷ 2 ∷ []) ∷ (0 ∷ 0 ∷ []) ∷ (0 ∷ 43200 ∷ []) ∷ (0 ∷ 1 ∷ []) ∷ [])
+    yields (0 ∷ 86400 ∷ []) ∷ (0 ∷ 0 ∷ []) ∷ (0 ∷ 1 ∷ 2 ∷ []) ∷ (0 ∷ 0 ∷ []) ∷ (0 ∷ 108000 ∷ []) ∷ (0 ∷ 1 ∷ []) ∷ [])
     -- 2026-08: a TICK counts the blocks that it finds, so a block that was freed before it is not counted; a refused TICK adds nothing
     ∷ (alloc Service 0 65535 2
     ∷ tick 86399
