@@ -16,9 +16,9 @@
  * `rt staticlib interface` makes the archive, for x86-64 Linux alone,
  * since that is what it compiles for. Whoever links it supplies memset(),
  * as any C library does, and nothing else; `nm -u` of the archive says so.
- * The deepest call, negvask_unlocking(), takes 58,208 bytes of stack below
+ * The deepest call, negvask_unlocking(), takes 58,240 bytes of stack below
  * its caller, as `tests/run.sh --benchmark` prints; what a host's bytes
- * lead to takes 38,896.
+ * lead to takes 38,976.
  *
  * All state is in memory provided by the caller: a record of six
  * numbers and seven tables. The functions keep nothing between calls,
