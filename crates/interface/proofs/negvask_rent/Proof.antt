@@ -9,6 +9,9 @@ use Rattle.interface.proofs.negvask_rent.Tie as tie
 abbrev at-perform : tie.After-slice-known16 → tie.After-perform-without-buffers
 at-perform c = c .before .before .before .before .before .before .before .before .before .before .before .before .before .before .before .before
 
+abbrev at-made : tie.After-slice-known16 → tie.After-rent-call
+at-made c = at-perform c .before .before .before .before .before .before .before .before .before .before .before
+
 -- ---- answers
 
 rent-call-requires : tie.Need-rent-call-requires
@@ -45,7 +48,7 @@ same-length-8 : tie.Need-same-length-8
 same-length-8 c = at-perform c .perform-without-buffers .kept .1 .1 .1 .1 .1 .1 .1 .0
 
 returns : tie.Need-returns
-returns c = gives-by _ _ _ (at-perform c .perform-without-buffers .ensures) (search)
+returns c = gives-by _ _ _ (at-perform c .perform-without-buffers .ensures) (at-made c .rent-call .ensures)
 
 pub negvask-rent-spec : {M : Type 1} → statement M
 negvask-rent-spec =
