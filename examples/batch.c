@@ -49,13 +49,13 @@ static const uint8_t clear[] = {
 static size_t serve(uint8_t port, const uint8_t *input, size_t len, size_t room)
 {
 	static uint8_t answers[4096];
-	uint64_t records = 0, read = 0, written = 0, unallocated = 0;
+	uint64_t records = 0, read = 0, written = 0, free_blocks = 0;
 	uint32_t stop = negvask_batch(CARD, port, input, len, answers, room, &records, &read, &written);
 
-	negvask_count_free(CARD, &unallocated);
-	printf("%s: %lu records, %lu bytes of answers, first %u, stopped by %u; %lu blocks unallocated\n",
+	negvask_count_free(CARD, &free_blocks);
+	printf("%s: %lu records, %lu bytes of answers, first %u, stopped by %u; %lu blocks free\n",
 		port == NEGVASK_HOST ? "host" : "service", (unsigned long)records, (unsigned long)written,
-		(unsigned)answers[0], (unsigned)stop, (unsigned long)unallocated);
+		(unsigned)answers[0], (unsigned)stop, (unsigned long)free_blocks);
 	return (size_t)read;
 }
 
@@ -69,6 +69,7 @@ int main(void)
 	read = serve(NEGVASK_HOST, host, sizeof host, 600);
 	/* What came before the service record is performed; block 2 is still there. */
 	serve(NEGVASK_HOST, host + read, sizeof host - read, 4096);
+	/* Block 2 is freed here, and waits: no more blocks are free than before. */
 	serve(NEGVASK_SERVICE, clear, sizeof clear, 4096);
 	printf("audit %u\n", (unsigned)negvask_audit(CARD));
 	return 0;

@@ -1,6 +1,7 @@
 /*
- * The firmware's side, as docs/FIRMWARE.md has it: a host's bytes that arrive in pieces, seconds that pass, and two
- * stored copies of the card, taken up again when the tables in memory are damaged and the later copy is too.
+ * The firmware's side, as docs/FIRMWARE.md has it: a host's bytes that arrive in pieces, seconds that pass, freed blocks
+ * that are overwritten in idle time, and two stored copies of the card, taken up again when the tables in memory are
+ * damaged and the later copy is too.
  *
  *   cc -I include examples/firmware.c path/to/libinterface.a -o firmware && ./firmware
  *
@@ -30,7 +31,13 @@ static const uint8_t sent[] = {
 };
 
 #define PIECE 20
-static size_t received;
+static size_t received = sizeof sent;
+
+/* Whether the host has sent something that is not yet received. */
+static int host_calls(void)
+{
+	return received < sizeof sent;
+}
 
 /* The next bytes of the host, so many at most; 0 when it has ended the session. */
 static size_t receive(uint8_t *to, size_t room)
@@ -175,6 +182,25 @@ static int settle(void)
 	return write_copy(evidence, 0) && load();
 }
 
+/* ---- Idle time. */
+
+/* The most blocks that are overwritten by one call, while a host may have to wait. */
+#define PORTION 4
+
+/* Overwrites the blocks that were freed, until none is left or a host calls: how many. */
+static uint64_t sweep(void)
+{
+	uint64_t swept, all = 0;
+
+	do {
+		swept = 0;
+		if (negvask_sweep(NEGVASK_LEND(&card), PORTION, &swept) != NEGVASK_DONE)
+			break;
+		all += swept;
+	} while (swept == PORTION && !host_calls());
+	return all;
+}
+
 /* ---- The recorder. */
 
 static void session(void)
@@ -182,6 +208,22 @@ static void session(void)
 	received = 0;
 	printf("session\n");
 	printf("  stopped by %u\n", (unsigned)serve_host());
+	/* The wire is reset: what is left of the session is dropped. */
+	received = sizeof sent;
+}
+
+/* At the service port a file of six blocks is allotted, and deleted with its first one. */
+static void allot_and_delete(void)
+{
+	const struct negvask_credential nothing = negvask_by_nothing();
+	uint16_t file[6];
+	uint64_t freed = 0;
+
+	negvask_alloc(NEGVASK_LEND(&card), NEGVASK_SERVICE, 0, NEGVASK_BYTES(nothing), NEGVASK_NO_HINT, 1, file, 1);
+	negvask_alloc(NEGVASK_LEND(&card), NEGVASK_SERVICE, file[0], NEGVASK_BYTES(nothing), NEGVASK_NO_HINT, 5,
+		file + 1, 5);
+	negvask_delete_tree(NEGVASK_LEND(&card), NEGVASK_SERVICE, 0, NEGVASK_BYTES(nothing), file[0], &freed);
+	printf("freed %lu\n", (unsigned long)freed);
 }
 
 /* What an accident leaves: tables that contradict each other, and a copy with a wrong byte in its contents. */
@@ -209,6 +251,8 @@ int main(void)
 	ready = ready && settle();
 	negvask_tick(NEGVASK_LEND(&card), 60, &time);
 	printf("60 seconds pass: T %lu\n", (unsigned long)time);
+	allot_and_delete();
+	printf("swept %lu\n", (unsigned long)sweep());
 	ready = ready && settle();
 
 	damage(copies[latest % 2]);

@@ -2,7 +2,7 @@
  * A short host: formats a card, has a block allotted and keyed by the service port, then writes and reads as a host,
  * by key and by reference within a window, which a shorter poll does not cut, and is refused once the window has ended.
  * It sets the read key of a new season, takes a run of blocks for an event file, points twice to the same block, clears
- * a directory with all that is in it by one call, and asks for the rent after a day.
+ * a directory with all that is in it by one call, has the freed blocks overwritten, and asks for the rent after a day.
  *
  *   cc -I include examples/host.c path/to/libinterface.a -o host && ./host
  *
@@ -27,6 +27,9 @@ NEGVASK_STORAGE(card, BLOCKS, BYTES, PLACES);
 /* Its read key of the next season. */
 #define NEXT_HIGH  0x0123456789ABCDEFu
 #define NEXT_LOW   0x0000000000000003u
+
+/* The most blocks that are overwritten by one call. */
+#define PORTION 3
 
 static void show(const char *what, uint32_t answer)
 {
@@ -108,7 +111,7 @@ int main(void)
 		negvask_read(CARD, NEGVASK_HOST, places[1], NEGVASK_BYTES(root), 0, out, BYTES));
 	printf("  refused and \"%s\" read at time %lu\n", (const char *)out, (unsigned long)value);
 
-	/* An event file takes three blocks that adjoin, from block 8 on if these are unallocated. */
+	/* An event file takes three blocks that adjoin, from block 8 on if these are free. */
 	show("host: allot a run of 3 below the first",
 		negvask_alloc_contig(CARD, NEGVASK_HOST, places[0], NEGVASK_BYTES(writer), 8, 3, file, 3));
 	printf("  blocks %u, %u and %u\n", (unsigned)file[0], (unsigned)file[1], (unsigned)file[2]);
@@ -147,12 +150,24 @@ int main(void)
 	answer = negvask_delete_tree(CARD, NEGVASK_SERVICE, 0, NEGVASK_BYTES(nothing), places[0], &value);
 	show("service: delete the first in this way", answer);
 
-	/* The last pointer to a block goes, and the block with it. */
+	/* The last pointer to a block goes, and the block is freed. */
 	answer = negvask_delete(CARD, NEGVASK_SERVICE, 0, NEGVASK_BYTES(nothing), places[1], &value);
 	show("service: delete the pointer to the second", answer);
 	printf("  freed: %lu\n", (unsigned long)value);
+	/* What was freed waits, and still holds what was written: nobody can read these four blocks, nor are they allotted. */
 	answer = negvask_count_free(CARD, &value);
-	show("count the unallocated blocks", answer);
+	show("count the free blocks", answer);
+	printf("  %lu of %d\n", (unsigned long)value, BLOCKS);
+	show("service: allot 3 blocks below root 0",
+		negvask_alloc(CARD, NEGVASK_SERVICE, 0, NEGVASK_BYTES(nothing), NEGVASK_NO_HINT, 3, file, 3));
+	/* The firmware overwrites them when it has nothing else to do, a few at a time, until none is left. */
+	do {
+		answer = negvask_sweep(CARD, PORTION, &value);
+		show("sweep 3 blocks at most", answer);
+		printf("  swept: %lu\n", (unsigned long)value);
+	} while (answer == NEGVASK_DONE && value == PORTION);
+	answer = negvask_count_free(CARD, &value);
+	show("count the free blocks", answer);
 	printf("  %lu of %d\n", (unsigned long)value, BLOCKS);
 
 	/* A day passes. Rent is due for the allocated blocks but the root, here at two cents for a block and a day. */

@@ -3,7 +3,8 @@
  *
  * The card allocates blocks, keeps the pointers between them and frees a
  * block when its last pointer goes; a block may point to another several
- * times. It opens a block to a host by the block's key; without a key, a
+ * times. A freed block waits until it is overwritten, and is free then.
+ * The card opens a block to a host by the block's key; without a key, a
  * root is open to every host, and another block by reference to one that
  * points to it and was lately opened.
  *
@@ -18,7 +19,7 @@
  * as any C library does, and nothing else; `nm -u` of the archive says so.
  * The deepest call, negvask_unlocking(), takes 58,240 bytes of stack below
  * its caller, as `tests/run.sh --benchmark` prints; what a host's bytes
- * lead to takes 38,976.
+ * lead to takes 38,992.
  *
  * All state is in memory provided by the caller: a record of six
  * numbers and seven tables. The functions keep nothing between calls,
@@ -71,7 +72,7 @@
  * The tables, always all seven and in this order:
  *
  *   flags           N bytes: 1 allocated, 2 has a read key, 4 has a
- *                   write key, added up
+ *                   write key, added up; 8 alone waiting; 0 free
  *   keys            4 * N words: read key high, low, write key high, low
  *   counts          N numbers: the multiplicities of all pointers to the
  *                   block, added up
@@ -89,14 +90,22 @@
  * take one place. A count says how often pointers to the block were made
  * and not yet taken away.
  *
+ * A block is allocated, waiting or free. negvask_alloc() and
+ * negvask_alloc_contig() take free blocks alone, and fill them with zeros.
+ * A block that negvask_delete() or negvask_delete_tree() frees waits: it
+ * has no keys, no count and no windows, no call takes, reads or writes it,
+ * and its contents stay in the memory. negvask_sweep() fills waiting
+ * blocks with zeros and makes them free. By negvask_format() they are free
+ * at once, and are not overwritten.
+ *
  * A window is open while T is less than its end. No call lets it end
  * sooner but negvask_force(), a key change, a negvask_delete() or a
  * negvask_delete_tree() that frees the block, and negvask_format(): they
  * set the end to 0.
  *
  * The total grows by negvask_tick() alone: by the seconds that pass, for
- * each block that is allocated then and no root. negvask_rent() gives what
- * it comes to in cents.
+ * each block that is allocated then and no root, and so for none that
+ * waits. negvask_rent() gives what it comes to in cents.
  *
  * A card as a caller keeps it
  * ---------------------------
@@ -189,9 +198,11 @@
  *
  * A block is sealed if it has both keys and neither is in the set. An
  * allocated block that is not listed is hidden: nothing that such a
- * session is answered depends on what it holds. A listed one need not be
- * open to the session; it is only not promised to be hidden. So what is
- * to stay secret from the holder of the keys must not be in the list.
+ * session is answered depends on what it holds. Nor does it depend on what
+ * a block holds that waits or is free, and neither is ever listed. A listed
+ * block need not be open to the session; it is only not promised to be
+ * hidden. So what is to stay secret from the holder of the keys must not
+ * be in the list.
  *
  * negvask_unlocking() lists, for a hidden block, each sealed block whose
  * write key, added alone to the set, would bring the hidden one within
@@ -278,7 +289,8 @@ extern "C" {
 /** The card is not sound: its tables contradict the record or each other,
     or hold a number that none may have; or the total is above T * 4,096. */
 #define NEGVASK_UNSOUND          2
-/** A block number is not below N, or the block is not allocated. */
+/** A block number is not below N, or the block is not allocated: it waits
+    or is free. */
 #define NEGVASK_NO_BLOCK         3
 /** An operand is out of its range, or a buffer has the wrong length; or
     the block for which negvask_unlocking() is asked is within reach. */
@@ -293,7 +305,7 @@ extern "C" {
 #define NEGVASK_NO_POINTER       8
 /** The last pointer to a block that has pointers of its own. */
 #define NEGVASK_HAS_POINTERS     9
-/** Fewer blocks are unallocated than asked for. */
+/** Fewer blocks are free than asked for; those that wait do not count. */
 #define NEGVASK_NO_SPACE        10
 /** The pointer table has too few places left. */
 #define NEGVASK_NO_PLACE        11
@@ -303,8 +315,7 @@ extern "C" {
     record that does not exist at the port, and a credential that has not
     its length, are such. */
 #define NEGVASK_MALFORMED       13
-/** Enough blocks are unallocated, but no run of them is as long as asked
-    for. */
+/** Enough blocks are free, but no run of them is as long as asked for. */
 #define NEGVASK_NO_RUN          14
 /** A block that would be freed has a write key. */
 #define NEGVASK_HAS_WRITE_KEY   15
@@ -361,8 +372,8 @@ extern "C" {
 /** The maker's and operator's port, which no host may reach. */
 #define NEGVASK_SERVICE          1
 
-/** No hint: ALLOC takes the lowest unallocated block, ALLOC_CONTIG the
-    lowest run. */
+/** No hint: ALLOC takes the lowest free block, ALLOC_CONTIG the lowest
+    run. */
 #define NEGVASK_NO_HINT      65535
 /** The longest interval of a window, in seconds. */
 #define NEGVASK_DAY          86400
@@ -586,9 +597,10 @@ static inline void negvask_key_words(uint64_t *to, const uint8_t *key)
  * No record carries it, and nothing that a host sends may lead to it.
  *
  * Time, M and the total become 0; roots are allocated, all other blocks
- * are not; keys, counts, pointers, multiplicities and windows become 0,
- * and so do the contents of the roots. Unmodified: the contents of the
- * other blocks.
+ * are free, those that waited too; keys, counts, pointers, multiplicities
+ * and windows become 0, and so do the contents of the roots. Unmodified:
+ * the contents of the other blocks. So where these must be gone, the
+ * caller frees and sweeps them first, or fills `contents` itself.
  *
  * The caller provides the record and the tables with any values in them;
  * the table lengths must fit `blocks` and `bytes`. What the record and
@@ -618,7 +630,8 @@ uint32_t negvask_format(NEGVASK_TABLES,
  * Refusals, in order:
  *   1   out of shape
  *   2   unsound: a total above T * 4,096 is such, whatever N is, and one
- *       that equals it is not
+ *       that equals it is not; and a block with flag 8 that has another
+ *       flag, a key, a count or a window, or is a root
  *
  * \return  0 or a refusal.
  */
@@ -688,12 +701,12 @@ uint32_t negvask_write(NEGVASK_TABLES,
 /**
  * \brief Allocate blocks below a reference block.
  *
- * Takes `count` blocks one by one, each the unallocated block nearest
- * the hint, the lower on a tie; without a hint the lowest. Each is
- * filled with zeros, and the reference block points to it, once. Its
- * number is put in the next place of `places`. Unmodified: the places
- * after the first `count`, keys, windows, and the contents of all other
- * blocks.
+ * Takes `count` blocks one by one, each the free block nearest the hint,
+ * the lower on a tie; without a hint the lowest. Each is filled with
+ * zeros, and the reference block points to it, once. Its number is put in
+ * the next place of `places`. A block that waits is not taken, also where
+ * the hint names it. Unmodified: the places after the first `count`, keys,
+ * windows, and the contents of all other blocks.
  *
  * The caller provides `places` with at least `count` places and keeps it.
  *
@@ -706,7 +719,7 @@ uint32_t negvask_write(NEGVASK_TABLES,
  *   3   `reference` is not below N or not allocated
  *   6   `reference` is a root and the call is a host's
  *   5   a host's credential does not open `reference` for writing
- *   10  fewer than `count` blocks are unallocated
+ *   10  fewer than `count` blocks are free
  *   11  M + `count` is above P
  *
  * \param port            NEGVASK_HOST or NEGVASK_SERVICE.
@@ -726,13 +739,14 @@ uint32_t negvask_alloc(NEGVASK_TABLES,
 /**
  * \brief Allocate blocks that adjoin below a reference block.
  *
- * Takes a run, any `count` unallocated blocks that adjoin, also inside a
- * longer stretch: the one whose first block is nearest the hint, the
- * lower on a tie; without a hint the lowest. A run that exists is always
- * found. Each of its blocks is filled with zeros, and the reference block
- * points to it, once. Its numbers are put in the first `count` places of
- * `places`, ascending. Unmodified: the places after the first `count`,
- * keys, windows, and the contents of all other blocks.
+ * Takes a run, any `count` free blocks that adjoin, also inside a longer
+ * stretch: the one whose first block is nearest the hint, the lower on a
+ * tie; without a hint the lowest. A run that exists is always found;
+ * blocks with a waiting one among them are none. Each of its blocks is
+ * filled with zeros, and the reference block points to it, once. Its
+ * numbers are put in the first `count` places of `places`, ascending.
+ * Unmodified: the places after the first `count`, keys, windows, and the
+ * contents of all other blocks.
  *
  * The caller provides `places` with at least `count` places and keeps it.
  *
@@ -745,8 +759,8 @@ uint32_t negvask_alloc(NEGVASK_TABLES,
  *   3   `reference` is not below N or not allocated
  *   6   `reference` is a root and the call is a host's
  *   5   a host's credential does not open `reference` for writing
- *   10  fewer than `count` blocks are unallocated
- *   14  no `count` unallocated blocks adjoin
+ *   10  fewer than `count` blocks are free
+ *   14  no `count` free blocks adjoin
  *   11  M + `count` is above P
  *
  * \param port            NEGVASK_HOST or NEGVASK_SERVICE.
@@ -805,10 +819,11 @@ uint32_t negvask_create(NEGVASK_TABLES,
  *
  * The pointer's multiplicity and the destination's count shrink by 1. At
  * multiplicity 0 the pointer gives up its place, and M shrinks by 1. At
- * count 0 the destination is freed: its flags, keys and windows become 0.
- * `*value` is set to 1 if it was freed, else to 0. Unmodified: contents,
- * those of a freed block too, and the rows of all other blocks; where the
- * multiplicity does not become 0, `pointers` and M too.
+ * count 0 the destination is freed: its keys and windows become 0, and its
+ * flags 8, so that it waits. `*value` is set to 1 if it was freed, else to
+ * 0. Unmodified: contents, those of a freed block too until it is swept,
+ * and the rows of all other blocks; where the multiplicity does not become
+ * 0, `pointers` and M too.
  *
  * Refusals, in order:
  *   13  `port` is neither 0 nor 1; the credential is ill formed
@@ -841,11 +856,11 @@ uint32_t negvask_delete(NEGVASK_TABLES,
  * allocated block that is no root and whose every pointer comes from freed
  * blocks. All pointers from freed blocks go, whatever their multiplicity.
  * M shrinks by the number of pointers that go, and the count of each block
- * that stays by the multiplicities of those that led to it. The flags,
- * keys, counts and windows of freed blocks become 0. `*value` is set to
- * how many were freed; at 0 the pointer is gone all the same. Unmodified:
- * contents, those of freed blocks too, and the rows of all other blocks
- * but for their counts.
+ * that stays by the multiplicities of those that led to it. The keys,
+ * counts and windows of freed blocks become 0, and their flags 8, so that
+ * they wait. `*value` is set to how many were freed; at 0 the pointer is
+ * gone all the same. Unmodified: contents, those of freed blocks too until
+ * they are swept, and the rows of all other blocks but for their counts.
  *
  * The source may be freed too, where only freed blocks point to it. Where
  * the other pointers lead from the destination back to it, nothing is
@@ -987,8 +1002,9 @@ uint32_t negvask_renew(NEGVASK_TABLES,
 uint32_t negvask_force(NEGVASK_TABLES, uint16_t block);
 
 /**
- * \brief Count the unallocated blocks.
+ * \brief Count the free blocks.
  *
+ * Those that wait are not among them; negvask_sweep() makes them free.
  * Unmodified: the record and all tables.
  *
  * Refusals, in order:
@@ -1004,12 +1020,12 @@ uint32_t negvask_count_free(NEGVASK_TABLES, uint64_t *value);
  * \brief Let time pass.
  *
  * T grows by `seconds`; 0 only tells it. The total grows by `seconds`
- * times the number of blocks that are allocated and no roots. The firmware
- * calls this as time passes, and any host may send TICK too: T counts
- * seconds that a host can let pass and nobody can take back, and the total
- * what is due for them. At the end, where every further second is refused
- * 12, no window ends by itself. Unmodified: all tables, and the record but
- * for T and the total.
+ * times the number of blocks that are allocated and no roots; those that
+ * wait do not count. The firmware calls this as time passes, and any host
+ * may send TICK too: T counts seconds that a host can let pass and nobody
+ * can take back, and the total what is due for them. At the end, where
+ * every further second is refused 12, no window ends by itself.
+ * Unmodified: all tables, and the record but for T and the total.
  *
  * Refusals, in order:
  *   1   out of shape
@@ -1044,6 +1060,34 @@ uint32_t negvask_tick(NEGVASK_TABLES, uint64_t seconds, uint64_t *value);
  * \return  0 or a refusal.
  */
 uint32_t negvask_rent(NEGVASK_TABLES, uint32_t price, uint64_t *cents);
+
+/**
+ * \brief Overwrite blocks that were freed, and make them free.
+ *
+ * The contents of the `most` lowest waiting blocks, or of all if fewer
+ * wait, are filled with zeros, and their flags become 0. `*swept` is set
+ * to how many they are: 0 where none waits or `most` is 0, and less than
+ * `most` where none is left waiting. UINT32_MAX sweeps all. Unmodified:
+ * the contents and flags of all other blocks, all other tables, and the
+ * record.
+ *
+ * No record carries it, so nothing is swept unless the firmware calls it:
+ * in idle time, a few blocks at a time, and before negvask_alloc() is to
+ * have the room. It asks for no credential, and what it gives depends on
+ * which blocks wait alone, so the firmware may call it at any time and for
+ * any host.
+ *
+ * Takes the time of an audit and of filling these blocks.
+ *
+ * Refusals, in order:
+ *   1   out of shape
+ *   2   unsound
+ *
+ * \param most   at most so many blocks are swept; any number.
+ * \param swept  receives how many; unmodified when refused.
+ * \return  0 or a refusal.
+ */
+uint32_t negvask_sweep(NEGVASK_TABLES, uint32_t most, uint64_t *swept);
 
 /**
  * \brief List the blocks within reach of a set of keys: the fitter's call,

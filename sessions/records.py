@@ -346,11 +346,11 @@ REFUSALS = {
     7: "ends equal or multiplicity at 65,535",
     8: "no such pointer",
     9: "destination has pointers of its own",
-    10: "too few unallocated blocks",
+    10: "too few free blocks",
     11: "too few places for pointers",
     12: "end of the clock",
     13: "malformed record, the session ends",
-    14: "too few unallocated blocks that adjoin",
+    14: "too few free blocks that adjoin",
     15: "a block that would be freed has a write key",
 }
 
@@ -363,6 +363,6 @@ def in_words(name: str, answer: list[int]) -> str:
     listed = " ".join(str(result) for result in results)
     if name == "DELETE":
         return "done: freed" if results == [1] else "done: not freed"
-    words = {"READ": "bytes {}", "ALLOC": "blocks {}", "ALLOC_CONTIG": "blocks {}", "FREE": "{} unallocated", "TICK": "time {}",
+    words = {"READ": "bytes {}", "ALLOC": "blocks {}", "ALLOC_CONTIG": "blocks {}", "FREE": "{} free", "TICK": "time {}",
              "DELETE_TREE": "{} freed"}
     return "done: " + words[name].format(listed) if name in words else "done"

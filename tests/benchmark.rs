@@ -6,7 +6,7 @@
 //! The model is the differential test's, built for release: it favours plain rules over speed.
 //! Call records are served by `negvask_batch`, with one audit, beside `negvask_serve`, with one for each.
 //! The two lists of the reach report stand beside plain walks over the pointers. DELETE_TREE of a large tree stands beside
-//! a plain list of work, and beside one DELETE after the other.
+//! a plain list of work, and beside one DELETE after the other. SWEEP stands beside a plain fill of the same blocks.
 //! Times are the best of many rounds, taken in turns; none is asserted.
 
 #[allow(dead_code)]
@@ -17,7 +17,7 @@ mod model;
 use library::{credential_bytes, new_key_bytes, Direct, Lent, LentBatch, LentBuffers, Tables, HOST};
 use model::{
     key_words, word, Buffers, Call, Card, Credential, Key, Operation, Port, Progress, ALLOCATED, DAY,
-    HIGHEST_MULTIPLICITY, HIGHEST_PRICE, PER_CENT, READ_KEY, TIME_END, WRITE_KEY,
+    HIGHEST_MULTIPLICITY, HIGHEST_PRICE, PER_CENT, READ_KEY, TIME_END, WAITING, WRITE_KEY,
 };
 use std::cell::RefCell;
 use std::collections::BTreeSet;
@@ -74,14 +74,15 @@ mod plain {
         let keys = card.keys.chunks_exact(4);
         let windows = card.windows.chunks_exact(2);
         for ((((b, &f), &count), k), w) in (0..n).zip(flags).zip(&card.counts).zip(keys).zip(windows) {
-            if f >= 8 || count != found[b] || w[0] > latest || w[1] > latest {
+            if count != found[b] || w[0] > latest || w[1] > latest {
                 return 2;
             }
             if f & 1 == 0 {
-                if b < r || f != 0 || count != 0 || k[0] | k[1] | k[2] | k[3] | w[0] | w[1] != 0 {
+                if b < r || f & !WAITING != 0 || count != 0 || k[0] | k[1] | k[2] | k[3] | w[0] | w[1] != 0 {
                     return 2;
                 }
-            } else if (b >= r && count == 0)
+            } else if f >= 8
+                || (b >= r && count == 0)
                 || (f & READ_KEY == 0 && k[0] | k[1] != 0)
                 || (f & WRITE_KEY == 0 && k[2] | k[3] != 0)
             {
@@ -212,7 +213,7 @@ mod plain {
             refusal => return refusal,
         }
         let (n, bytes) = (card.flags.len(), card.info[2] as usize);
-        if card.flags.iter().filter(|&&f| f & 1 == 0).count() < count as usize {
+        if card.flags.iter().filter(|&&f| f == 0).count() < count as usize {
             return 10;
         }
         if card.info[3] as usize + count as usize > card.pointers.len() {
@@ -221,10 +222,10 @@ mod plain {
         // Outward from the hint, below before above; what was taken stays behind.
         let (mut below, mut above) = (hint as isize, hint as usize + 1);
         for place in &mut places[..count as usize] {
-            while below >= 0 && card.flags[below as usize] & 1 != 0 {
+            while below >= 0 && card.flags[below as usize] != 0 {
                 below -= 1;
             }
-            while above < n && card.flags[above] & 1 != 0 {
+            while above < n && card.flags[above] != 0 {
                 above += 1;
             }
             let lower = below >= 0 && (above >= n || hint as isize - below <= above as isize - hint as isize);
@@ -249,7 +250,7 @@ mod plain {
         let (mut free, mut adjoining) = (0, 0);
         let (mut first, mut nearest) = (0, usize::MAX);
         for (b, &f) in card.flags.iter().enumerate() {
-            if f & 1 != 0 {
+            if f != 0 {
                 adjoining = 0;
                 continue;
             }
@@ -362,7 +363,7 @@ mod plain {
         card.counts[d] -= 1;
         *value = (card.counts[d] == 0) as u64;
         if card.counts[d] == 0 {
-            card.flags[d] = 0;
+            card.flags[d] = WAITING;
             card.keys[4 * d..4 * d + 4].fill(0);
             card.windows[2 * d..2 * d + 2].fill(0);
         }
@@ -416,7 +417,7 @@ mod plain {
         card.info[3] = left as u64;
         card.counts.copy_from_slice(&counts[..n]);
         for b in queue[..end].iter().map(|&b| b as usize) {
-            card.flags[b] = 0;
+            card.flags[b] = WAITING;
             card.keys[4 * b..4 * b + 4].fill(0);
             card.windows[2 * b..2 * b + 2].fill(0);
         }
@@ -482,6 +483,27 @@ mod plain {
             return 16;
         }
         *value = (card.info[5] * price as u64 + PER_CENT / 2) / PER_CENT;
+        0
+    }
+
+    pub fn sweep(card: &mut Card, most: u32, value: &mut u64) -> u32 {
+        match audit(card) {
+            0 => {}
+            refusal => return refusal,
+        }
+        let bytes = card.info[2] as usize;
+        let mut swept = 0;
+        for (f, block) in card.flags.iter_mut().zip(card.contents.chunks_exact_mut(bytes)) {
+            if swept == most {
+                break;
+            }
+            if *f == WAITING {
+                *f = 0;
+                block.fill(0);
+                swept += 1;
+            }
+        }
+        *value = swept as u64;
         0
     }
 
@@ -1267,6 +1289,63 @@ fn tree_table(row: &Row) {
     );
 }
 
+// ---- SWEEP ----
+
+/// How many blocks wait and are swept at each size, and the name of the row.
+fn sweep_of(size: Size) -> (usize, &'static str) {
+    match size.blocks {
+        4_096 => (4_000, "SWEEP 4000"),
+        512 => (400, "SWEEP 400"),
+        _ => (8, "SWEEP 8"),
+    }
+}
+
+/// A card on which so many blocks wait, between allocated ones that point to each other as often as there is room for.
+fn waiting_card(size: Size, waiting: usize) -> Card {
+    let n = size.blocks;
+    let taken: Vec<usize> = (1..n).step_by((n - 1) / (n - 1 - waiting)).take(n - 1 - waiting).collect();
+    let most = taken.len() * taken.len() * 9 / 10;
+    let mut start = card(size, &taken, size.places - size.places.min(most));
+    start.flags.iter_mut().filter(|f| **f == 0).for_each(|f| *f = WAITING);
+    assert_eq!((plain::audit(&start), start.waiting_blocks().len()), (0, waiting));
+    start
+}
+
+/// SWEEP of all that wait. Flags and contents are put back before each round. The floor has the fill of these blocks alone.
+fn sweep_row(size: Size, pass: f64) -> Row {
+    let (waiting, name) = sweep_of(size);
+    let (start, call) = (waiting_card(size, waiting), Direct::Sweep { most: waiting as u32 });
+    let mut s = side(start.clone());
+    let blocks = start.waiting_blocks();
+    let swept = RefCell::new(0);
+    let [fill, library, plain] = in_turns(
+        &mut s,
+        1,
+        [
+            &|s| {
+                s.plain.contents.copy_from_slice(&start.contents);
+                timed(|| blocks.iter().for_each(|b| black_box(&mut s.plain.contents[512 * b..512 * (b + 1)]).fill(0)))
+            },
+            &|s| {
+                s.tables.flags.load(&start.flags);
+                s.tables.contents.load(&start.contents);
+                timed(|| done(s.tables.call(&call, &mut s.buffers)))
+            },
+            &|s| {
+                s.plain.flags.copy_from_slice(&start.flags);
+                s.plain.contents.copy_from_slice(&start.contents);
+                let value = &mut *swept.borrow_mut();
+                timed(|| done(plain::sweep(&mut s.plain, black_box(waiting as u32), black_box(value))))
+            },
+        ],
+    );
+    assert_eq!(s.tables.difference(&s.plain), None, "library and plain version differ");
+    let results = (s.buffers.value.values()[0], swept.into_inner());
+    assert_eq!(results, (waiting as u64, waiting as u64), "not all that wait");
+    let model = model_time(&start, &[], &call);
+    Row { call: name, size, library, plain, model, floor: pass + fill, against: plain, target: Some(1.5) }
+}
+
 // ---- The stack ----
 
 const STACK: usize = 256 * 1024;
@@ -1318,6 +1397,8 @@ fn deepest() -> (&'static str, usize) {
         ("FREE", Direct::Free),
         ("TICK", Direct::Tick { seconds: 1 }),
         ("RENT", Direct::Rent { price: HIGHEST_PRICE }),
+        // Of what DELETE_TREE has freed.
+        ("SWEEP", Direct::Sweep { most: 64 }),
     ];
     let depths = calls.iter().map(|(name, call)| {
         let depth = stack_of(&mut || done(s.tables.call(call, &mut s.buffers)));
@@ -1462,7 +1543,7 @@ fn rows(size: Size) -> Vec<Row> {
     let full_model = |call: &Direct| model_time(&full, &[], call);
     assert_eq!(s.tables.difference(&s.plain), None, "library and plain version differ");
 
-    // ALLOC and ALLOC_CONTIG from block 1 by a hint in the middle; the blocks are freed again outside the time.
+    // ALLOC and ALLOC_CONTIG from block 1 by a hint in the middle; the blocks are freed and swept outside the time.
     let hint = size.blocks as u16 / 2;
     let allot = |taken: &[usize], count: u8, request: &Direct, plain: PlainAlloc| {
         let spare = card(size, taken, 64.min(size.places / 4));
@@ -1483,6 +1564,7 @@ fn rows(size: Size) -> Vec<Row> {
                         };
                         done(s.tables.call(&undo, &mut s.buffers));
                     }
+                    done(s.tables.call(&Direct::Sweep { most: count as u32 }, &mut s.buffers));
                     time
                 },
                 &|s| {
@@ -1492,6 +1574,7 @@ fn rows(size: Size) -> Vec<Row> {
                     places[..count as usize]
                         .iter()
                         .for_each(|&d| done(plain::delete(&mut s.plain, 1, d, WRITER, &mut value)));
+                    done(plain::sweep(&mut s.plain, count as u32, &mut value));
                     time
                 },
             ],
@@ -1546,6 +1629,7 @@ fn rows(size: Size) -> Vec<Row> {
     rows.push(row("RENEW", renew[0], renew[1], full_model(&renew_call), pass, renew[1], Some(1.5)));
     rows.push(row("TICK", tick[0], tick[1], full_model(&tick_call), pass, tick[1], Some(1.5)));
     rows.push(row("RENT", rent[0], rent[1], full_model(&rent_call), pass, rent[1], Some(1.5)));
+    rows.push(sweep_row(size, pass));
     rows
 }
 
@@ -1583,7 +1667,7 @@ fn main() {
     println!();
     println!("Targets: AUDIT against the plain audit; READ and WRITE against the library's own audit plus a copy of");
     println!("B bytes; ALLOC 64, CONTIG 64, CREATE, CREATE again, DELETE, DELETE one of 2, TREE 4000, KEY_READ,");
-    println!("KEY_WRITE, RENEW, TICK and RENT against the plain call, audit included.");
+    println!("KEY_WRITE, RENEW, TICK, RENT and SWEEP against the plain call, audit included.");
     println!();
     println!("| growth of | from | to | N + P grows | library grows | plain grows |");
     println!("| --- | --- | --- | ---: | ---: | ---: |");

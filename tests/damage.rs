@@ -1,10 +1,10 @@
 //! Damage to a sound card, one clause of shape or soundness at a time.
 
-use crate::model::{ends, word, Card, ALLOCATED, DAY, HIGHEST_MULTIPLICITY, READ_KEY, TIME_END, WRITE_KEY};
+use crate::model::{ends, word, Card, ALLOCATED, DAY, HIGHEST_MULTIPLICITY, READ_KEY, TIME_END, WAITING, WRITE_KEY};
 use crate::random_card::Random;
 
 /// Ways to damage a sound card, by clause of shape and of soundness.
-pub const DAMAGES: [&str; 64] = [
+pub const DAMAGES: [&str; 73] = [
     "record short",
     "record long",
     "record empty",
@@ -41,12 +41,19 @@ pub const DAMAGES: [&str; 64] = [
     "windows long",
     "contents short",
     "contents long",
-    "flags 8 and above",
-    "root unallocated",
-    "unallocated with a key flag",
-    "unallocated with a key word",
-    "unallocated with a count",
-    "unallocated with a window",
+    "flags 16 and above",
+    "allocated and waiting",
+    "waiting with a key flag",
+    "waiting with another flag",
+    "root free",
+    "root waiting",
+    "free with a key flag",
+    "free with a key word",
+    "free with a count",
+    "free with a window",
+    "waiting with a key word",
+    "waiting with a count",
+    "waiting with a window",
     "absent key not 0",
     "pointers not ascending",
     "pointer twice",
@@ -56,7 +63,9 @@ pub const DAMAGES: [&str; 64] = [
     "M one more",
     "M one less",
     "source past N or free",
+    "source waiting",
     "destination past N or free",
+    "destination waiting",
     "destination a root",
     "equal ends",
     "count too high",
@@ -74,12 +83,44 @@ pub const DAMAGES: [&str; 64] = [
 /// The first of them are faults of shape, the others of soundness.
 pub const SHAPE_DAMAGES: usize = 36;
 
+/// One of the unallocated blocks, which waits then.
+fn let_wait(rnd: &mut Random, card: &mut Card, unallocated: &[usize]) -> usize {
+    let b = rnd.of(unallocated);
+    card.flags[b] = WAITING;
+    b
+}
+
+/// Gives a root these flags, without keys and windows.
+fn unallocate_root(rnd: &mut Random, card: &mut Card, flags: u8) {
+    let b = rnd.below(card.roots() as u64) as usize;
+    card.flags[b] = flags;
+    card.keys[4 * b..4 * b + 4].fill(0);
+    card.windows[2 * b..2 * b + 2].fill(0);
+}
+
+/// A word of a key in one of these blocks, which have none.
+fn put_key_word(rnd: &mut Random, card: &mut Card, blocks: &[usize]) {
+    card.keys[4 * rnd.of(blocks) + rnd.below(4) as usize] = rnd.of(&[1, 1 << 63, u64::MAX]);
+}
+
+/// A count for one of these blocks, to which nothing points.
+fn put_count(rnd: &mut Random, card: &mut Card, blocks: &[usize]) {
+    card.counts[rnd.of(blocks)] = rnd.of(&[1, 256, 65_536, u32::MAX]);
+}
+
+/// A window of one of these blocks, which have none.
+fn put_window(rnd: &mut Random, card: &mut Card, blocks: &[usize]) {
+    let end = rnd.of(&[1, card.info[4].max(1), card.info[4] + 1]);
+    card.windows[2 * rnd.of(blocks) + rnd.below(2) as usize] = end;
+}
+
 /// Damages the card; false where this card has no place for it.
 pub fn damage(rnd: &mut Random, card: &mut Card, which: usize) -> bool {
     let (n, r, m, p) = (card.blocks(), card.roots(), card.used(), card.pointers.len());
     let all: Vec<usize> = (0..n).collect();
     let allocated: Vec<usize> = all.iter().copied().filter(|&b| card.allocated(b)).collect();
-    let free: Vec<usize> = all.iter().copied().filter(|&b| !card.allocated(b)).collect();
+    let unallocated: Vec<usize> = all.iter().copied().filter(|&b| !card.allocated(b)).collect();
+    let free: Vec<usize> = all.iter().copied().filter(|&b| card.free(b)).collect();
     let used: Vec<(u32, u16)> = card.in_use().collect();
     // These change or add one pointer, keeping order and counts right, so that only the clause in question fails.
     let replace = |card: &mut Card, at: usize, new: (u32, u16)| {
@@ -161,28 +202,36 @@ pub fn damage(rnd: &mut Random, card: &mut Card, which: usize) -> bool {
         "windows long" => card.windows.push(0),
         "contents short" => card.contents.truncate(card.contents.len() - 1),
         "contents long" => card.contents.push(0),
-        "flags 8 and above" => {
+        "flags 16 and above" => {
             let b = rnd.of(&all);
-            card.flags[b] |= rnd.of(&[8, 16, 32, 64, 128, 248]);
+            card.flags[b] |= rnd.of(&[16, 32, 64, 128, 240]);
         }
-        "root unallocated" => {
-            let b = rnd.below(r as u64) as usize;
-            card.flags[b] = 0;
-            card.keys[4 * b..4 * b + 4].fill(0);
-            card.windows[2 * b..2 * b + 2].fill(0);
+        "allocated and waiting" => card.flags[rnd.of(&allocated)] |= WAITING,
+        "waiting with a key flag" if !unallocated.is_empty() => {
+            card.flags[rnd.of(&unallocated)] = WAITING | rnd.of(&[READ_KEY, WRITE_KEY, READ_KEY | WRITE_KEY]);
         }
-        "unallocated with a key flag" if !free.is_empty() => {
+        "waiting with another flag" if !unallocated.is_empty() => {
+            card.flags[rnd.of(&unallocated)] = WAITING | rnd.of(&[16, 32, 64, 128, 240]);
+        }
+        "root free" => unallocate_root(rnd, card, 0),
+        "root waiting" => unallocate_root(rnd, card, WAITING),
+        "free with a key flag" if !free.is_empty() => {
             card.flags[rnd.of(&free)] = rnd.of(&[READ_KEY, WRITE_KEY, READ_KEY | WRITE_KEY]);
         }
-        "unallocated with a key word" if !free.is_empty() => {
-            card.keys[4 * rnd.of(&free) + rnd.below(4) as usize] = rnd.of(&[1, 1 << 63, u64::MAX]);
+        "free with a key word" if !free.is_empty() => put_key_word(rnd, card, &free),
+        "free with a count" if !free.is_empty() => put_count(rnd, card, &free),
+        "free with a window" if !free.is_empty() => put_window(rnd, card, &free),
+        "waiting with a key word" if !unallocated.is_empty() => {
+            let b = let_wait(rnd, card, &unallocated);
+            put_key_word(rnd, card, &[b]);
         }
-        "unallocated with a count" if !free.is_empty() => {
-            card.counts[rnd.of(&free)] = rnd.of(&[1, 256, 65_536, u32::MAX])
+        "waiting with a count" if !unallocated.is_empty() => {
+            let b = let_wait(rnd, card, &unallocated);
+            put_count(rnd, card, &[b]);
         }
-        "unallocated with a window" if !free.is_empty() => {
-            card.windows[2 * rnd.of(&free) + rnd.below(2) as usize] =
-                rnd.of(&[1, card.info[4].max(1), card.info[4] + 1]);
+        "waiting with a window" if !unallocated.is_empty() => {
+            let b = let_wait(rnd, card, &unallocated);
+            put_window(rnd, card, &[b]);
         }
         "absent key not 0" => {
             let b = rnd.of(&allocated);
@@ -225,11 +274,21 @@ pub fn damage(rnd: &mut Random, card: &mut Card, which: usize) -> bool {
             let source = if free.is_empty() || rnd.percent(50) { rnd.of(&[n, 65_535]) } else { rnd.of(&free) };
             replace(card, i, (word(source, destination), used[i].1));
         }
+        "source waiting" if m > 0 && !unallocated.is_empty() => {
+            let i = rnd.below(m as u64) as usize;
+            let source = let_wait(rnd, card, &unallocated);
+            replace(card, i, (word(source, ends(used[i].0).1), used[i].1));
+        }
         "destination past N or free" if m > 0 => {
             let i = rnd.below(m as u64) as usize;
             let source = ends(used[i].0).0;
             let destination = if free.is_empty() || rnd.percent(50) { rnd.of(&[n, 65_535]) } else { rnd.of(&free) };
             replace(card, i, (word(source, destination), used[i].1));
+        }
+        "destination waiting" if m > 0 && !unallocated.is_empty() => {
+            let i = rnd.below(m as u64) as usize;
+            let destination = let_wait(rnd, card, &unallocated);
+            replace(card, i, (word(ends(used[i].0).0, destination), used[i].1));
         }
         "destination a root" if m < p => {
             let destination = rnd.below(r as u64) as usize;
@@ -287,7 +346,7 @@ pub fn damage(rnd: &mut Random, card: &mut Card, which: usize) -> bool {
             }
             card.multiplicities.swap(i, i + 1);
         }
-        "allocated without pointer" if !free.is_empty() => card.flags[rnd.of(&free)] = ALLOCATED,
+        "allocated without pointer" if !unallocated.is_empty() => card.flags[rnd.of(&unallocated)] = ALLOCATED,
         "window past T + 86400" => {
             let end = rnd.of(&[card.info[4] + DAY + 1, TIME_END + DAY + 1, u64::MAX]);
             card.windows[2 * rnd.of(&allocated) + rnd.below(2) as usize] = end;

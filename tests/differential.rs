@@ -8,7 +8,7 @@
 //! - bytes of any sort at the ports, service records at the host port, all 256 kinds, and numbers that no port has;
 //! - the reach report: what is within reach of keys, and which blocks' write keys would open a hidden one;
 //! - secrecy: one host session of calls, and one of bytes, on two cards that differ in hidden and unallocated contents
-//!   only.
+//!   only, those of waiting blocks among them.
 //!
 //! Options: --calls N --seed S. Exit status 1 on a difference, or at the default size on a pair of call and answer,
 //! a stop of a batch or another case that can occur and did not.
@@ -28,11 +28,11 @@ use batch::{batches, Batches};
 use damage::{damage, DAMAGES, SHAPE_DAMAGES};
 use library::{Direct, LentBuffers, Tables, HOST, SERVICE};
 use model::{
-    cents, ends, number, port_of, word, Buffers, Call, Card, Operation, Port, CANNOT_POINT, HAS_POINTERS,
-    HAS_WRITE_KEY, HIGHEST_MULTIPLICITY, HIGHEST_PRICE, HOST_KINDS, NO_PLACE, PER_CENT, READ_KEY, SERVICE_KINDS,
-    TIME_END, WRITE_KEY,
+    cents, ends, number, port_of, word, Buffers, Call, Card, Credential, Operation, Port, ALLOCATED, CANNOT_POINT,
+    HAS_POINTERS, HAS_WRITE_KEY, HIGHEST_MULTIPLICITY, HIGHEST_PRICE, HOST_KINDS, NOT_OPENED, NO_BLOCK, NO_PLACE,
+    NO_RUN, NO_SPACE, PER_CENT, READ_KEY, SERVICE_KINDS, TIME_END, WAITING, WRITE_KEY,
 };
-use random_call::{buffers, random_format, spoilt_record, Chooser};
+use random_call::{buffers, longest_run, random_format, spoilt_record, Chooser};
 use random_card::{random_card, random_size, Random, Size, KEYS};
 use reach::Reports;
 use secrecy::{byte_secrecy, secrecy, ByteSecrecy, Secrecy};
@@ -46,8 +46,8 @@ const DEFAULT_SEED: u64 = 1;
 
 // ---- Counting what was reached ----
 
-/// Each at the place of its host kind, and behind them RENT, which has none.
-const CALLS: [&str; 16] = [
+/// Each at the place of its host kind, and behind them RENT and SWEEP, which have none.
+const CALLS: [&str; 17] = [
     "FORMAT",
     "READ",
     "WRITE",
@@ -64,6 +64,7 @@ const CALLS: [&str; 16] = [
     "KEY_WRITE",
     "DELETE_TREE",
     "RENT",
+    "SWEEP",
 ];
 
 /// Whether the call has a port of its own, and so a credential.
@@ -410,9 +411,9 @@ enum Seconds {
     AllThatAreLeft,
 }
 
-/// What a TICK finds: its seconds, the total, and whether there are blocks that rent is paid for. What becomes of T and the
-/// total shows in the cards.
-type Ticking = (Seconds, Total, bool);
+/// What a TICK finds: its seconds, the total, whether there are blocks that rent is paid for, and whether some wait, for
+/// which none is paid. What becomes of T and the total shows in the cards.
+type Ticking = (Seconds, Total, bool, bool);
 
 /// What the call adds to T and the total, if it is done.
 fn ticking(card: &Card, call: &Call) -> Option<Ticking> {
@@ -425,7 +426,7 @@ fn ticking(card: &Card, call: &Call) -> Option<Ticking> {
         _ if card.time() as u128 + *seconds as u128 + 1 == TIME_END as u128 => Seconds::AllThatAreLeft,
         _ => Seconds::Some,
     };
-    Some((sort, Total::of(card), card.rented_blocks() > 0))
+    Some((sort, Total::of(card), card.rented_blocks() > 0, !card.waiting_blocks().is_empty()))
 }
 
 /// Every such TICK; one of all seconds that are left with blocks that it adds for.
@@ -437,7 +438,10 @@ fn tickings() -> Vec<Ticking> {
         (Seconds::Some, true),
         (Seconds::AllThatAreLeft, true),
     ];
-    sorts.into_iter().flat_map(|(seconds, rented)| TOTALS.map(|total| (seconds, total, rented))).collect()
+    let with_totals = sorts.into_iter().flat_map(|(seconds, rented)| TOTALS.map(|total| (seconds, total, rented)));
+    with_totals
+        .flat_map(|(seconds, total, rented)| [false, true].map(|waits| (seconds, total, rented, waits)))
+        .collect()
 }
 
 /// The price of a RENT.
@@ -505,6 +509,190 @@ fn charged(before: &Card, after: &Card, call: &Call) -> bool {
     after.total() as u128 == before.total() as u128 + seconds * pointed_to
 }
 
+/// Which block of a call waits, the first that is looked at.
+#[derive(Clone, Copy, Debug, PartialEq, Eq, PartialOrd, Ord)]
+enum Named {
+    /// The block itself, or the source.
+    Block,
+    Destination,
+    /// The credential is a reference to it.
+    Reference,
+}
+
+/// A call that names a block which waits: the call's place, its port, and which block it is.
+type WaitingNamed = (usize, Port, Named);
+
+fn waiting_named(card: &Card, port: Port, call: &Call) -> Option<WaitingNamed> {
+    let (block, destination, credential) = match call {
+        Call::Read { block, credential, .. }
+        | Call::Write { block, credential, .. }
+        | Call::Alloc { reference: block, credential, .. }
+        | Call::AllocContig { reference: block, credential, .. }
+        | Call::KeyRead { block, credential, .. }
+        | Call::KeyWrite { block, credential, .. } => (*block, None, Some(*credential)),
+        Call::Create { source, source_credential, destination, .. } => {
+            (*source, Some(*destination), Some(*source_credential))
+        }
+        Call::Delete { source, credential, destination } | Call::DeleteTree { source, credential, destination } => {
+            (*source, Some(*destination), Some(*credential))
+        }
+        Call::Renew { block, .. } | Call::Force { block } => (*block, None, None),
+        _ => return None,
+    };
+    if !card.shaped() {
+        return None;
+    }
+    let waits = |b: u16| card.waiting(b as usize);
+    let named = match credential {
+        _ if waits(block) => Named::Block,
+        _ if destination.is_some_and(waits) => Named::Destination,
+        Some(Credential::Reference(r)) if port == Port::Host && waits(r) => Named::Reference,
+        _ => return None,
+    };
+    Some((index(&Direct::from(port, call)).0, port, named))
+}
+
+/// Every such call with its answer.
+fn all_waiting_named() -> Vec<(WaitingNamed, u32)> {
+    let mut all = vec![];
+    for call in ["READ", "WRITE", "ALLOC", "ALLOC_CONTIG", "KEY_READ", "KEY_WRITE", "CREATE", "DELETE", "DELETE_TREE"] {
+        let place = CALLS.iter().position(|name| *name == call).unwrap();
+        for port in [Port::Host, Port::Service] {
+            all.push(((place, port, Named::Block), NO_BLOCK));
+            if ["CREATE", "DELETE", "DELETE_TREE"].contains(&call) {
+                all.push(((place, port, Named::Destination), NO_BLOCK));
+            }
+        }
+        all.push(((place, Port::Host, Named::Reference), NOT_OPENED));
+    }
+    all.extend([7, 8].map(|place| ((place, Port::Host, Named::Block), NO_BLOCK)));
+    all
+}
+
+/// How waiting blocks stand in the way of an ALLOC or an ALLOC_CONTIG, the first that holds.
+#[derive(Clone, Copy, Debug, PartialEq, Eq, PartialOrd, Ord)]
+enum InTheWay {
+    /// Enough blocks are unallocated, but so many of them wait that too few are free.
+    TooFewFree,
+    /// So many unallocated blocks adjoin, but not so many free ones.
+    NoFreeRun,
+    /// The block of the hint waits.
+    Hint,
+    /// Others wait.
+    Elsewhere,
+    None,
+}
+
+/// What an ALLOC or an ALLOC_CONTIG finds: whether the blocks are to adjoin, its port, and how waiting blocks are in its way.
+type Allotment = (bool, Port, InTheWay);
+
+/// The answers of a call that comes to look for blocks and has places for their pointers.
+const ALLOTMENT_ANSWERS: [u32; 3] = [0, NO_SPACE, NO_RUN];
+
+fn allotment(card: &Card, port: Port, call: &Call) -> Option<Allotment> {
+    let (adjoining, hint, count) = match call {
+        Call::Alloc { hint, count, .. } => (false, *hint, *count as usize),
+        Call::AllocContig { hint, count, .. } => (true, *hint, *count as usize),
+        _ => return None,
+    };
+    if !card.shaped() {
+        return None;
+    }
+    let (free, waiting) = (card.free_blocks(), card.waiting_blocks().len());
+    let run = |property: &dyn Fn(usize) -> bool| longest_run(card, property);
+    let in_the_way = match () {
+        _ if waiting == 0 => InTheWay::None,
+        _ if free < count && count <= free + waiting => InTheWay::TooFewFree,
+        _ if adjoining && run(&|b| card.free(b)) < count && count <= run(&|b| !card.allocated(b)) => {
+            InTheWay::NoFreeRun
+        }
+        _ if card.waiting(hint as usize) => InTheWay::Hint,
+        _ => InTheWay::Elsewhere,
+    };
+    Some((adjoining, port, in_the_way))
+}
+
+/// Every such call with its answer.
+fn allotments() -> Vec<(Allotment, u32)> {
+    use InTheWay::{Elsewhere, Hint, NoFreeRun, None, TooFewFree};
+    let single =
+        [(TooFewFree, NO_SPACE), (Hint, 0), (Elsewhere, 0), (Elsewhere, NO_SPACE), (None, 0), (None, NO_SPACE)];
+    let run = [(NoFreeRun, NO_RUN), (Elsewhere, NO_RUN), (None, NO_RUN)];
+    let mut all = Vec::new();
+    for port in [Port::Host, Port::Service] {
+        all.extend(single.map(|(way, answer)| ((false, port, way), answer)));
+        all.extend(single.iter().chain(&run).map(|&(way, answer)| ((true, port, way), answer)));
+    }
+    all
+}
+
+/// How many blocks a SWEEP asks for, beside those that wait.
+#[derive(Clone, Copy, Debug, PartialEq, Eq, PartialOrd, Ord)]
+enum Asked {
+    None,
+    Fewer,
+    All,
+    More,
+    /// The highest number.
+    Highest,
+}
+
+/// What a SWEEP finds: how many it asks for, whether some wait, and whether there are free blocks too. Which blocks it
+/// overwrites shows in the cards.
+type Sweeping = (Asked, bool, bool);
+
+/// What the call overwrites, if it is done.
+fn sweeping(card: &Card, call: &Call) -> Option<Sweeping> {
+    let Call::Sweep { most } = *call else { return None };
+    if !card.shaped() {
+        return None;
+    }
+    let waiting = card.waiting_blocks().len();
+    let asked = match most {
+        0 => Asked::None,
+        u32::MAX => Asked::Highest,
+        _ => match (most as usize).cmp(&waiting) {
+            Ordering::Less => Asked::Fewer,
+            Ordering::Equal => Asked::All,
+            Ordering::Greater => Asked::More,
+        },
+    };
+    Some((asked, waiting > 0, card.free_blocks() > 0))
+}
+
+/// Every such SWEEP.
+fn sweepings() -> Vec<Sweeping> {
+    use Asked::{All, Fewer, Highest, More, None};
+    let sorts = [(None, false), (More, false), (Highest, false)];
+    let sorts = sorts.into_iter().chain([None, Fewer, All, More, Highest].map(|asked| (asked, true)));
+    sorts.flat_map(|(asked, waits)| [false, true].map(|free| (asked, waits, free))).collect()
+}
+
+/// Whether the done call has left what is not allocated as it should. What it freed waits and keeps its contents; what waited
+/// waits on, but for the lowest that SWEEP overwrote, so many as it says; what was free is free or allotted. But for SWEEP and
+/// the blocks that are allotted no such block is touched.
+fn waited(before: &Card, after: &Card, call: &Call, value: u64) -> bool {
+    let mut swept = if let Call::Sweep { most } = call { *most as u64 } else { 0 };
+    let bytes = before.bytes();
+    let mut overwritten = 0;
+    let kept = (0..before.blocks()).all(|b| {
+        let (old, new) = (&before.contents[b * bytes..][..bytes], &after.contents[b * bytes..][..bytes]);
+        match (before.flags[b], after.flags[b]) {
+            (WAITING, 0) if swept > 0 => {
+                swept -= 1;
+                overwritten += 1;
+                new.iter().all(|&byte| byte == 0)
+            }
+            (WAITING, WAITING) => swept == 0 && old == new,
+            (0, 0) => old == new,
+            (0, ALLOCATED) => new.iter().all(|&byte| byte == 0),
+            (WAITING | 0, _) => false,
+            (_, flags) => flags & ALLOCATED != 0 || (flags == WAITING && old == new),
+        }
+    });
+    kept && (!matches!(call, Call::Sweep { .. }) || value == overwritten)
+}
+
 /// Counts by route (0 by function, 1 by record), call, port and answer.
 #[derive(Default)]
 struct Reached {
@@ -516,6 +704,9 @@ struct Reached {
     tree_deletions: BTreeMap<(TreeDeletion, u32), u64>,
     tickings: BTreeMap<Ticking, u64>,
     rentings: BTreeMap<Renting, u64>,
+    waiting_named: BTreeMap<(WaitingNamed, u32), u64>,
+    allotments: BTreeMap<(Allotment, u32), u64>,
+    sweepings: BTreeMap<Sweeping, u64>,
     damages: BTreeMap<usize, u64>,
     calls: u64,
 }
@@ -538,6 +729,7 @@ fn index(call: &Direct) -> (usize, u8) {
         Direct::KeyWrite { port, .. } => (13, *port),
         Direct::DeleteTree { port, .. } => (14, *port),
         Direct::Rent { .. } => (15, 0),
+        Direct::Sweep { .. } => (16, 0),
     }
 }
 
@@ -561,7 +753,7 @@ impl Reached {
     fn possible(route: usize, call: usize, port: u8) -> Vec<u32> {
         let host = port == 0;
         let mut answers: Vec<u32> = match CALLS[call] {
-            "FORMAT" | "RENT" if route == 1 => return vec![],
+            "FORMAT" | "RENT" | "SWEEP" if route == 1 => return vec![],
             "FORMAT" => return vec![0, 1],
             "READ" | "WRITE" => vec![3, 4, 5],
             "ALLOC" => vec![3, 4, 5, 6, 10, 11],
@@ -618,7 +810,7 @@ impl Reached {
                         continue;
                     }
                     let place = match (call, port) {
-                        (0 | 9..=11 | 15, _) => "",
+                        (0 | 9..=11 | 15..=16, _) => "",
                         (_, 0) => " host",
                         _ => " service",
                     };
@@ -646,6 +838,9 @@ impl Reached {
         missing.extend(sorts("DELETE_TREE", &self.tree_deletions, &tree_deletions()));
         missing.extend(sorts("TICK", &self.tickings, &tickings()));
         missing.extend(sorts("RENT", &self.rentings, &rentings()));
+        missing.extend(sorts("waiting block", &self.waiting_named, &all_waiting_named()));
+        missing.extend(sorts("allotment", &self.allotments, &allotments()));
+        missing.extend(sorts("SWEEP", &self.sweepings, &sweepings()));
         println!(
             "damage: {} ways, each refused {} times or more",
             self.damages.len(),
@@ -694,7 +889,8 @@ impl Bench {
     }
 
     /// The model's answer. A refusal must have changed nothing, and a done call must have cut no window, have counted each
-    /// pointer, have freed no other blocks than it should and have added to the total what it should.
+    /// pointer, have freed no other blocks than it should, have added to the total what it should and have left alone what
+    /// is not allocated.
     fn expect(&mut self, step: &Step, buffers: &mut Buffers) -> Result<u32, String> {
         let small = self.model.contents.len() <= 1 << 16;
         let before = (small.then(|| self.model.clone()), buffers.clone());
@@ -722,6 +918,9 @@ impl Bench {
             if !charged(before, &self.model, &call) {
                 return Err("the model added another sum to the total than it should".to_string());
             }
+            if !waited(before, &self.model, &call, buffers.value) {
+                return Err("the model has touched a block that is not allocated, or not overwritten it".to_string());
+            }
         }
         Ok(answer)
     }
@@ -737,17 +936,24 @@ impl Bench {
         let tree = step.plain().and_then(|(port, call)| tree_deletion(&self.model, port, &call));
         let ticking = step.plain().and_then(|(_, call)| ticking(&self.model, &call));
         let renting = step.plain().and_then(|(_, call)| renting(&self.model, &call));
+        let named = step.plain().and_then(|(port, call)| waiting_named(&self.model, port, &call));
+        let allotment = step.plain().and_then(|(port, call)| allotment(&self.model, port, &call));
+        let sweeping = step.plain().and_then(|(_, call)| sweeping(&self.model, &call));
         let answer = self.expect(step, &mut expected)?;
         if answer == 0 {
             count(&mut reached.key_changes, key);
             count(&mut reached.window_changes, window);
             count(&mut reached.tickings, ticking);
             count(&mut reached.rentings, renting);
+            count(&mut reached.sweepings, sweeping);
         }
         let answered = |answers: &[u32]| answers.contains(&answer).then_some(answer);
         count(&mut reached.creations, creation.zip(answered(&CREATION_ANSWERS)));
         count(&mut reached.deletions, deletion.zip(answered(&DELETION_ANSWERS)));
         count(&mut reached.tree_deletions, tree.zip(answered(&TREE_ANSWERS)));
+        let by_name = |(_, _, named): WaitingNamed| if named == Named::Reference { NOT_OPENED } else { NO_BLOCK };
+        count(&mut reached.waiting_named, named.filter(|&named| answer == by_name(named)).zip(Some(answer)));
+        count(&mut reached.allotments, allotment.zip(answered(&ALLOTMENT_ANSWERS)));
         let (by_function, by_record) = step.routes();
         if let Some(call) = &by_function {
             let mut buffers = LentBuffers::new(lent);

@@ -51,6 +51,7 @@ library! {
     negvask_count_free(value: *mut u64);
     negvask_tick(seconds: u64, value: *mut u64);
     negvask_rent(price: u32, cents: *mut u64);
+    negvask_sweep(most: u32, swept: *mut u64);
     negvask_serve(port: u8, kind: u8, body: *const u8, body_len: usize, out: *mut u8, out_len: usize,
                   places: *mut u16, places_len: usize, value: *mut u64);
     negvask_batch(port: u8, input: *const u8, input_len: usize, answers: *mut u8, answers_len: usize,
@@ -149,6 +150,7 @@ pub enum Direct {
     Tick { seconds: u64 },
     Audit,
     Rent { price: u32 },
+    Sweep { most: u32 },
 }
 
 /// The buffers as lent to the library.
@@ -384,6 +386,7 @@ impl Tables {
             Direct::Tick { seconds } => with_tables!(negvask_tick, self, *seconds, lent.value.pointer()),
             Direct::Audit => with_tables!(negvask_audit, self),
             Direct::Rent { price } => with_tables!(negvask_rent, self, *price, lent.value.pointer()),
+            Direct::Sweep { most } => with_tables!(negvask_sweep, self, *most, lent.value.pointer()),
         }
     }
 
@@ -503,6 +506,7 @@ impl Direct {
             Call::Tick { seconds } => Direct::Tick { seconds },
             Call::Audit => Direct::Audit,
             Call::Rent { price } => Direct::Rent { price },
+            Call::Sweep { most } => Direct::Sweep { most },
         }
     }
 
@@ -574,6 +578,7 @@ impl Direct {
             Direct::Tick { seconds } => (Port::Host, Call::Tick { seconds: *seconds }),
             Direct::Audit => (Port::Host, Call::Audit),
             Direct::Rent { price } => (Port::Host, Call::Rent { price: *price }),
+            Direct::Sweep { most } => (Port::Host, Call::Sweep { most: *most }),
         })
     }
 
@@ -581,7 +586,7 @@ impl Direct {
     pub fn record(&self) -> Option<(u8, Vec<u8>)> {
         let mut body = Vec::new();
         let (port, kind) = match self {
-            Direct::Format { .. } | Direct::Rent { .. } => return None,
+            Direct::Format { .. } | Direct::Rent { .. } | Direct::Sweep { .. } => return None,
             Direct::Read { port, block, credential, interval } => {
                 body.extend(block.to_be_bytes());
                 put_bytes(&mut body, credential)?;

@@ -16,6 +16,8 @@ pub const PER_CENT: u64 = 86_400_000;
 pub const ALLOCATED: u8 = 1;
 pub const READ_KEY: u8 = 2;
 pub const WRITE_KEY: u8 = 4;
+/// The flags of a block that was freed and waits to be overwritten; it has no other.
+pub const WAITING: u8 = 8;
 
 pub const SHAPE: u32 = 1;
 pub const UNSOUND: u32 = 2;
@@ -93,8 +95,8 @@ pub enum Operation {
 }
 use Operation::{Reading, Writing};
 
-/// Every call but FORMAT and the reach report; no record carries RENT. The lent buffers are not part of it, save the data
-/// of WRITE.
+/// Every call but FORMAT and the reach report; no record carries RENT or SWEEP. The lent buffers are not part of it, save
+/// the data of WRITE.
 #[derive(Clone, Debug, PartialEq)]
 pub enum Call {
     Read { block: u16, credential: Credential, interval: u32 },
@@ -112,6 +114,7 @@ pub enum Call {
     Tick { seconds: u64 },
     Audit,
     Rent { price: u32 },
+    Sweep { most: u32 },
 }
 
 /// What a caller lends besides the tables.
@@ -210,9 +213,10 @@ impl Card {
         let root = b < self.roots();
         let allocated = flags & ALLOCATED != 0;
 
-        let unallocated_is_zero = flags == 0 && keys == [0, 0, 0, 0] && self.counts[b] == 0 && windows == [0, 0];
+        let unallocated_is_zero = keys == [0, 0, 0, 0] && self.counts[b] == 0 && windows == [0, 0];
+        let flags_fit = if allocated { flags < 8 } else { [0, WAITING].contains(&flags) };
 
-        flags < 8
+        flags_fit
             && (!root || allocated)
             && (allocated || unallocated_is_zero)
             && (flags & READ_KEY != 0 || keys[..2] == [0, 0])
@@ -238,6 +242,15 @@ impl Card {
     /// Allocated; a number not below N is not.
     pub fn allocated(&self, b: usize) -> bool {
         b < self.blocks() && self.flags[b] & ALLOCATED != 0
+    }
+
+    /// Freed, and not yet overwritten. On a sound card a block below N is allocated, or waits, or is free.
+    pub fn waiting(&self, b: usize) -> bool {
+        b < self.blocks() && self.flags[b] == WAITING
+    }
+
+    pub fn free(&self, b: usize) -> bool {
+        b < self.blocks() && self.flags[b] == 0
     }
 
     pub fn root(&self, b: usize) -> bool {
@@ -273,7 +286,12 @@ impl Card {
     }
 
     pub fn free_blocks(&self) -> usize {
-        (0..self.blocks()).filter(|&b| !self.allocated(b)).count()
+        (0..self.blocks()).filter(|&b| self.free(b)).count()
+    }
+
+    /// The blocks that wait, ascending.
+    pub fn waiting_blocks(&self) -> Vec<usize> {
+        (0..self.blocks()).filter(|&b| self.waiting(b)).collect()
     }
 
     /// The blocks that rent is paid for.
@@ -382,9 +400,9 @@ impl Card {
         self.set_pointers(left);
     }
 
-    /// Frees a block that nothing points to; its contents stay.
+    /// Frees a block that nothing points to: it waits, and its contents stay.
     fn release(&mut self, b: usize) {
-        self.flags[b] = 0;
+        self.flags[b] = WAITING;
         self.keys[4 * b..4 * b + 4].fill(0);
         self.windows[2 * b..2 * b + 2].fill(0);
     }
@@ -395,12 +413,12 @@ impl Card {
         (0..self.blocks()).filter(|&b| property(b)).min_by_key(|&b| (distance(b), b))
     }
 
-    /// Whether `count` unallocated blocks adjoin from this one on.
+    /// Whether `count` free blocks adjoin from this one on.
     fn run_from(&self, first: usize, count: usize) -> bool {
-        first + count <= self.blocks() && (first..first + count).all(|b| !self.allocated(b))
+        first + count <= self.blocks() && (first..first + count).all(|b| self.free(b))
     }
 
-    /// Allots an unallocated block below the reference block.
+    /// Allots a free block below the reference block.
     fn take(&mut self, reference: usize, b: usize) {
         self.flags[b] = ALLOCATED;
         let part = self.part(b);
@@ -464,7 +482,7 @@ impl Card {
         Ok(())
     }
 
-    /// What ALLOC and ALLOC_CONTIG check alike, up to the number of unallocated blocks.
+    /// What ALLOC and ALLOC_CONTIG check alike, up to the number of free blocks.
     fn alloc_refusal(
         &self,
         port: Port,
@@ -497,7 +515,7 @@ impl Card {
         self.alloc_refusal(port, r, credential, hint, wanted, places.len())?;
         refuse_if(self.used() + wanted > self.pointers.len(), NO_PLACE)?;
         for place in &mut places[..wanted] {
-            let b = self.nearest(hint, |b| !self.allocated(b)).unwrap();
+            let b = self.nearest(hint, |b| self.free(b)).unwrap();
             self.take(r, b);
             *place = b as u16;
         }
@@ -659,7 +677,7 @@ impl Card {
         Ok(())
     }
 
-    pub fn free(&self, value: &mut u64) -> Answer {
+    pub fn count_free(&self, value: &mut u64) -> Answer {
         self.audit()?;
         *value = self.free_blocks() as u64;
         Ok(())
@@ -683,7 +701,21 @@ impl Card {
         Ok(())
     }
 
-    /// Any call at either port. RENEW and FORCE are a host's; FREE, TICK, AUDIT and RENT serve both ports alike.
+    /// Fills the lowest waiting blocks with zeros, so many at most, and makes them free.
+    pub fn sweep(&mut self, most: u32, value: &mut u64) -> Answer {
+        self.audit()?;
+        let waiting = self.waiting_blocks();
+        let swept = &waiting[..waiting.len().min(most as usize)];
+        for &b in swept {
+            self.flags[b] = 0;
+            let part = self.part(b);
+            self.contents[part].fill(0);
+        }
+        *value = swept.len() as u64;
+        Ok(())
+    }
+
+    /// Any call at either port. RENEW and FORCE are a host's; FREE, TICK, AUDIT, RENT and SWEEP serve both ports alike.
     pub fn perform(&mut self, port: Port, call: &Call, lent: &mut Buffers) -> Answer {
         match call {
             Call::Read { block, credential, interval } => {
@@ -709,10 +741,11 @@ impl Card {
             Call::KeyWrite { block, credential, key } => self.set_key(Writing, port, *block, *credential, *key),
             Call::Renew { mode, block, key, interval } => self.renew(*mode, *block, *key, *interval),
             Call::Force { block } => self.force(*block),
-            Call::Free => self.free(&mut lent.value),
+            Call::Free => self.count_free(&mut lent.value),
             Call::Tick { seconds } => self.tick(*seconds, &mut lent.value),
             Call::Audit => self.audit(),
             Call::Rent { price } => self.rent(*price, &mut lent.value),
+            Call::Sweep { most } => self.sweep(*most, &mut lent.value),
         }
     }
 

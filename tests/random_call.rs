@@ -2,8 +2,8 @@
 
 use crate::library::{credential_bytes, new_key_bytes, Direct, Raw};
 use crate::model::{
-    ends, Buffers, Card, Credential, Key, Operation, ALLOCATED, DAY, HIGHEST_MULTIPLICITY, HIGHEST_PRICE, HOST_KINDS,
-    NO_HINT, READ_KEY, SERVICE_KINDS, TIME_END, WRITE_KEY,
+    ends, Buffers, Card, Credential, Key, Operation, DAY, HIGHEST_MULTIPLICITY, HIGHEST_PRICE, HOST_KINDS, NO_HINT,
+    READ_KEY, SERVICE_KINDS, TIME_END, WRITE_KEY,
 };
 use crate::random_card::{Random, KEYS};
 
@@ -24,6 +24,7 @@ impl Chooser {
         let edge = [0, card.info[1] - 1, card.info[1], n - 1, n, n + 1, 65_534, 65_535];
         match rnd.below(20) {
             0 => rnd.of(&edge) as u16,
+            1 if rnd.percent(50) => self.some(rnd, card, |b| card.waiting(b)).unwrap_or(0) as u16,
             1 => rnd.below(n) as u16,
             2 => rnd.below(card.info[1]) as u16,
             3..=12 if self.host_only => self.some(rnd, card, |b| self.near(card, b)).unwrap_or(0) as u16,
@@ -76,6 +77,9 @@ impl Chooser {
             match rnd.below(5) {
                 0 => Credential::Nothing,
                 1 => self.known_key(rnd),
+                2 if rnd.percent(30) => {
+                    Credential::Reference(self.some(rnd, card, |b| card.waiting(b)).unwrap_or(0) as u16)
+                }
                 2 => Credential::Reference(self.block(rnd, card)),
                 3 => Credential::Reference(self.source_of(rnd, card, b, None).unwrap_or(0)),
                 _ if card.allocated(b) => {
@@ -185,14 +189,16 @@ impl Chooser {
         }
     }
 
+    /// A hint: none, any block, one past the last or at an end of the card, or one that waits.
     pub fn hint(&self, rnd: &mut Random, card: &Card) -> u16 {
         let n = card.info[0];
-        match rnd.below(12) {
+        match rnd.below(14) {
             0 | 1 => NO_HINT,
             2 => n as u16,
             3 => rnd.of(&[65_534, n as u16 + 1]),
             4 => 0,
             5 => n as u16 - 1,
+            6 | 7 => self.some(rnd, card, |b| card.waiting(b)).unwrap_or(0) as u16,
             _ => rnd.below(n) as u16,
         }
     }
@@ -201,7 +207,8 @@ impl Chooser {
     pub fn count(&self, rnd: &mut Random, card: &Card) -> u8 {
         let free = card.free_blocks().min(254) as u64;
         let spare = (card.pointers.len() - card.used()).min(254) as u64;
-        let count = match rnd.below(16) {
+        let waiting = card.waiting_blocks().len().min(254) as u64;
+        let count = match rnd.below(17) {
             0 => 0,
             1 => rnd.of(&[65, 255]),
             2 => 64,
@@ -209,17 +216,20 @@ impl Chooser {
             4 => free + 1,
             5 => spare,
             6 => spare + 1,
+            7 => (free + waiting).min(255),
             _ => rnd.within(1, 4),
         };
         count as u8
     }
 
-    /// How many ALLOC_CONTIG asks for: as ALLOC, or just the longest run, or one more than that.
+    /// How many ALLOC_CONTIG asks for: as ALLOC, or just the longest run, or one more than that; or the longest run that
+    /// there were if none waited.
     pub fn run_count(&self, rnd: &mut Random, card: &Card) -> u8 {
-        let longest = longest_run(card).min(254) as u8;
+        let longest = longest_run(card, |b| card.free(b)).min(254) as u8;
         match rnd.below(10) {
             0 => longest,
             1 | 2 => longest + 1,
+            3 => longest_run(card, |b| !card.allocated(b)).min(255) as u8,
             _ => self.count(rnd, card),
         }
     }
@@ -236,7 +246,7 @@ impl Chooser {
 
     pub fn call(&self, rnd: &mut Random, card: &Card) -> Direct {
         let port = self.port(rnd);
-        match rnd.below(126) {
+        match rnd.below(132) {
             0..=16 => {
                 let block = self.block(rnd, card);
                 let credential = self.raw(rnd, card, block, Operation::Reading);
@@ -339,7 +349,23 @@ impl Chooser {
                 let count = self.run_count(rnd, card);
                 Direct::AllocContig { port, reference, credential, hint: self.run_hint(rnd, card, count), count }
             }
-            _ => Direct::Rent { price: self.price(rnd) },
+            120..=125 => Direct::Rent { price: self.price(rnd) },
+            _ => Direct::Sweep { most: self.most(rnd, card) },
+        }
+    }
+
+    /// How many blocks SWEEP may overwrite: none, as many as wait, one more or less, few, or far more, perhaps with low bits
+    /// that are 0.
+    fn most(&self, rnd: &mut Random, card: &Card) -> u32 {
+        let waiting = card.waiting_blocks().len() as u32;
+        match rnd.below(16) {
+            0 => 0,
+            1 | 2 => waiting,
+            3 => waiting.saturating_sub(1),
+            4 => waiting + 1,
+            5 => rnd.of(&[65_536, 1 << 31]),
+            6 => u32::MAX,
+            _ => rnd.within(1, 3) as u32,
         }
     }
 
@@ -427,10 +453,10 @@ impl Chooser {
     }
 }
 
-/// How many unallocated blocks adjoin at most.
-fn longest_run(card: &Card) -> usize {
-    let runs = card.flags.split(|flag| flag & ALLOCATED != 0);
-    runs.map(|run| run.len()).max().unwrap_or(0)
+/// How many blocks with the property adjoin at most.
+pub fn longest_run(card: &Card, property: impl Fn(usize) -> bool) -> usize {
+    let blocks: Vec<bool> = (0..card.blocks()).map(property).collect();
+    blocks.split(|&has| !has).map(|run| run.len()).max().unwrap_or(0)
 }
 
 /// Buffers to lend for the call, of fitting length or nearly, holding what they may.

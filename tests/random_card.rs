@@ -1,6 +1,6 @@
 //! Random choice from a seed, and random sound cards.
 
-use crate::model::{word, Card, Key, ALLOCATED, DAY, HIGHEST_MULTIPLICITY, READ_KEY, TIME_END, WRITE_KEY};
+use crate::model::{word, Card, Key, ALLOCATED, DAY, HIGHEST_MULTIPLICITY, READ_KEY, TIME_END, WAITING, WRITE_KEY};
 use std::collections::BTreeSet;
 
 /// splitmix64
@@ -153,6 +153,9 @@ pub fn random_card(rnd: &mut Random, size: Size) -> Card {
         card.flags[b] = ALLOCATED;
         allocated.push(b);
     }
+    // Of the others none waits, some or all do, with what they held.
+    let waiting = rnd.of(&[0, 0, 10, 50, 90, 100]);
+    free.iter().filter(|_| rnd.percent(waiting)).for_each(|&b| card.flags[b] = WAITING);
     // More pointers, cycles among them; often until the places are used up.
     let extra = match rnd.below(4) {
         0 => 0,

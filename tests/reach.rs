@@ -8,7 +8,7 @@ use crate::damage::{damage, DAMAGES, SHAPE_DAMAGES};
 use crate::library::{differs, Direct, Lent, LentBuffers, Tables};
 use crate::model::{
     given_keys, key_words, number, word, Answer, Buffers, Call, Card, Key, Operation, ALLOCATED, READ_KEY, SHAPE,
-    UNSOUND, WRITE_KEY,
+    UNSOUND, WAITING, WRITE_KEY,
 };
 use crate::random_call::{buffers, Chooser};
 use crate::random_card::{random_card, Random, Size, KEYS};
@@ -16,13 +16,14 @@ use crate::secrecy::presented_by;
 use std::collections::BTreeMap;
 
 /// What each ask can come to, of either list, and what must occur among those that are done.
-const CASES: [&str; 31] = [
+const CASES: [&str; 32] = [
     "within reach: no key",
     "within reach: one key",
     "within reach: 64 keys",
     "within reach: a key twice",
     "within reach: a key that no block has",
     "within reach: all allocated blocks",
+    "within reach: blocks that wait are not listed",
     "within reach: a block by its window alone",
     "within reach: a window that has just ended",
     "within reach: just enough places",
@@ -51,7 +52,8 @@ const CASES: [&str; 31] = [
 ];
 
 /// More of a block that is refused 3.
-const MISSING: [&str; 3] = ["unlocking: 3 above N", "unlocking: 3 unallocated", "unlocking: 4 by keys, before 3"];
+const MISSING: [&str; 4] =
+    ["unlocking: 3 above N", "unlocking: 3 free", "unlocking: 3 waiting", "unlocking: 4 by keys, before 3"];
 
 #[derive(Default)]
 pub struct Reports {
@@ -247,7 +249,11 @@ fn by_hand_cases() -> Result<(), String> {
     card.windows[2] = 1;
     written(&card, &[], &[0, 1, 3, 5], &[(4, &[2])])?;
     card.info[4] = 1;
-    written(&card, &[], &[0], &[(3, &[1])])
+    written(&card, &[], &[0], &[(3, &[1])])?;
+    // All other blocks wait: the lists are the same.
+    card.flags[6..].fill(WAITING);
+    written(&card, &[], &[0], &[(3, &[1]), (5, &[1, 2])])?;
+    written(&card, &[key(12), key(22)], &[0, 1, 2, 3, 4, 5], &[])
 }
 
 /// A full card whose blocks stand in a row, each 64th sealed: by keys of its own, or all by the same write key.
@@ -341,7 +347,8 @@ fn random_chosen(rnd: &mut Random, card: &Card, keys: &[Key]) -> u16 {
     let mut from_start = (0..card.blocks()).map(|i| (start + i) % card.blocks());
     let found = match rnd.below(10) {
         0 => return rnd.of(&[n as u16, n as u16 + 1, 4_095, 4_096, 65_535]),
-        1 => from_start.find(|&b| !card.allocated(b)),
+        1 if rnd.percent(50) => from_start.find(|&b| card.waiting(b)),
+        1 => from_start.find(|&b| card.free(b)),
         2 => from_start.find(|&b| hidden[b] && card.sealed(keys, b)),
         3 => Some(start),
         _ => from_start.find(|&b| hidden[b] && !card.sealed(keys, b)),
@@ -383,7 +390,8 @@ fn refusal_case(ask: &Ask, card: &Card, answer: u32, places: usize) -> Option<&'
         (Some(_), 4, Some(_)) => "unlocking: 4 by too few places",
         (Some(_), 3, _) if places == 0 => "unlocking: 3 without a place",
         (Some(b), 3, _) if b as usize >= card.blocks() => "unlocking: 3 above N",
-        (Some(_), 3, _) => "unlocking: 3 unallocated",
+        (Some(b), 3, _) if card.waiting(b as usize) => "unlocking: 3 waiting",
+        (Some(_), 3, _) => "unlocking: 3 free",
         _ => return None,
     })
 }
@@ -402,7 +410,11 @@ fn note_within(card: &Card, keys: &[Key], list: &[u16], places: usize, seen: &mu
     seen.note("within reach: 64 keys", keys.len() == 64);
     seen.note("within reach: a key twice", (1..keys.len()).any(|i| keys[..i].contains(&keys[i])));
     seen.note("within reach: a key that no block has", keys.iter().any(|k| !on_card(k)));
-    seen.note("within reach: all allocated blocks", list.len() == card.blocks() - card.free_blocks());
+    let unallocated = card.free_blocks() + card.waiting_blocks().len();
+    seen.note("within reach: all allocated blocks", list.len() == card.blocks() - unallocated);
+    let listed = |b: &usize| list.contains(&(*b as u16));
+    let waiting = card.waiting_blocks();
+    seen.note("within reach: blocks that wait are not listed", !waiting.is_empty() && !waiting.iter().any(listed));
     seen.note("within reach: a block by its window alone", without != list);
     let ended = |&b: &u16| !list.contains(&b) && card.time() > 0 && windows(b as usize).contains(&card.time());
     seen.note("within reach: a window that has just ended", (0..card.blocks() as u16).any(|b| ended(&b)));

@@ -1,4 +1,5 @@
-//! Secrecy: what a host sends, on two cards that differ only in the contents of hidden and unallocated blocks.
+//! Secrecy: what a host sends, on two cards that differ only in the contents of hidden and unallocated blocks; the same
+//! blocks wait on both.
 //!
 //! A session of calls, by function or by record; and bytes at the host port, as batches or record by record.
 
@@ -6,7 +7,7 @@ use crate::batch::{all_served, random_room};
 use crate::library::{Direct, LentBatch, LentBuffers, Tables, HOST};
 use crate::model::{
     body_length, decode, next_record, Buffers, Call, Card, Credential, Key, Port, Progress, Record, HAS_WRITE_KEY,
-    HIGHEST_PRICE, MALFORMED, NO_ROOM, SERVICE_KINDS,
+    HIGHEST_PRICE, MALFORMED, NO_ROOM, SERVICE_KINDS, WAITING,
 };
 use crate::random_call::{buffers, Chooser};
 use crate::random_card::{random_card, Random, Size, KEYS};
@@ -40,6 +41,12 @@ pub struct Secrecy {
     protected: u64,
     /// RENT that is done in a session and gives more than 0.
     rents: u64,
+    /// Blocks that SWEEP overwrote in a session, and those of them with contents that differed.
+    swept: u64,
+    swept_differing: u64,
+    /// The same of the SWEEP after the session, of all that wait.
+    swept_after: u64,
+    swept_after_differing: u64,
     /// Sessions in which the total grew, and those after which rent is due.
     grown: u64,
     due: u64,
@@ -50,8 +57,8 @@ impl Secrecy {
         format!(
             "{} sessions, {} calls ({} done, {} of them READ, {} ALLOC_CONTIG, {} KEY_READ, {} KEY_WRITE, {} CREATE and \
              {} DELETE of a pointer that stays, {} RENT of more than 0), {} blocks freed by DELETE_TREE ({} refused 15), {} \
-             hidden blocks ({} of them freed by DELETE), a total that grew in {} and rent due after {}, the same on both \
-             cards",
+             hidden blocks ({} of them freed by DELETE), {} blocks swept in sessions ({} of them differed) and {} after them \
+             ({}), a total that grew in {} and rent due after {}, the same on both cards",
             self.sessions,
             self.calls,
             self.done,
@@ -66,6 +73,10 @@ impl Secrecy {
             self.protected,
             self.hidden,
             self.freed,
+            self.swept,
+            self.swept_differing,
+            self.swept_after,
+            self.swept_after_differing,
             self.grown,
             self.due
         )
@@ -74,10 +85,11 @@ impl Secrecy {
     pub fn missing(&self) -> Vec<String> {
         let mut missing = self.missing_by_record();
         missing.extend((self.rents == 0).then(|| "secrecy: RENT done".to_string()));
+        missing.extend((self.swept_differing == 0).then(|| "secrecy: SWEEP of a block that differs".to_string()));
         missing
     }
 
-    /// The same of records, which do not carry RENT.
+    /// The same of records, which carry neither RENT nor SWEEP.
     fn missing_by_record(&self) -> Vec<String> {
         let seen = [
             ("a hidden block", self.hidden),
@@ -90,6 +102,7 @@ impl Secrecy {
             ("DELETE done of one of several", self.lowered),
             ("a block freed by DELETE_TREE", self.trees),
             ("DELETE_TREE refused 15", self.protected),
+            ("SWEEP after a session of a block that differs", self.swept_after_differing),
             ("a total that grew", self.grown),
             ("rent due at the end", self.due),
         ];
@@ -154,6 +167,8 @@ struct Pair {
     two: Tables,
     /// Whether a DELETE took the block's last pointer.
     freed: Vec<bool>,
+    /// Whether a SWEEP overwrote the block.
+    swept: Vec<bool>,
 }
 
 fn of_two_cards(difference: String) -> String {
@@ -168,11 +183,36 @@ impl Pair {
         for b in (0..start.blocks()).filter(|&b| hidden[b] || !start.allocated(b)) {
             rnd.fill(&mut other.contents[part(b)]);
         }
-        let freed = vec![false; start.blocks()];
+        let [freed, swept] = [(); 2].map(|()| vec![false; start.blocks()]);
         let (mut one, mut two) = (Tables::new(&start), Tables::new(&other));
         agrees(&mut one, &start, presented, &hidden)?;
         agrees(&mut two, &other, presented, &hidden)?;
-        Ok(Pair { one, two, start, other, hidden, freed })
+        Ok(Pair { one, two, start, other, hidden, freed, swept })
+    }
+
+    /// SWEEP on both cards: what the buffers then hold, and how many of the blocks that it overwrote differed. These are the
+    /// lowest that waited, and are zeros on both.
+    fn sweep(&mut self, most: u32, lent: &Buffers) -> Result<(Buffers, u64), String> {
+        let before = (self.one.card(), self.two.card());
+        let (answer, after) = self.both(lent, |tables, buffers| tables.call(&Direct::Sweep { most }, buffers))?;
+        if answer != 0 {
+            return Err(format!("SWEEP is refused {answer}"));
+        }
+        let mut waiting = before.0.waiting_blocks();
+        waiting.truncate(most as usize);
+        if after.value != waiting.len() as u64 {
+            return Err(format!("{} blocks are swept, not {}", after.value, waiting.len()));
+        }
+        let mut differing = 0;
+        for b in waiting {
+            let zeros = |tables: &Tables| tables.contents.values()[part(b)].iter().all(|&byte| byte == 0);
+            if !zeros(&self.one) || !zeros(&self.two) || self.one.flags.values()[b] == WAITING {
+                return Err(format!("block {b} is not overwritten, or still waits"));
+            }
+            differing += (before.0.contents[part(b)] != before.1.contents[part(b)]) as u64;
+            self.swept[b] = true;
+        }
+        Ok((after, differing))
     }
 
     /// The same on both cards: the answer and what the buffers then hold, which must be equal.
@@ -227,9 +267,13 @@ impl Pair {
     }
 
     /// The cards after the session: equal but for blocks that are still hidden or unallocated, and the hidden ones kept:
-    /// only a DELETE frees one. The total is in the record, and so the same.
+    /// only a DELETE frees one. The total is in the record, and so the same. What waits is then swept, and so the same.
     fn compare_after(&mut self, seen: &mut Secrecy) -> Result<(), String> {
         self.compare_rent(seen)?;
+        let lent = Buffers { out: vec![], places: vec![], value: 0 };
+        let (after, differing) = self.sweep(u32::MAX, &lent).map_err(|e| format!("after the session: {e}"))?;
+        seen.swept_after += after.value;
+        seen.swept_after_differing += differing;
         let (first, second) = (self.one.card(), self.two.card());
         if let Some(difference) = self.one.difference_but_contents(&second) {
             return Err(format!("after the session the two cards' tables differ: {}", of_two_cards(difference)));
@@ -238,8 +282,8 @@ impl Pair {
             let (one, two) = (&first.contents[part(b)], &second.contents[part(b)]);
             let (hidden, freed) = (self.hidden[b], self.freed[b]);
             let differed = hidden || !self.start.allocated(b);
-            // A block that was freed or unallocated is filled with zeros when it is allotted.
-            let may_differ = differed && (hidden && !freed || !second.allocated(b));
+            // A block that was freed or unallocated is filled with zeros when it is swept or allotted.
+            let may_differ = differed && (hidden && !freed || !second.allocated(b)) && !self.swept[b];
             if !may_differ && one != two {
                 return Err(format!("block {b} differs after the session"));
             }
@@ -287,11 +331,17 @@ pub fn secrecy(rnd: &mut Random, seen: &mut Secrecy) -> Result<(), String> {
     let mut pair = Pair::new(rnd, start, &presented)?;
     let by_record = rnd.percent(50);
     for (i, (direct, call, lent)) in session.iter().enumerate() {
-        let answered = match direct.record().filter(|_| by_record) {
-            Some((kind, body)) => pair.both(lent, |tables, buffers| tables.serve(HOST, kind, &body, buffers)),
-            None => pair.both(lent, |tables, buffers| tables.call(direct, buffers)),
+        let report = |d| format!("call {} of the session: {call:?}\n  {d}", i + 1);
+        let answered = match (direct.record().filter(|_| by_record), call) {
+            (Some((kind, body)), _) => pair.both(lent, |tables, buffers| tables.serve(HOST, kind, &body, buffers)),
+            (None, Call::Sweep { most }) => pair.sweep(*most, lent).map(|(after, differing)| {
+                seen.swept += after.value;
+                seen.swept_differing += differing;
+                (0, after)
+            }),
+            (None, _) => pair.both(lent, |tables, buffers| tables.call(direct, buffers)),
         };
-        let (answer, after) = answered.map_err(|d| format!("call {} of the session: {call:?}\n  {d}", i + 1))?;
+        let (answer, after) = answered.map_err(report)?;
         pair.note(call, answer, after.value, seen);
     }
     pair.compare_after(seen)

@@ -5,14 +5,15 @@ use crate::library::{self, Direct, LentBatch, LentBuffers, Tables};
 use crate::model::{
     self, number, word, Buffers, Call, Card, Credential, Key, Port, Progress, ALLOCATED, CANNOT_POINT, HAS_WRITE_KEY,
     HIGHEST_MULTIPLICITY, MALFORMED, NO_HINT, NO_POINTER, PRICE_TOO_HIGH, READ_KEY, RECORD, SHAPE, TIME_END, UNSOUND,
-    WRITE_KEY,
+    WAITING, WRITE_KEY,
 };
 use crate::random_card::KEYS;
 
 pub const SERVICE: Port = Port::Service;
 pub const HOST: Port = Port::Host;
 
-/// A row of trials: its name, and each call with its port and its line as the player prints it, without the ordinal.
+/// A row of trials: its name, and each call with its port and its line as the player prints it, without the ordinal; SWEEP,
+/// which no record carries, has its name in place of a kind.
 type Row = (&'static str, Vec<(Port, Call, &'static str)>);
 
 /// A card on library and model.
@@ -53,16 +54,21 @@ impl Player {
         Player { tables: Tables::new(&model), model }
     }
 
-    /// A call by function at the service port, which must come to this answer and this number, 0 if there is none.
-    fn call(&mut self, call: &Call, comes_to: (u32, u64)) -> Result<(), String> {
-        let lent = Buffers { out: vec![], places: vec![], value: 0 };
+    /// A call by function at the service port: the answer and the number, 0 if there is none.
+    fn by_function(&mut self, call: &Call) -> Result<(u32, u64), String> {
+        let lent = Buffers { out: vec![], places: vec![0; 64], value: 0 };
         let (mut expected, mut buffers) = (lent.clone(), LentBuffers::new(&lent));
         let answer = number(self.model.perform(SERVICE, call, &mut expected));
         let given = self.tables.call(&Direct::from(SERVICE, call), &mut buffers);
         compare("trial by function", given, answer, &self.tables, &self.model, &buffers, &expected)?;
-        match (given, expected.value) == comes_to {
-            true => Ok(()),
-            false => Err(format!("{call:?} by function: {:?}, not {comes_to:?}", (given, expected.value))),
+        Ok((given, expected.value))
+    }
+
+    /// A call by function at the service port, which must come to this answer and this number.
+    fn call(&mut self, call: &Call, comes_to: (u32, u64)) -> Result<(), String> {
+        match self.by_function(call)? {
+            given if given == comes_to => Ok(()),
+            given => Err(format!("{call:?} by function: {given:?}, not {comes_to:?}")),
         }
     }
 
@@ -97,6 +103,14 @@ impl Player {
         match found == (times, count) {
             true => Ok(()),
             false => Err(format!("multiplicity and count are {found:?}, not {:?}", (times, count))),
+        }
+    }
+
+    /// Plays a call of a row; its line there.
+    fn play_row(&mut self, port: Port, call: &Call) -> Result<String, String> {
+        match call {
+            Call::Sweep { .. } => self.by_function(call).map(|(answer, value)| format!("SWEEP {answer} {value}")),
+            _ => self.play(port, call.clone()),
         }
     }
 
@@ -181,6 +195,10 @@ fn key_write(block: u16, credential: Credential, key: Option<Key>) -> Call {
     Call::KeyWrite { block, credential, key }
 }
 
+fn sweep(most: u32) -> Call {
+    Call::Sweep { most }
+}
+
 /// Request 2026-02: "A block between the two calls may have one key, and then is not sealed", whichever call left it so.
 /// Block 1 has a pointer from the root, so that without presented keys it is hidden if and only if it is sealed.
 fn one_key_alone() -> Result<(), String> {
@@ -220,7 +238,7 @@ fn multiplicity_rows() -> Vec<Row> {
         (SERVICE, delete(1, 2), "133 0 1"),
         (SERVICE, delete(0, 1), "133 0 1"),
         (SERVICE, delete(0, 1), "133 3"),
-        (HOST, Call::Free, "9 0 15"),
+        (HOST, Call::Free, "9 0 13"),
     ];
     // The pointer from 2 is there twice, that from 0 once: in whichever order they go, the third one frees.
     let two_sources = vec![
@@ -231,7 +249,7 @@ fn multiplicity_rows() -> Vec<Row> {
         (SERVICE, delete(0, 1), "133 0 0"),
         (SERVICE, delete(0, 1), "133 8"),
         (SERVICE, delete(2, 1), "133 0 1"),
-        (HOST, Call::Free, "9 0 14"),
+        (HOST, Call::Free, "9 0 13"),
     ];
     // Block 2 keeps block 1, which the root points to twice, once and not at all.
     let by_reference = vec![
@@ -333,9 +351,11 @@ fn tree_rows() -> Vec<Row> {
         (SERVICE, alloc_at(2, NO_HINT, 1), "131 0 3"),
         (SERVICE, delete(0, 1), "133 9"),
         (SERVICE, delete_tree(0, 1), "142 0 3"),
-        (HOST, Call::Free, "9 0 15"),
+        (HOST, Call::Free, "9 0 12"),
         (SERVICE, delete_tree(0, 1), "142 3"),
         (HOST, Call::Audit, "11 0"),
+        (HOST, sweep(4), "SWEEP 0 3"),
+        (HOST, Call::Free, "9 0 15"),
     ];
     let diamond = vec![
         (SERVICE, alloc(NO_HINT, 1), "131 0 1"),
@@ -343,10 +363,10 @@ fn tree_rows() -> Vec<Row> {
         (SERVICE, alloc_at(2, NO_HINT, 1), "131 0 4"),
         (SERVICE, create(3, 4), "132 0"),
         (SERVICE, delete_tree(1, 3), "142 0 1"),
-        (SERVICE, alloc_at(1, NO_HINT, 1), "131 0 3"),
-        (SERVICE, create(3, 4), "132 0"),
+        (SERVICE, alloc_at(1, NO_HINT, 1), "131 0 5"),
+        (SERVICE, create(5, 4), "132 0"),
         (SERVICE, delete_tree(0, 1), "142 0 4"),
-        (HOST, Call::Free, "9 0 15"),
+        (HOST, Call::Free, "9 0 10"),
     ];
     // Blocks 1 and 2 point to each other alone once the pointer from the root has gone.
     let each_other = vec![
@@ -357,7 +377,7 @@ fn tree_rows() -> Vec<Row> {
         (HOST, Call::Free, "9 0 13"),
         (SERVICE, delete_tree(0, 1), "142 8"),
         (SERVICE, delete_tree(1, 2), "142 0 2"),
-        (HOST, Call::Free, "9 0 15"),
+        (HOST, Call::Free, "9 0 13"),
     ];
     // Block 3 below the ring of 1 and 2 goes with neither, but with the pointer to it.
     let ring = vec![
@@ -368,7 +388,7 @@ fn tree_rows() -> Vec<Row> {
         (SERVICE, delete_tree(1, 3), "142 0 1"),
         (SERVICE, read(1, Credential::Nothing, 0), "129 0 0 0 0 0 0 0 0 0"),
         (SERVICE, read(2, Credential::Nothing, 0), "129 0 0 0 0 0 0 0 0 0"),
-        (HOST, Call::Free, "9 0 13"),
+        (HOST, Call::Free, "9 0 12"),
         (HOST, Call::Audit, "11 0"),
     ];
     // The root points to block 3, which keeps block 4 below it.
@@ -379,7 +399,7 @@ fn tree_rows() -> Vec<Row> {
         (SERVICE, create(2, 4), "132 0"),
         (SERVICE, create(0, 3), "132 0"),
         (SERVICE, delete_tree(0, 1), "142 0 2"),
-        (HOST, Call::Free, "9 0 13"),
+        (HOST, Call::Free, "9 0 11"),
         (SERVICE, delete(3, 4), "133 0 1"),
         (SERVICE, delete(0, 3), "133 0 1"),
     ];
@@ -393,7 +413,7 @@ fn tree_rows() -> Vec<Row> {
         (SERVICE, delete(0, 1), "133 8"),
         (SERVICE, create(2, 1), "132 0"),
         (SERVICE, delete_tree(2, 1), "142 0 1"),
-        (HOST, Call::Free, "9 0 14"),
+        (HOST, Call::Free, "9 0 13"),
     ];
     // Block 3 has three pointers from block 1, which is freed, and two from the root, which stay.
     let counts_fall = vec![
@@ -406,7 +426,7 @@ fn tree_rows() -> Vec<Row> {
         (SERVICE, delete_tree(0, 1), "142 0 2"),
         (SERVICE, delete(0, 3), "133 0 0"),
         (SERVICE, delete(0, 3), "133 0 1"),
-        (HOST, Call::Free, "9 0 15"),
+        (HOST, Call::Free, "9 0 12"),
     ];
     vec![
         ("2026-07, a chain", chain),
@@ -457,7 +477,7 @@ fn tree_refusals() -> Vec<(Port, Call, &'static str)> {
         (SERVICE, key_write(2, nothing, None), "141 0"),
         (SERVICE, key_read(3, nothing, Some(below)), "134 0"),
         (HOST, delete_tree_by(1, by(writer), 2), "14 0 2"),
-        (HOST, Call::Free, "9 0 14"),
+        (HOST, Call::Free, "9 0 12"),
     ]
 }
 
@@ -484,7 +504,8 @@ fn tree_card(keyed: bool) -> Card {
 }
 
 /// A write key deep in the tree: refused 15, and record and tables are as they were. Without it four blocks are freed, and
-/// of the tables just their rows, their pointers and the counts change.
+/// of the tables just their rows, their pointers and the counts change. Then SWEEP makes them free and changes nothing but
+/// their flags and contents.
 fn tree_by_tables() -> Result<(), String> {
     let protected = tree_card(true);
     let mut player = Player::of(protected.clone());
@@ -495,19 +516,25 @@ fn tree_by_tables() -> Result<(), String> {
     let mut left = tree_card(false);
     let mut player = Player::of(left.clone());
     player.call(&delete_tree(0, 1), (0, 4))?;
-    left.flags[1..5].fill(0);
+    left.flags[1..5].fill(WAITING);
     left.keys[4..20].fill(0);
     left.windows[2..10].fill(0);
     left.draw_pointers(vec![(word(0, 5), 3)]);
+    if player.tables.card() != left {
+        return Err("a DELETE_TREE has left another card than the one drawn".to_string());
+    }
+    player.call(&sweep(4), (0, 4))?;
+    left.flags[1..5].fill(0);
+    left.contents[512..5 * 512].fill(0);
     match player.tables.card() == left {
         true => Ok(()),
-        false => Err("a DELETE_TREE has left another card than the one drawn".to_string()),
+        false => Err("a SWEEP has left another card than the one drawn".to_string()),
     }
 }
 
 /// Trees of all blocks of the largest card but the root: rows in both directions, so that each block is found after the
 /// one before, and one block that points to all others, each of which points to the next three. Where the last of these
-/// point to the first, just that one block is freed.
+/// point to the first, just that one block is freed. What is freed waits, and SWEEP overwrites all of it.
 fn largest_trees() -> Result<(), String> {
     let n = 4_096;
     let upward: Vec<u32> = (1..n).map(|b| word(b - 1, b)).collect();
@@ -524,9 +551,150 @@ fn largest_trees() -> Result<(), String> {
         card.info = vec![n as u64, 1, 512, 0, 0, 0];
         card.flags.fill(ALLOCATED);
         card.draw_pointers(pointers.into_iter().map(|p| (p, HIGHEST_MULTIPLICITY)).collect());
-        Player::of(card).call(&delete_tree(0, destination), (0, freed))?;
+        card.contents.fill(0xEE);
+        let mut player = Player::of(card);
+        player.call(&delete_tree(0, destination), (0, freed))?;
+        player.call(&sweep(freed as u32 - 1), (0, freed - 1))?;
+        player.call(&sweep(u32::MAX), (0, 1))?;
+        player.call(&Call::Free, (0, freed))?;
+        let zeros = player.tables.contents.values().chunks(512).filter(|block| block.iter().all(|&byte| byte == 0));
+        if zeros.count() as u64 != freed {
+            return Err("a SWEEP has not overwritten just the blocks that were freed".to_string());
+        }
     }
     Ok(())
+}
+
+/// Request 2026-09: "A freed block now waits, flag 8 alone, and is not free for ALLOC, 10, 14 or FREE. SWEEP(n) fills the n
+/// lowest waiting blocks with zeros, or all if fewer wait, and makes them free. Result: the number swept."
+fn waiting_rows() -> Vec<Row> {
+    let nothing = Credential::Nothing;
+    let contig = |hint, count| Call::AllocContig { reference: 0, credential: nothing, hint, count };
+    // Neither free for FREE and ALLOC, by hint and as the last one, nor allocated for a call that names it.
+    let neither = vec![
+        (SERVICE, alloc(NO_HINT, 3), "131 0 1 2 3"),
+        (SERVICE, delete(0, 2), "133 0 1"),
+        (HOST, Call::Free, "9 0 12"),
+        (HOST, Call::Audit, "11 0"),
+        (SERVICE, read(2, nothing, 0), "129 3"),
+        (HOST, Call::Force { block: 2 }, "8 3"),
+        (SERVICE, create(1, 2), "132 3"),
+        (SERVICE, alloc_at(2, NO_HINT, 1), "131 3"),
+        (SERVICE, alloc(2, 1), "131 0 4"),
+        (SERVICE, alloc(NO_HINT, 12), "131 10"),
+        (SERVICE, alloc(NO_HINT, 11), "131 0 5 6 7 8 9 10 11 12 13 14 15"),
+        (SERVICE, alloc(NO_HINT, 1), "131 10"),
+        (HOST, sweep(1), "SWEEP 0 1"),
+        (HOST, Call::Free, "9 0 1"),
+        (SERVICE, alloc(NO_HINT, 1), "131 0 2"),
+    ];
+    let mut runs = vec![(SERVICE, alloc(NO_HINT, 15), "131 0 1 2 3 4 5 6 7 8 9 10 11 12 13 14 15")];
+    runs.extend((5..=7).map(|b| (SERVICE, delete(0, b), "133 0 1")));
+    // 5 and 7 are free, and 6 between them waits.
+    runs.extend([
+        (SERVICE, contig(NO_HINT, 1), "140 10"),
+        (HOST, sweep(3), "SWEEP 0 3"),
+        (SERVICE, alloc(6, 1), "131 0 6"),
+        (SERVICE, delete(0, 6), "133 0 1"),
+        (SERVICE, contig(NO_HINT, 2), "140 14"),
+        (SERVICE, contig(6, 3), "140 10"),
+        (HOST, sweep(1), "SWEEP 0 1"),
+        (SERVICE, contig(NO_HINT, 3), "140 0 5 6 7"),
+    ]);
+    // The lowest, all if fewer wait, and none where none is asked for or none waits.
+    let lowest = vec![
+        (SERVICE, alloc(NO_HINT, 1), "131 0 1"),
+        (SERVICE, alloc_at(1, NO_HINT, 3), "131 0 2 3 4"),
+        (HOST, sweep(5), "SWEEP 0 0"),
+        (SERVICE, delete_tree(0, 1), "142 0 4"),
+        (HOST, sweep(0), "SWEEP 0 0"),
+        (HOST, Call::Free, "9 0 11"),
+        (HOST, sweep(3), "SWEEP 0 3"),
+        (SERVICE, contig(NO_HINT, 3), "140 0 1 2 3"),
+        (HOST, sweep(u32::MAX), "SWEEP 0 1"),
+        (HOST, Call::Free, "9 0 12"),
+        (HOST, sweep(u32::MAX), "SWEEP 0 0"),
+    ];
+    vec![
+        ("2026-09, neither free nor allocated", neither),
+        ("2026-09, runs", runs),
+        ("2026-09, the lowest first", lowest),
+    ]
+}
+
+/// A card of 16 blocks, all of them holding their number; these wait, and the others but the root are free.
+fn waiting_card(waiting: &[usize]) -> Card {
+    let mut card = Player::new().model;
+    waiting.iter().for_each(|&b| card.flags[b] = WAITING);
+    card.contents.iter_mut().enumerate().for_each(|(i, byte)| *byte = (i / 512 + 1) as u8);
+    card
+}
+
+/// The tables after SWEEP: of the waiting blocks the lowest are free and hold zeros, and all else is as it was. Then FORMAT,
+/// by which those that are left are free too, and hold what they held.
+fn swept_by_tables() -> Result<(), String> {
+    let waiting = [1, 2, 5, 9, 15];
+    for most in [0, 1, 2, 3, 4, 5, 6, 256, 65_536, u32::MAX] {
+        let swept = waiting.len().min(most as usize);
+        let mut left = waiting_card(&waiting);
+        let mut player = Player::of(left.clone());
+        player.call(&sweep(most), (0, swept as u64))?;
+        for &b in &waiting[..swept] {
+            left.flags[b] = 0;
+            left.contents[512 * b..512 * (b + 1)].fill(0);
+        }
+        if player.tables.card() != left {
+            return Err(format!("SWEEP {most} has left another card than the one drawn"));
+        }
+        player.call(&Call::Free, (0, (10 + swept) as u64))?;
+        player.format();
+        left.flags[1..].fill(0);
+        left.contents[..512].fill(0);
+        if player.tables.card() != left {
+            return Err(format!("FORMAT after SWEEP {most} has left another card than the one drawn"));
+        }
+    }
+    Ok(())
+}
+
+/// "AUDIT allows flag 8 with keys, count and windows 0": not with anything else. SWEEP is refused 1 and 2, and nothing else.
+fn sweeps_refused() -> Result<(), String> {
+    let damages: [fn(&mut Card); 8] = [
+        |card| card.flags[5] = WAITING | ALLOCATED,
+        |card| card.flags[5] = WAITING | READ_KEY,
+        |card| card.flags[5] = WAITING | WRITE_KEY,
+        |card| card.flags[5] = WAITING | 16,
+        |card| card.keys[23] = 1,
+        |card| card.counts[5] = 1,
+        |card| card.windows[11] = 1,
+        |card| card.flags[0] = WAITING,
+    ];
+    for damage in damages {
+        let mut card = waiting_card(&[5]);
+        damage(&mut card);
+        let mut player = Player::of(card);
+        for call in [Call::Audit, sweep(0), sweep(1), sweep(u32::MAX), Call::Free, alloc(NO_HINT, 1)] {
+            player.call(&call, (UNSOUND, 0))?;
+        }
+    }
+    let mut short = waiting_card(&[5]);
+    short.info.truncate(RECORD - 1);
+    let mut player = Player::of(short);
+    player.call(&sweep(0), (SHAPE, 0))?;
+    player.call(&sweep(1), (SHAPE, 0))
+}
+
+/// A block that waits is paid no rent for.
+fn no_rent_while_waiting() -> Result<(), String> {
+    let day = Call::Tick { seconds: 86_400 };
+    let mut player = Player::new();
+    player.play(SERVICE, alloc(NO_HINT, 3))?;
+    player.play(SERVICE, delete(0, 2))?;
+    player.call(&day, (0, 86_400))?;
+    player.call(&Call::Rent { price: 1_000 }, (0, 2))?;
+    player.call(&sweep(1), (0, 1))?;
+    player.call(&day, (0, 172_800))?;
+    player.call(&Call::Rent { price: 1_000 }, (0, 4))
 }
 
 /// Request 2026-08: "total × price divided by 86,400,000, rounded to the nearest, a half upward".
@@ -675,7 +843,7 @@ pub fn trials() -> Result<usize, String> {
                 (HOST, tick(10), "10 0 10"),
                 (HOST, read(2, Reference(0), 0), "1 5"),
                 (SERVICE, delete(0, 2), "133 0 1"),
-                (HOST, Call::Free, "9 0 14"),
+                (HOST, Call::Free, "9 0 13"),
             ],
         ),
         ("T1", vec![(HOST, Call::Free, "9 0 15")]),
@@ -712,6 +880,7 @@ pub fn trials() -> Result<usize, String> {
                 (SERVICE, alloc(NO_HINT, 2), "131 0 1 2"),
                 (SERVICE, Call::Write { block: 2, credential: Nothing, interval: 0, data: vec![7; 512] }, "130 0"),
                 (SERVICE, delete(0, 2), "133 0 1"),
+                (SERVICE, sweep(1), "SWEEP 0 1"),
                 (SERVICE, alloc(2, 1), "131 0 2"),
                 (SERVICE, read(2, Nothing, 0), "129 0 0 0 0 0 0 0 0 0"),
             ],
@@ -747,6 +916,7 @@ pub fn trials() -> Result<usize, String> {
                 (SERVICE, alloc(NO_HINT, 2), "131 0 1 2"),
                 (SERVICE, Call::Write { block: 2, credential: Nothing, interval: 0, data: vec![7; 512] }, "130 0"),
                 (SERVICE, delete(0, 2), "133 0 1"),
+                (SERVICE, sweep(1), "SWEEP 0 1"),
                 (SERVICE, contig(NO_HINT, 2), "140 0 2 3"),
                 (SERVICE, read(2, Nothing, 0), "129 0 0 0 0 0 0 0 0 0"),
             ],
@@ -830,6 +1000,7 @@ pub fn trials() -> Result<usize, String> {
     ];
     rows.extend(multiplicity_rows());
     rows.extend(tree_rows());
+    rows.extend(waiting_rows());
     example_batch(&rows[0].1)?;
     one_key_alone()?;
     highest_multiplicity()?;
@@ -840,10 +1011,13 @@ pub fn trials() -> Result<usize, String> {
     rents()?;
     total_of_ticks()?;
     largest_total()?;
+    swept_by_tables()?;
+    sweeps_refused()?;
+    no_rent_while_waiting()?;
     for (name, calls) in &rows {
         let mut player = Player::new();
         for (i, (port, call, expected)) in calls.iter().enumerate() {
-            let line = player.play(*port, call.clone()).map_err(|d| format!("{name}, record {}: {d}", i + 1))?;
+            let line = player.play_row(*port, call).map_err(|d| format!("{name}, record {}: {d}", i + 1))?;
             if line != *expected {
                 return Err(format!("{name}, record {}: got '{line}', the documents have '{expected}'", i + 1));
             }

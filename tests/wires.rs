@@ -397,8 +397,8 @@ pub fn service_kinds(rnd: &mut Random, seen: &mut ServiceKinds) -> Result<(), St
 
 // ---- All kinds ----
 
-/// Behind a kind that does not exist: the lengths of bodies, and those one shorter and one longer; and that of a price,
-/// since no record carries RENT.
+/// Behind a kind that does not exist: the lengths of bodies, and those one shorter and one longer; and that of the operand
+/// of RENT and of SWEEP, which no record carries.
 const BEHIND_NO_KIND: [usize; 21] = [0, 1, 2, 3, 4, 7, 8, 9, 20, 21, 22, 23, 24, 35, 36, 37, 38, 39, 534, 535, 536];
 
 #[derive(Default)]

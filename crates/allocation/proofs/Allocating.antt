@@ -23,8 +23,8 @@ use Rattle.card.specs.declared.AllocOperands.{AllocOperands}
 use Rattle.card.specs.declared.Refusal.{Refusal}
 use Rattle.card.specs.declared.Refusal.the-variants.{TooFewPlaces}
 use Rattle.card.specs.declared.Answer.the-variants.{Done}
-use Rattle.tables.specs.Free.{unallocatedBelow}
-use Rattle.tables.specs.FreeLaws.{unallocated-free}
+use Rattle.tables.specs.Free.{freeBelow}
+use Rattle.tables.specs.FreeLaws.{flags-free}
 use Rattle.outcomes.specs.Outcomes.{outcome}
 use Rattle.outcomes.proofs.Returned.{finishes}
 use Rattle.checks.specs.CheckedLaws.{Refuses, Passes}
@@ -60,8 +60,8 @@ module _ (port : Port) (c : Card) (o : AllocOperands) (places : List ℕ) where
     unfolding plan allocPlan
     room = ltb-false _ _ (h .1 .1 .1 .1 .1 .0)
 
-    free-blocks : unallocatedBelow (c .public .flags) (length (c .public .flags)) ≡ freeBlocks (c .public)
-    free-blocks = unallocated-free (c .public) (s .shaped .hasLengths .flags)
+    free-blocks : freeBelow (c .public .flags) (length (c .public .flags)) ≡ freeBlocks (c .public)
+    free-blocks = flags-free (c .public) (s .shaped .hasLengths .flags)
 
     module _ {want : ℕ} (e : want ≡ wanted (o .hint)) where
       -- What picking the blocks asks.
@@ -73,7 +73,7 @@ module _ (port : Port) (c : Card) (o : AllocOperands) (places : List ℕ) where
         fits = count-fits port c o places s shared-passed;
       })
 
-      module _ {left : List ℕ} (shown : left ≡ overwrite places 0 (picks want (o .count) (unallocatedBelow (c .public .flags) (length (c .public .flags))))) where
+      module _ {left : List ℕ} (shown : left ≡ overwrite places 0 (picks want (o .count) (freeBelow (c .public .flags) (length (c .public .flags))))) where
         -- They are picked.
         pub picked : Chosen c o places (picks (wanted (o .hint)) (o .count) (freeBlocks (c .public))) left
         picked = record {

@@ -5,7 +5,6 @@ use mathlib.Core.Bool.{true, false, not}
 use mathlib.Core.List.{List, [], _∷_, _++_}
 use native.Mathlib.Numerals.{add-one}
 use native.Mathlib.Omega.{arith}
-use borrow.Author.Tests.{not-true}
 use lib.ListN.{length, take, drop, getD, take-append-drop}
 use lib.Seq.{take-at, drop-at, drop-cons, drop-drop, drop-length, length-take-le}
 use Rattle.card.specs.Lists.{all}
@@ -14,7 +13,8 @@ use Rattle.card.specs.Pointers.{pointer, ascending, contains, insert, insertBes
 use Rattle.card.specs.PointersLaws.{insert-ascending, all-insert}
 use Rattle.card.specs.BesideLaws.{InStep, in-step}
 use Rattle.card.specs.ChangesLaws.{inserted-take, inserted-length}
-use Rattle.card.specs.Card.{Card, card, allocated, inUse, pointsTo}
+use Rattle.card.specs.Card.{Card, card, free, inUse, pointsTo}
+use Rattle.card.specs.SoundnessLaws.{free-unallocated}
 use Rattle.card.specs.Plan.{withUsed, changePublic, changeKeys, changeContents, change, changes}
 use Rattle.card.specs.Calls.{takeAll}
 use Rattle.card.specs.declared.Info.{Info}
@@ -173,7 +173,7 @@ module _ {c₀ : Card} {reference : ℕ} {numbers flags counts contents added : 
     unused =
         let p = c₀ .public in
         no-pointer reference b (r .began .sound) below
-        (unallocated-flag p b below (not-true _ (all-at (λ x. not (allocated p x)) numbers (r .began .takeable .free) taken l)))
+        (unallocated-flag p b below (free-unallocated p b (all-at (free p) numbers (r .began .takeable .free) taken l)))
 
     module _ {flagsAfter countsAfter contentsAfter addedAfter : List ℕ}
         (t : BlockTaken (c₀ .public .info .bytes) b flags counts contents flagsAfter countsAfter contentsAfter)

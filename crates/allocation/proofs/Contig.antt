@@ -6,12 +6,13 @@ use mathlib.Core.List.{List, [], _∷_}
 use native.Mathlib.Omega.{arith}
 use lib.Dec.{eqb, ltb}
 use lib.ListN.{length, take}
-use borrow.Author.Tests.{lt-ltb, le-ltb, ltb-true, ltb-false, eq-eqb, eqb-false}
+use borrow.Author.Tests.{lt-ltb, le-ltb, ltb-false, eq-eqb, eqb-false}
 use Rattle.card.specs.Lists.{numbersFrom}
 use Rattle.card.specs.ListsLaws.{absurd-test, all-at}
 use Rattle.card.specs.Contents.{overwrite}
-use Rattle.card.specs.Card.{Card, card}
+use Rattle.card.specs.Card.{Card, card, free}
 use Rattle.card.specs.SoundCard.{SoundCard}
+use Rattle.card.specs.SoundnessLaws.{free-below}
 use Rattle.card.specs.Plan.{_⇒_, FirstHolds, here, later, NoneHolds, changes, outAfter, placesAfter}
 use Rattle.card.specs.PlanLaws.{holds-front, holds-behind, none-append}
 use Rattle.card.specs.Calls.{wanted, takeAll, runStarts, nearestRun, allocPlan, allocContigPlan}
@@ -153,8 +154,8 @@ module _ (port : Port) (c : Card) (o : AllocOperands) (places : List ℕ) where
         let counted : 1 ≤ o .count = count-some port c o places s shared-passed in
         let below : first + n < c .public .info .blocks =
         subst (λ (b : ℕ). b < c .public .info .blocks) (numbersFrom-at first (o .count) n (omega arith))
-        (ltb-true _ _
-        (all-at (λ b. ltb b (c .public .info .blocks)) (numbersFrom first (o .count)) (takes .below) n (omega (arith, numbersFrom-length first (o .count))))) in
+        (free-below (c .public) _
+        (all-at (free (c .public)) (numbersFrom first (o .count)) (takes .free) n (omega (arith, numbersFrom-length first (o .count))))) in
         omega (arith, s .shaped .inRanges .blocksHigh)
 
     pub run-fits : o .count ≤ length places

@@ -16,9 +16,9 @@ use Rattle.card.specs.ListsLaws.{and-left, and-right, and-true, and-false-right
 use Rattle.card.specs.Pointers.{contains, remove}
 use Rattle.card.specs.PointersLaws.{remove-length}
 use Rattle.card.specs.Contents.{overwrite}
-use Rattle.card.specs.Card.{allocatedFlag}
+use Rattle.card.specs.Card.{freeFlag}
 use Rattle.card.specs.Calls.{picks}
-use Rattle.tables.specs.Free.{unallocatedBelow}
+use Rattle.tables.specs.Free.{freeBelow}
 use Rattle.allocation.specs.Walk.{Spread, NextBlock, CanPick}
 use Rattle.card.specs.NearestLaws.{numbers-hold, hold-numbers, numbers-ascend}
 use Rattle.allocation.proofs.Nearest.{picks-nearest, remove-numbers}
@@ -105,12 +105,12 @@ module _ {low high b l h : ℕ} (o : low ≤ high) where
       from (up q d e) (inl t) = inl (omega arith)
       from (up q d e) (inr t) = inr (omega arith)
 
--- The unallocated ones of them, ascending.
-abbrev waits : List ℕ → ℕ → ℕ → ℕ → Bool
-waits flags low high y = not (allocatedFlag (getD flags y 0)) && outside low high y
+-- The free ones of them, ascending.
+abbrev freeOutside : List ℕ → ℕ → ℕ → ℕ → Bool
+freeOutside flags low high y = freeFlag (getD flags y 0) && outside low high y
 
-unfoldable pub waiting : List ℕ → ℕ → ℕ → List ℕ
-waiting flags low high = numbersBelow (waits flags low high) (length flags)
+unfoldable pub freeLeft : List ℕ → ℕ → ℕ → List ℕ
+freeLeft flags low high = numbersBelow (freeOutside flags low high) (length flags)
 
 -- ---- places
 
@@ -127,26 +127,26 @@ overwrite-next xs n y ys l =
 
 -- ---- the walk
 
--- After `taken` of `count` blocks: with the picks among those that wait written behind them, the places are those of all picks.
+-- After `taken` of `count` blocks: with the picks among those left written behind them, the places are those of all picks.
 pub record Picked (flags : List ℕ) (want count : ℕ) (places₀ places : List ℕ) (low high taken : ℕ) : Type 0 where
   pub ready : CanPick flags want count places₀
   pub most : taken ≤ count
   pub lowest : low ≤ want
   pub highest : want ≤ high
   pub within : high ≤ length flags
-  pub enough : count - taken ≤ length (waiting flags low high)
-  pub whole : overwrite places taken (picks want (count - taken) (waiting flags low high)) ≡ overwrite places₀ 0 (picks want count (unallocatedBelow flags (length flags)))
+  pub enough : count - taken ≤ length (freeLeft flags low high)
+  pub whole : overwrite places taken (picks want (count - taken) (freeLeft flags low high)) ≡ overwrite places₀ 0 (picks want count (freeBelow flags (length flags)))
   pub samePlaces : length places ≡ length places₀
 
 pub picked-start : {flags : List ℕ} {want count : ℕ} {places₀ : List ℕ} → CanPick flags want count places₀ → Picked flags want count places₀ places₀ want want 0
-unfolding waiting unallocatedBelow
+unfolding freeLeft freeBelow
 picked-start {flags} {want} {count} {places₀} r =
     let all : count - 0 ≡ count = omega arith in
-    let free : ℕ → Bool = λ y. not (allocatedFlag (getD flags y 0)) in
-    let none : waiting flags want want ≡ unallocatedBelow flags (length flags) =
-    numbersBelow-same (waits flags want want) free (length flags)
+    let free : ℕ → Bool = λ y. freeFlag (getD flags y 0) in
+    let none : freeLeft flags want want ≡ freeBelow flags (length flags) =
+    numbersBelow-same (freeOutside flags want want) free (length flags)
     (λ y l.
-    same-test (waits flags want want y) (free y) (λ t. and-left _ _ t)
+    same-test (freeOutside flags want want y) (free y) (λ t. and-left _ _ t)
     (λ t. and-true (free y) _ t (true-outside want want y (below-or-not y want)))) in
     record {
       ready = r;
@@ -165,17 +165,17 @@ first-contained [] h = absurd (not-suc-le-zero h)
 first-contained (x ∷ xs) h = or-left (eqb x x) _ (eq-eqb x x refl)
 
 module _ {flags : List ℕ} {want count : ℕ} {places₀ places : List ℕ} {low high taken : ℕ} (w : Picked flags want count places₀ places low high taken) where
-  waiting-hold : (y : ℕ) → contains y (waiting flags low high) ≡ true → (y < length flags) × ((y < low) ⊎ (high ≤ y))
-  unfolding waiting
-  waiting-hold y h =
-      let r : (y < length flags) × (waits flags low high y ≡ true) = numbers-hold (waits flags low high) (length flags) y h in
-      (r .0, outside-true low high y (and-right (not (allocatedFlag (getD flags y 0))) _ (r .1)))
+  left-hold : (y : ℕ) → contains y (freeLeft flags low high) ≡ true → (y < length flags) × ((y < low) ⊎ (high ≤ y))
+  unfolding freeLeft
+  left-hold y h =
+      let r : (y < length flags) × (freeOutside flags low high y ≡ true) = numbers-hold (freeOutside flags low high) (length flags) y h in
+      (r .0, outside-true low high y (and-right (freeFlag (getD flags y 0)) _ (r .1)))
 
   -- Some block is not passed while one is to be picked.
   pub picked-spread : taken < count → Spread want (length flags) low high
   picked-spread l =
-      let y : ℕ = getD (waiting flags low high) 0 0 in
-      let there = waiting-hold y (first-contained (waiting flags low high) (omega (arith, w .enough))) in
+      let y : ℕ = getD (freeLeft flags low high) 0 0 in
+      let there = left-hold y (first-contained (freeLeft flags low high) (omega (arith, w .enough))) in
       record {
         lowest = w .lowest;
         highest = w .highest;
@@ -212,12 +212,12 @@ module _ {flags : List ℕ} {want count : ℕ} {places₀ places : List ℕ} {lo
           go (down q d e) = (omega (arith, w .lowest), (omega (arith, w .highest), omega (arith, w .within)))
           go (up q d e) = (omega (arith, w .lowest), (omega (arith, w .highest), omega (arith, n .below)))
 
-      waits-other : (y : ℕ) → (y ≡ b → ⊥) → waits flags low high y ≡ waits flags l h y
-      waits-other y other = ap (λ (t : Bool). not (allocatedFlag (getD flags y 0)) && t) (outside-other ordered moved y other)
+      free-other : (y : ℕ) → (y ≡ b → ⊥) → freeOutside flags low high y ≡ freeOutside flags l h y
+      free-other y other = ap (λ (t : Bool). freeFlag (getD flags y 0) && t) (outside-other ordered moved y other)
 
       -- The walk goes on, with what is left to pick and where.
-      goes-on : {left : List ℕ} {k : ℕ} → k ≤ count → length left ≡ length places → count - k ≤ length (waiting flags l h)
-          → overwrite left k (picks want (count - k) (waiting flags l h)) ≡ overwrite places taken (picks want (count - taken) (waiting flags low high))
+      goes-on : {left : List ℕ} {k : ℕ} → k ≤ count → length left ≡ length places → count - k ≤ length (freeLeft flags l h)
+          → overwrite left k (picks want (count - k) (freeLeft flags l h)) ≡ overwrite places taken (picks want (count - taken) (freeLeft flags low high))
           → Picked flags want count places₀ left l h k
       goes-on most long enough whole = record {
         ready = w .ready;
@@ -230,48 +230,48 @@ module _ {flags : List ℕ} {want count : ℕ} {places₀ places : List ℕ} {lo
         samePlaces = long ∙ w .samePlaces;
       }
 
-      -- An allocated block is passed.
-      pub picked-passed : {held : Bool} → held ≡ allocatedFlag (getD flags b 0) → not held ≡ false → Picked flags want count places₀ places l h taken
-      unfolding waiting
-      picked-passed told isHeld =
-          let free : not (allocatedFlag (getD flags b 0)) ≡ false = ap not (sym told) ∙ isHeld in
-          let same : waiting flags l h ≡ waiting flags low high =
-          numbersBelow-same (waits flags l h) (waits flags low high) (length flags)
-          (λ y i. ⊎-elim (λ (q : y ≡ b). rw (q, free)) (λ q. sym (waits-other y q)) (same-or-other y b)) in
+      -- A block that is not free is passed.
+      pub picked-passed : {t : Bool} → t ≡ freeFlag (getD flags b 0) → t ≡ false → Picked flags want count places₀ places l h taken
+      unfolding freeLeft
+      picked-passed told held =
+          let free : freeFlag (getD flags b 0) ≡ false = sym told ∙ held in
+          let same : freeLeft flags l h ≡ freeLeft flags low high =
+          numbersBelow-same (freeOutside flags l h) (freeOutside flags low high) (length flags)
+          (λ y i. ⊎-elim (λ (q : y ≡ b). rw (q, free)) (λ q. sym (free-other y q)) (same-or-other y b)) in
           goes-on (w .most) refl (rw same (w .enough)) (rw same)
 
       -- A free block is picked.
-      module _ (more : taken < count) {held : Bool} (told : held ≡ allocatedFlag (getD flags b 0)) (isFree : not held ≡ true) where
-        next-waits : waits flags low high b ≡ true
-        next-waits = and-true _ _ (ap not (sym told) ∙ isFree) (outside-next ordered moved)
+      module _ (more : taken < count) {t : Bool} (told : t ≡ freeFlag (getD flags b 0)) (isFree : t ≡ true) where
+        next-free : freeOutside flags low high b ≡ true
+        next-free = and-true _ _ (sym told ∙ isFree) (outside-next ordered moved)
 
-        waiting-next : contains b (waiting flags low high) ≡ true
-        unfolding waiting
-        waiting-next = hold-numbers (waits flags low high) (length flags) b (n .below) next-waits
+        left-next : contains b (freeLeft flags low high) ≡ true
+        unfolding freeLeft
+        left-next = hold-numbers (freeOutside flags low high) (length flags) b (n .below) next-free
 
-        waiting-without : waiting flags l h ≡ remove b (waiting flags low high)
-        unfolding waiting
-        waiting-without =
-            sym (remove-numbers (waits flags low high) (waits flags l h) (length flags) b (n .below) next-waits
-            (and-false-right (not (allocatedFlag (getD flags b 0))) _ (outside-passed ordered moved))
-            waits-other)
+        left-without : freeLeft flags l h ≡ remove b (freeLeft flags low high)
+        unfolding freeLeft
+        left-without =
+            sym (remove-numbers (freeOutside flags low high) (freeOutside flags l h) (length flags) b (n .below) next-free
+            (and-false-right (freeFlag (getD flags b 0)) _ (outside-passed ordered moved))
+            free-other)
 
-        picks-next : picks want (count - taken) (waiting flags low high) ≡ b ∷ picks want (count - (taken + 1)) (waiting flags l h)
-        unfolding waiting
+        picks-next : picks want (count - taken) (freeLeft flags low high) ≡ b ∷ picks want (count - (taken + 1)) (freeLeft flags l h)
+        unfolding freeLeft
         picks-next =
             let one : count - taken ≡ suc (count - (taken + 1)) = omega arith in
-            rw (one, waiting-without)
-            (picks-nearest want (count - (taken + 1)) b (waiting flags low high) (numbers-ascend (waits flags low high) (length flags)) waiting-next
-            (λ y i. let there = waiting-hold y i in n .nearest y (there .0) (there .1)))
+            rw (one, left-without)
+            (picks-nearest want (count - (taken + 1)) b (freeLeft flags low high) (numbers-ascend (freeOutside flags low high) (length flags)) left-next
+            (λ y i. let there = left-hold y i in n .nearest y (there .0) (there .1)))
 
         pub picked-taken : Picked flags want count places₀ (set places taken b) l h (taken + 1)
         picked-taken =
             goes-on (omega arith) (length-set places taken b)
-            (rw waiting-without (omega (arith, w .enough, remove-length b (waiting flags low high) waiting-next)))
+            (rw left-without (omega (arith, w .enough, remove-length b (freeLeft flags low high) left-next)))
             (overwrite-next places taken b _ (omega (arith, w .samePlaces, w .ready .fits)) ∙ ap (overwrite places taken) (sym picks-next))
 
   -- All are picked.
-  pub picked-whole : count ≤ taken → places ≡ overwrite places₀ 0 (picks want count (unallocatedBelow flags (length flags)))
+  pub picked-whole : count ≤ taken → places ≡ overwrite places₀ 0 (picks want count (freeBelow flags (length flags)))
   unfolding picks
   picked-whole l =
       let none : count - taken ≡ 0 = omega arith in

@@ -21,8 +21,8 @@ use Rattle.card.specs.declared.Port.{Port}
 use Rattle.card.specs.declared.Mode.the-variants.{Writing}
 use Rattle.card.specs.declared.AllocOperands.{AllocOperands}
 use Rattle.card.specs.declared.Refusal.the-variants.{BadOperand, NotAllocated, IsRoot, NotOpened, TooFewBlocks}
-use Rattle.tables.specs.Free.{unallocatedBelow}
-use Rattle.tables.specs.FreeLaws.{unallocated-free}
+use Rattle.tables.specs.Free.{freeBelow}
+use Rattle.tables.specs.FreeLaws.{flags-free}
 use Rattle.allocation.specs.Taking.{CanTakeAll}
 use Rattle.allocation.specs.SharedChecks.{badOperands, sharedChecks}
 use Rattle.access.specs.Accessible.{bare}
@@ -81,9 +81,9 @@ module _ (port : Port) (c : Card) (o : AllocOperands) (places : List ℕ) where
               (later (root-told port (c .public) _ e3 h3)
               (here (closed-told port c Writing _ _ e4 h))))
 
-          module _ (h4 : not t4 ≡ false) (s : SoundCard c) {n : ℕ} (e5 : n ≡ length (unallocatedBelow (c .public .flags) (length (c .public .flags)))) where
+          module _ (h4 : not t4 ≡ false) (s : SoundCard c) {n : ℕ} (e5 : n ≡ length (freeBelow (c .public .flags) (length (c .public .flags)))) where
             free-counted : n ≡ length (freeBlocks (c .public))
-            free-counted = e5 ∙ ap (λ (xs : List ℕ). length xs) (unallocated-free (c .public) (s .shaped .hasLengths .flags))
+            free-counted = e5 ∙ ap (λ (xs : List ℕ). length xs) (flags-free (c .public) (s .shaped .hasLengths .flags))
 
             pub too-few-blocks : n < o .count → FirstHolds shared TooFewBlocks
             unfolding sharedChecks allocPlan

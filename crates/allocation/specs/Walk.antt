@@ -5,7 +5,7 @@ use mathlib.Core.Logic.{_⊎_}
 use mathlib.Core.List.{List}
 use lib.ListN.{length}
 use Rattle.card.specs.Calls.{distance}
-use Rattle.tables.specs.Free.{unallocatedBelow}
+use Rattle.tables.specs.Free.{freeBelow}
 
 -- ---- one block: those from `low` on and below `high` are passed
 
@@ -28,5 +28,5 @@ pub record NextBlock (want blocks low high b : ℕ) : Type 0 where
 pub record CanPick (flags : List ℕ) (want count : ℕ) (places : List ℕ) : Type 0 where
   pub wantedBelow : want < length flags
   pub blocksHigh : length flags ≤ 4096
-  pub enough : count ≤ length (unallocatedBelow flags (length flags))
+  pub enough : count ≤ length (freeBelow flags (length flags))
   pub fits : count ≤ length places

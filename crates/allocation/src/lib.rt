@@ -21,7 +21,7 @@ ghost use Rattle.card.specs.Plan.{first, changes};
 ghost use Rattle.card.specs.Calls.{wanted, picks, takeAll};
 ghost use Rattle.card.specs.Session.{request, performSound};
 ghost use Rattle.card.specs.declared.Call.the-variants.{Alloc, AllocContig};
-ghost use Rattle.tables.specs.Free.{unallocatedBelow};
+ghost use Rattle.tables.specs.Free.{freeBelow};
 ghost use Rattle.checks.specs.Checked.{byRefusal, checked};
 ghost use Rattle.runs.specs.Runs.{startsIn, nearestOf};
 ghost use Rattle.allocation.specs.Walk.{Spread, NextBlock, CanPick};
@@ -57,7 +57,7 @@ fn next(want: usize, blocks: usize, low: usize, high: usize) -> usize
 // The numbers of the `count` blocks that ALLOC picks, on one walk outward from the wanted one, go into the first places.
 fn pick_all(flags: &[u8], want: usize, count: usize, places: &mut [u16])
     requires { ⌜ CanPick (now flags) want count (now places) ⌝ }
-    ensures { λ _. ⌜ now (places .exit) ≡ overwrite (now (places .entry)) 0 (picks want count (unallocatedBelow (now (flags .entry)) (length (now (flags .entry))))) ⌝ }
+    ensures { λ _. ⌜ now (places .exit) ≡ overwrite (now (places .entry)) 0 (picks want count (freeBelow (now (flags .entry)) (length (now (flags .entry))))) ⌝ }
 {
     let blocks = flags.len();
     let mut low = want;
@@ -70,7 +70,7 @@ fn pick_all(flags: &[u8], want: usize, count: usize, places: &mut [u16])
         } else {
             high = block + 1;
         }
-        if !flags::allocated(flags[block]) {
+        if flags::free(flags[block]) {
             places[taken] = block as u16;
             taken += 1;
         }
@@ -92,7 +92,7 @@ fn list_run(first: usize, count: usize, places: &mut [u16])
 
 // ---- blocks taken
 
-// An unallocated block is allocated, counted once more, and filled with zeros in its own part of the contents.
+// A free block is allocated, counted once more, and filled with zeros in its own part of the contents.
 fn take(bytes: usize, flags: &mut [u8], counts: &mut [u32], contents: &mut [u8], block: usize)
     requires { ⌜ CanTake bytes (now flags) (now counts) (now contents) block ⌝ }
     ensures { λ _. ⌜ BlockTaken bytes block (now (flags .entry)) (now (counts .entry)) (now (contents .entry)) (now (flags .exit)) (now (counts .exit)) (now (contents .exit)) ⌝ }

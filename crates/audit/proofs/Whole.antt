@@ -13,7 +13,7 @@ use Rattle.card.specs.Pointers.{ascending, pointersTo}
 use Rattle.card.specs.BesideLaws.{InStep}
 use Rattle.card.specs.ChangesLaws.{used-in-step}
 use Rattle.card.specs.Card.{Card, flag, allocatedFlag, inUse, timesInUse}
-use Rattle.card.specs.Soundness.{mostBlocks, soundClauses, flagsBelow8, rootAllocated, keyZero, unallocatedEmpty, absentKeyZero, countRight, pointedTo, windowInTime, multiplicityRight, totalInTime, shape, sound, verdict}
+use Rattle.card.specs.Soundness.{mostBlocks, soundClauses, flagsLow, rootAllocated, keyZero, unallocatedEmpty, absentKeyZero, countRight, pointedTo, windowInTime, multiplicityRight, totalInTime, shape, sound, verdict}
 use Rattle.card.specs.SoundCard.{Shaped, Consistent}
 use Rattle.card.specs.SoundnessLaws.{shape-true, sound-true, unallocatedEmpty-true, misshapen-verdict}
 use Rattle.card.specs.declared.Verdict.{Verdict}
@@ -69,7 +69,7 @@ module _ (c : Card) where
 
   -- The test of a block does not look at pointers, multiplicities and contents.
   same-rows : (tallied b : ℕ) → blockSound rows tallied b ≡ blockSound c tallied b
-  unfolding blockSound flagsBelow8 rootAllocated unallocatedEmpty absentKeyZero keyZero pointedTo windowInTime
+  unfolding blockSound flagsLow rootAllocated unallocatedEmpty absentKeyZero keyZero pointedTo windowInTime
   same-rows tallied b = refl
 
   sound-block : sound c ≡ true → (tallied b : ℕ) → tallied ≡ pointersTo b (inUse (c .public)) (timesInUse (c .public)) → b < c .public .info .blocks → blockSound rows tallied b ≡ true
@@ -237,7 +237,7 @@ module _ (c : Card) (t : Bool) (e : t ≡ shape c) where
 
   -- Soundness does not look at the contents.
   pub shaped-verdict : (v : Verdict) → t ≡ true → v ≡ judged (sound (record { public = c .public; keys = c .keys; contents = [] })) → v ≡ verdict c
-  unfolding verdict sound flagsBelow8 rootAllocated keyZero unallocatedEmpty absentKeyZero countRight pointedTo windowInTime
+  unfolding verdict sound flagsLow rootAllocated keyZero unallocatedEmpty absentKeyZero countRight pointedTo windowInTime
   shaped-verdict v f h = rw (← e, f) h
 
   pub fault-shape : t ≡ false → Misshapen ≡ verdict c

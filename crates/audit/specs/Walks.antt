@@ -8,7 +8,7 @@ use lib.ListN.{length, getD}
 use Rattle.card.specs.Lists.{every, all}
 use Rattle.card.specs.Pointers.{source, destination, pointersTo}
 use Rattle.card.specs.Card.{Public, Card, card, allocated, isRoot, count}
-use Rattle.card.specs.Soundness.{timeLimit, flagsBelow8, rootAllocated, unallocatedEmpty, absentKeyZero, pointedTo, windowInTime, multiplicityRight}
+use Rattle.card.specs.Soundness.{timeLimit, flagsLow, rootAllocated, unallocatedEmpty, absentKeyZero, pointedTo, windowInTime, multiplicityRight}
 use Rattle.card.specs.declared.Info.{Info}
 use Rattle.card.specs.declared.Mode.the-variants.{Reading, Writing}
 use Rattle.card.specs.declared.Verdict.{Verdict}
@@ -71,7 +71,7 @@ pub record RowsFit (info : Info) (flags keys counts windows : List ℕ) : Type 0
 -- That no pointer leads to a root is asked here too, for the tally shows it.
 abbrev pub blockClauses : Card → ℕ → ℕ → List Bool
 blockClauses c tallied b =
-    flagsBelow8 c b
+    flagsLow c b
     ∷ rootAllocated c b
     ∷ unallocatedEmpty c b
     ∷ absentKeyZero c b Reading

@@ -15,6 +15,7 @@ use card::Info;
 use card::LONGEST_INTERVAL;
 use card::Mode;
 use card::Verdict;
+use card::WAITING_FLAGS;
 
 // ---- pointers
 
@@ -121,14 +122,14 @@ fn block_sound(
     let write_key = flags::has_key(flag, Mode::Writing);
     let zero_read = zero_words(keys, 4 * b);
     let zero_write = zero_words(keys, 4 * b + 2);
-    let empty = (flag == 0)
+    let empty = (flags::free(flag) | flags::waiting(flag))
         & zero_read
         & zero_write
         & (count == 0)
         & (reading == 0)
         & (writing == 0);
     let latest = info.time + LONGEST_INTERVAL as u64;
-    (flag < 8)
+    (flag <= WAITING_FLAGS)
         & (!root | held)
         & (held | empty)
         & (read_key | zero_read)

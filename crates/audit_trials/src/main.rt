@@ -94,8 +94,8 @@ fn lend(
     );
 }
 
-// The good card with one fault: root 0, block 1 with both keys, block 2 without, pointers 0 to 1,
-// 0 to 2, made twice, and 1 to 2, and block 0's read window at its latest end.
+// The good card with one fault: root 0, block 1 with both keys, block 2 without, block 6 waiting, pointers
+// 0 to 1, 0 to 2, made twice, and 1 to 2, and block 0's read window at its latest end.
 fn judge(
     name: &[u8],
     blocks: usize,
@@ -116,6 +116,7 @@ fn judge(
     flags[0] = 1;
     flags[1] = 7;
     flags[2] = 1;
+    flags[6] = 8;
     keys[4] = 1;
     keys[7] = 2;
     counts[1] = 1;
@@ -191,7 +192,8 @@ fn damage(name: &[u8], fault: Fault) {
 fn faults_of_blocks() {
     damage(b"good", Fault::Nothing);
     damage(b"zero-key", Fault::Key(4, 0));
-    damage(b"flags-8", Fault::Flag(0, 9));
+    damage(b"allocated-with-flag-8", Fault::Flag(0, 9));
+    damage(b"flags-above-8", Fault::Flag(0, 17));
     damage(b"root-unallocated", Fault::Flag(0, 0));
     damage(b"free-with-flags", Fault::Flag(5, 2));
     damage(b"free-with-key", Fault::Key(20, 1));
@@ -201,6 +203,35 @@ fn faults_of_blocks() {
     damage(b"absent-read-low", Fault::Key(9, 1));
     damage(b"absent-write-high", Fault::Key(10, 1));
     damage(b"absent-write-low", Fault::Key(11, 1));
+}
+
+// A waiting block has flag 8 alone and is no root.
+fn faults_of_waiting_flags() {
+    damage(b"none-waiting", Fault::Flag(6, 0));
+    damage(b"two-waiting", Fault::Flag(5, 8));
+    damage(b"last-waiting", Fault::Flag(15, 8));
+    damage(b"waiting-allocated", Fault::Flag(6, 9));
+    damage(b"waiting-read-flag", Fault::Flag(6, 10));
+    damage(b"waiting-write-flag", Fault::Flag(6, 12));
+    damage(b"waiting-both-flags", Fault::Flag(6, 14));
+    damage(b"waiting-flag-16", Fault::Flag(6, 16));
+    damage(b"waiting-flag-24", Fault::Flag(6, 24));
+    damage(b"waiting-root", Fault::Flag(0, 8));
+}
+
+// A waiting block has neither keys nor windows nor pointers.
+fn faults_of_waiting_rows() {
+    damage(b"waiting-pointed-to", Fault::Flag(2, 8));
+    damage(b"waiting-read-high", Fault::Key(24, 1));
+    damage(b"waiting-read-low", Fault::Key(25, 1));
+    damage(b"waiting-write-high", Fault::Key(26, 1));
+    damage(b"waiting-write-low", Fault::Key(27, 1));
+    damage(b"waiting-with-count", Fault::Count(6, 1));
+    damage(b"waiting-read-window", Fault::Window(12, 1));
+    damage(b"waiting-write-window", Fault::Window(13, 1));
+    damage(b"source-waiting", Fault::Pointer(2, 393218));
+    damage(b"destination-waiting", Fault::Pointer(2, 65542));
+    lengthen(b"waiting-counted", 131078, 1, 6, 1);
 }
 
 // Clauses of soundness on pointers, counts and windows.
@@ -405,6 +436,8 @@ fn faults_of_lengths() {
 
 fn main() {
     faults_of_blocks();
+    faults_of_waiting_flags();
+    faults_of_waiting_rows();
     faults_of_pointers();
     faults_of_multiplicities();
     faults_of_records();

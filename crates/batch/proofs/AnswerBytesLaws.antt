@@ -30,14 +30,22 @@ use Rattle.serving.specs.Serve.{pairs, filledBytes, answerBytes, lentBytes, len
 
 -- ---- what is lent
 
-module _ (size : ℕ) (call : Call) {filled : Filled} (e : filled ≡ filledBy call) (b : filled ≡ Bytes) where
-  pub lent-whole : size ≤ 65536 → size ≡ lentSize size call
+module _ (size : ℕ) (call : Call) {filled : Filled} (e : filled ≡ filledBy call) where
+  pub lent-neither : filled ≡ Neither → 0 ≡ lentSize size call
   unfolding lentSize
-  lent-whole h = rw (← e, b, le-leb size 65536 h)
+  lent-neither n = rw (← e, n)
 
-  pub lent-none : 65536 < size → 0 ≡ lentSize size call
+  pub lent-blocks : {count : ℕ} → filled ≡ Blocks count → 0 ≡ lentSize size call
   unfolding lentSize
-  lent-none h = rw (← e, b, lt-leb size 65536 h)
+  lent-blocks b = rw (← e, b)
+
+  pub lent-whole : filled ≡ Bytes → size ≤ 65536 → size ≡ lentSize size call
+  unfolding lentSize
+  lent-whole b h = rw (← e, b, le-leb size 65536 h)
+
+  pub lent-none : filled ≡ Bytes → 65536 < size → 0 ≡ lentSize size call
+  unfolding lentSize
+  lent-none b h = rw (← e, b, lt-leb size 65536 h)
 
 lent-filled : (size : ℕ) (filled : Filled) → lentBytes size filled ≤ 65536
 lent-filled size Neither = omega arith

@@ -14,7 +14,7 @@ use Rattle.card.specs.Soundness.{verdict}
 use Rattle.card.specs.SoundnessLaws.{verdict-sound, sound-verdict}
 use Rattle.card.specs.Plan.{first, audited, outAfter, placesAfter, Plan, Buffers, Result, settle, judge}
 use Rattle.card.specs.Promises.{Is}
-use Rattle.card.specs.Calls.{readPlan, writePlan, allocPlan, allocContigPlan, createPlan, deletePlan, deleteTreePlan, keyPlan, renewPlan, forcePlan, freePlan, tickPlan, auditPlan, rentPlan}
+use Rattle.card.specs.Calls.{readPlan, writePlan, allocPlan, allocContigPlan, createPlan, deletePlan, deleteTreePlan, keyPlan, renewPlan, forcePlan, freePlan, tickPlan, auditPlan, rentPlan, sweepPlan}
 use Rattle.card.specs.Session.{Request, request, plan, perform, reply}
 use Rattle.card.specs.SessionLaws.{is-misshapen, is-unsound}
 use Rattle.card.specs.declared.Port.{Port}
@@ -24,7 +24,7 @@ use Rattle.card.specs.declared.Refusal.{Refusal}
 use Rattle.card.specs.declared.Answer.{Answer}
 use Rattle.card.specs.declared.Answer.the-variants.{Refused}
 use Rattle.card.specs.declared.Call.{Call}
-use Rattle.card.specs.declared.Call.the-variants.{Read, Write, Alloc, AllocContig, Create, Delete, DeleteTree, KeyRead, KeyWrite, Renew, Force, Free, Tick, Audit, Rent}
+use Rattle.card.specs.declared.Call.the-variants.{Read, Write, Alloc, AllocContig, Create, Delete, DeleteTree, KeyRead, KeyWrite, Renew, Force, Free, Tick, Audit, Rent, Sweep}
 use Rattle.card.proofs.Guarantees.KeepsSound.{done-sound}
 use Rattle.fields.specs.Bytes.{bytes}
 use Rattle.lines.specs.Replied.{replied}
@@ -76,6 +76,7 @@ module _ (port : Port) (c : Card) (call : Call) (input places : List ℕ) where
       go (Tick o) = refl
       go Audit = refl
       go (Rent o) = refl
+      go (Sweep o) = refl
 
 -- A done READ replaces all that its buffer held, and no other call reports of it.
 done-alike : (port : Port) (c : Card) (call : Call) (lent : Buffers) (out other places : List ℕ)
@@ -96,6 +97,7 @@ done-alike port c Free lent out other places answer = refl
 done-alike port c (Tick o) lent out other places answer = refl
 done-alike port c Audit lent out other places answer = refl
 done-alike port c (Rent o) lent out other places answer = refl
+done-alike port c (Sweep o) lent out other places answer = refl
 
 module _ (port : Port) (c : Card) (call : Call) (input places out other : List ℕ) where
   settle-alike : (lent : Buffers) (o : Option Refusal)
@@ -131,6 +133,7 @@ module _ (size : ℕ) where
   room-number (Tick o) = omega arith
   room-number Audit = omega arith
   room-number (Rent o) = omega arith
+  room-number (Sweep o) = omega arith
 
   -- READ's bytes fit behind the number.
   room-lent : (call : Call) → 1 + lentSize size call ≤ answerRoom size call
@@ -150,6 +153,7 @@ module _ (size : ℕ) where
   room-lent (Tick o) = omega arith
   room-lent Audit = omega arith
   room-lent (Rent o) = omega arith
+  room-lent (Sweep o) = omega arith
 
 pub part-within : (size : ℕ) (call : Call) (at : ℕ) {lent n : ℕ} → lent ≡ lentSize size call → at + answerRoom size call ≤ n → at + 1 + lent ≤ n
 part-within size call at e h = omega (arith, room-lent size call)
@@ -160,7 +164,7 @@ pairs-short n places h = omega (arith, pairs-length (take n places), length-take
 module _ (port : Port) (c : Card) (size : ℕ) where
   done-short : (call : Call) (lent : Buffers) (out places : List ℕ) → length out ≡ lentSize size call → length places ≡ lentPlaces
       → length (answerBytes call (replied (plan port c call lent .answer) out places)) ≤ answerRoom size call
-  unfolding plan readPlan writePlan allocPlan allocContigPlan createPlan deletePlan deleteTreePlan keyPlan renewPlan forcePlan freePlan tickPlan auditPlan rentPlan answerBytes answerRoom bytes
+  unfolding plan readPlan writePlan allocPlan allocContigPlan createPlan deletePlan deleteTreePlan keyPlan renewPlan forcePlan freePlan tickPlan auditPlan rentPlan sweepPlan answerBytes answerRoom bytes
   done-short (Read o) lent out places h p = omega arith
   done-short (Write o) lent out places h p = omega arith
   done-short (Alloc o) lent out places h p = omega (arith, pairs-short (o .count) places p)
@@ -176,6 +180,7 @@ module _ (port : Port) (c : Card) (size : ℕ) where
   done-short (Tick o) lent out places h p = omega arith
   done-short Audit lent out places h p = omega arith
   done-short (Rent o) lent out places h p = omega arith
+  done-short (Sweep o) lent out places h p = omega arith
 
   refused-short : (call : Call) (r : Refusal) (out places : List ℕ) → length (answerBytes call (replied (Refused r) out places)) ≤ answerRoom size call
   unfolding answerBytes bytes
@@ -201,7 +206,7 @@ module _ (port : Port) (c : Card) where
   Covers call out r = (r .out ≡ out) ⊎ (1 + length (r .out) ≤ length (answerBytes call (reply r)))
 
   settle-covers : (call : Call) (lent : Buffers) (o : Option Refusal) → Covers call (lent .out) (settle c lent (plan port c call lent) o)
-  unfolding settle plan readPlan writePlan allocPlan allocContigPlan createPlan deletePlan deleteTreePlan keyPlan renewPlan forcePlan freePlan tickPlan auditPlan rentPlan outAfter answerBytes bytes
+  unfolding settle plan readPlan writePlan allocPlan allocContigPlan createPlan deletePlan deleteTreePlan keyPlan renewPlan forcePlan freePlan tickPlan auditPlan rentPlan sweepPlan outAfter answerBytes bytes
   settle-covers (Read o) lent none = inr (omega arith)
   settle-covers (Write o) lent none = inl refl
   settle-covers (Alloc o) lent none = inl refl
@@ -217,6 +222,7 @@ module _ (port : Port) (c : Card) where
   settle-covers (Tick o) lent none = inl refl
   settle-covers Audit lent none = inl refl
   settle-covers (Rent o) lent none = inl refl
+  settle-covers (Sweep o) lent none = inl refl
   settle-covers call lent (some r) = inl refl
 
   perform-covers : (call : Call) (input out places : List ℕ) → Covers call out (perform port c (request call input out places))

@@ -49,6 +49,7 @@ fn room_of(info: Info, call: Call) -> usize
         Call::Free => 9,
         Call::Tick(_) => 9,
         Call::Rent(_) => 9,
+        Call::Sweep(_) => 9,
         _ => 1,
     }
 }

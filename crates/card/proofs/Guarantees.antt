@@ -6,10 +6,13 @@ pub mod Judged
 pub mod Steps
 pub mod PointerSteps
 pub mod Severing
+pub mod Sweeping
 pub mod KeepsSound
 pub mod Format
 pub mod Unchanged
 pub mod Untouched
+pub mod Freed
+pub mod Swept
 pub mod Safe
 pub mod RefusedIff
 pub mod Runs

@@ -7,7 +7,7 @@ use Rattle.card.specs.Card.{Card}
 use Rattle.card.specs.Plan.{Shown, nothing, blockPart, numbers, Plan, Buffers, first, outAfter, placesAfter, settle, judgeSound, changes}
 use Rattle.card.specs.PlanLaws.{done-by}
 use Rattle.card.specs.Promises.{Is, is-same}
-use Rattle.card.specs.Calls.{readPlan, writePlan, allocPlan, allocContigPlan, createPlan, deletePlan, deleteTreePlan, keyPlan, renewPlan, forcePlan, freePlan, tickPlan, auditPlan, rentPlan}
+use Rattle.card.specs.Calls.{readPlan, writePlan, allocPlan, allocContigPlan, createPlan, deletePlan, deleteTreePlan, keyPlan, renewPlan, forcePlan, freePlan, tickPlan, auditPlan, rentPlan, sweepPlan}
 use Rattle.card.specs.Session.{keyCall, request, plan, performSound}
 use Rattle.card.specs.declared.Port.{Port}
 use Rattle.card.specs.declared.Mode.{Mode}
@@ -25,8 +25,9 @@ use Rattle.card.specs.declared.RenewOperands.{RenewOperands}
 use Rattle.card.specs.declared.ForceOperands.{ForceOperands}
 use Rattle.card.specs.declared.TickOperands.{TickOperands}
 use Rattle.card.specs.declared.RentOperands.{RentOperands}
+use Rattle.card.specs.declared.SweepOperands.{SweepOperands}
 use Rattle.card.specs.declared.Call.{Call}
-use Rattle.card.specs.declared.Call.the-variants.{Read, Write, Alloc, AllocContig, Create, Delete, DeleteTree, Renew, Force, Free, Tick, Audit, Rent}
+use Rattle.card.specs.declared.Call.the-variants.{Read, Write, Alloc, AllocContig, Create, Delete, DeleteTree, Renew, Force, Free, Tick, Audit, Rent, Sweep}
 
 abbrev buffers : List ℕ → List ℕ → List ℕ → Buffers
 buffers input out places = record { input = input; out = out; places = places }
@@ -137,6 +138,11 @@ module _ (port : Port) (c : Card) (input out places : List ℕ) (call : Call) {a
       → Is (performSound port c (request call input out places)) answer after out places
   unfolding performSound plan rentPlan
   with-rent e h = rw e (shows-nothing c _ refl [] input out places h)
+
+  pub with-sweep : {o : SweepOperands} → call ≡ Sweep o → Is (performSound port c (request (Sweep o) [] [] [])) answer after [] []
+      → Is (performSound port c (request call input out places)) answer after out places
+  unfolding performSound plan sweepPlan
+  with-sweep e h = rw e (shows-nothing c _ refl [] input out places h)
 
   -- AUDIT of an audited card is done.
   pub with-audit : call ≡ Audit → answer ≡ Done → after ≡ c → Is (performSound port c (request call input out places)) answer after out places

@@ -3,15 +3,15 @@ use Prim.Native.Nat.{ℕ, zero, suc, _+_, _-_, _*_, max}
 use mathlib.Core.Bool.{Bool, true, false, _&&_, _||_, not, cond}
 use mathlib.Core.List.{List, [], _∷_, _++_}
 use lib.Dec.{eqb, ltb, leb}
-use lib.ListN.{length, replicate}
+use lib.ListN.{length, take, replicate}
 use Rattle.card.specs.Lists.{any, allBelow, numbersBelow, numbersFrom}
 use Rattle.card.specs.Pointers.{remove}
 use Rattle.card.specs.Contents.{zeros, overwrite}
-use Rattle.card.specs.Card.{Public, Card, card, allocated, hasKey, isRoot, freeBlocks, windowEnd, longestInterval, count, multiplicity, highestMultiplicity, pointsTo, hasPointers}
+use Rattle.card.specs.Card.{Public, Card, card, allocated, free, hasKey, isRoot, freeBlocks, waitingBlocks, windowEnd, longestInterval, count, multiplicity, highestMultiplicity, pointsTo, hasPointers}
 use Rattle.card.specs.Tree.{orphans}
 use Rattle.card.specs.Rent.{rentFor, highestPrice, cents}
 use Rattle.card.specs.Soundness.{ranges, lengths, timeLimit}
-use Rattle.card.specs.Plan.{Check, _⇒_, Change, setWindow, setBlock, setKey, takeBlock, freeBlock, addPointer, raisePointer, lowerPointer, dropPointer, dropFrom, setTime, changePublic, nothing, blockPart, numbers, Plan, Result}
+use Rattle.card.specs.Plan.{Check, _⇒_, Change, setWindow, setBlock, setKey, takeBlock, freeBlock, sweepBlock, addPointer, raisePointer, lowerPointer, dropPointer, dropFrom, setTime, changePublic, nothing, blockPart, numbers, Plan, Result}
 use Rattle.card.specs.declared.Info.{Info}
 use Rattle.card.specs.declared.Port.{Port}
 use Rattle.card.specs.declared.Port.the-variants.{Host, Service}
@@ -27,6 +27,7 @@ use Rattle.card.specs.declared.RenewOperands.{RenewOperands}
 use Rattle.card.specs.declared.ForceOperands.{ForceOperands}
 use Rattle.card.specs.declared.TickOperands.{TickOperands}
 use Rattle.card.specs.declared.RentOperands.{RentOperands}
+use Rattle.card.specs.declared.SweepOperands.{SweepOperands}
 use Rattle.card.specs.declared.Refusal.{Refusal}
 use Rattle.card.specs.declared.Refusal.the-variants.{Misshapen, Unsound, NotAllocated, BadOperand, NotOpened, IsRoot, CannotPoint, NoPointer, HasPointers, TooFewBlocks, TooFewPlaces, TimeEnds, BadRecord, NoRun, HasWriteKey, PriceTooHigh}
 use Rattle.card.specs.declared.Answer.{Answer}
@@ -165,7 +166,8 @@ unfoldable pub nearest : ℕ → ℕ → List ℕ → ℕ
 nearest want best [] = best
 nearest want best (x ∷ xs) = nearest want (cond (ltb (distance want x) (distance want best)) x best) xs
 
--- "blocks are taken singly, each the unallocated one nearest the hint, the lower on a tie"
+-- "blocks are taken singly, each the unallocated one nearest the hint, the lower on a tie": of the free ones, since 2026-09 a waiting block "is not
+-- free for ALLOC".
 unfoldable pub picks : ℕ → ℕ → List ℕ → List ℕ
 picks want zero free = []
 picks want (suc n) [] = []
@@ -200,9 +202,9 @@ allocPlan port p opened o places =
 
 -- ---- ALLOC_CONTIG, the request 2026-01
 
--- A run is any `count` unallocated blocks that adjoin, also inside a longer stretch: here those from `first` on.
+-- A run is any `count` free blocks that adjoin, also inside a longer stretch: here those from `first` on.
 unfoldable pub isRun : Public → ℕ → ℕ → Bool
-isRun p count first = allBelow (λ i. ltb (first + i) (p .info .blocks) && not (allocated p (first + i))) count
+isRun p count first = allBelow (λ i. free p (first + i)) count
 
 -- The first blocks of the runs, ascending.
 unfoldable pub runStarts : Public → ℕ → List ℕ
@@ -349,7 +351,7 @@ forcePlan p o = record {
 
 -- ---- FREE, TICK and AUDIT
 
--- "FREE: the number of unallocated blocks."
+-- "FREE: the number of unallocated blocks", those that wait excepted (2026-09).
 unfoldable pub freePlan : Public → Plan
 freePlan p = record { checks = []; answer = Value (length (freeBlocks p)); shown = nothing; steps = [] }
 
@@ -376,3 +378,20 @@ rentPlan p o = record {
   shown = nothing;
   steps = [];
 }
+
+-- ---- SWEEP, the request 2026-09
+
+-- "the n lowest waiting blocks .. or all if fewer wait"
+unfoldable pub lowestWaiting : Public → ℕ → List ℕ
+lowestWaiting p most = take most (waitingBlocks p)
+
+-- Each block is filled with zeros and becomes free.
+unfoldable pub sweepEach : List ℕ → List Change
+sweepEach [] = []
+sweepEach (b ∷ bs) = sweepBlock b ∷ sweepEach bs
+
+-- "SWEEP(n) fills the n lowest waiting blocks with zeros, or all if fewer wait, and makes them free. Result: the number swept."
+unfoldable pub sweepPlan : Public → SweepOperands → Plan
+sweepPlan p o =
+    let swept = lowestWaiting p (o .most) in
+    record { checks = []; answer = Value (length swept); shown = nothing; steps = sweepEach swept }

@@ -1,6 +1,6 @@
 -- Document 01, "The card": the record and the tables, and what they say of a block.
 use Prim.Native.Nat.{ℕ, _+_, _*_, _/_, _%_}
-use mathlib.Core.Bool.{Bool, _&&_, not}
+use mathlib.Core.Bool.{Bool, _&&_}
 use mathlib.Core.List.{List}
 use lib.Dec.{eqb, ltb}
 use lib.ListN.{take, getD}
@@ -44,13 +44,27 @@ abbrev pub keyFlag : Mode → ℕ → Bool
 keyFlag Reading f = eqb (f / 2 % 2) 1
 keyFlag Writing f = eqb (f / 4 % 2) 1
 
+-- 2026-09, "A freed block now waits, flag 8 alone".
+abbrev pub waitingFlag : ℕ → Bool
+waitingFlag f = eqb f 8
+
+-- A free block has no flag.
+abbrev pub freeFlag : ℕ → Bool
+freeFlag f = eqb f 0
+
 module _ (p : Public) where
   abbrev pub flag : ℕ → ℕ
   flag b = getD (p .flags) b 0
 
-  -- The block is below N and allocated.
+  -- Of a sound card each block below N is allocated, waiting or free.
   unfoldable pub allocated : ℕ → Bool
   allocated b = ltb b (p .info .blocks) && allocatedFlag (flag b)
+
+  unfoldable pub waiting : ℕ → Bool
+  waiting b = ltb b (p .info .blocks) && waitingFlag (flag b)
+
+  unfoldable pub free : ℕ → Bool
+  free b = ltb b (p .info .blocks) && freeFlag (flag b)
 
   unfoldable pub hasKey : Mode → ℕ → Bool
   hasKey mode b = keyFlag mode (flag b)
@@ -58,9 +72,12 @@ module _ (p : Public) where
   abbrev pub isRoot : ℕ → Bool
   isRoot b = ltb b (p .info .roots)
 
-  -- The unallocated blocks, ascending.
+  -- The free blocks, ascending, and those that wait.
   unfoldable pub freeBlocks : List ℕ
-  freeBlocks = numbersBelow (λ b. not (allocated b)) (p .info .blocks)
+  freeBlocks = numbersBelow free (p .info .blocks)
+
+  unfoldable pub waitingBlocks : List ℕ
+  waitingBlocks = numbersBelow waiting (p .info .blocks)
 
 -- ---- windows
 

@@ -1,5 +1,5 @@
 -- Laws of a block's part of the contents: after a write or a fill, at the same block and at another.
-use Prim.Native.Nat.{ℕ, _+_, _-_, _*_, _≤_, _<_}
+use Prim.Native.Nat.{ℕ, zero, suc, _+_, _-_, _*_, _≤_, _<_}
 use mathlib.Core.Path.{_≡_, refl, sym, ap, _∙_, subst}
 use mathlib.Core.Logic.{_⊎_, ⊎-elim}
 use mathlib.Core.List.{List, _++_}
@@ -106,3 +106,40 @@ module _ (bytes : ℕ) (contents : List ℕ) (b : ℕ) (ys : List ℕ) (fits : b
       let g : b < a = omega arith in
       overwrite-behind contents (b * bytes) ys within i (omega (arith, block-fits bytes g)))
       (below-or-not a b))
+
+-- Where byte i stands: in a block, and at a place of its part.
+record Standing (blocks bytes i : ℕ) : Type 0 where
+  block : ℕ
+  place : ℕ
+  low : block < blocks
+  inside : place < bytes
+  there : block * bytes + place ≡ i
+
+standing : (blocks bytes i : ℕ) → i < blocks * bytes → Standing blocks bytes i
+standing zero bytes i h = absurd (omega arith)
+standing (suc blocks) bytes i h =
+    ⊎-elim
+    (λ (l : i < blocks * bytes).
+    let w = standing blocks bytes i l in
+    record { block = w .block; place = w .place; low = omega (arith, w .low); inside = w .inside; there = w .there })
+    (λ (l : blocks * bytes ≤ i). record {
+      block = blocks;
+      place = i - blocks * bytes;
+      low = omega arith;
+      inside = omega (arith, suc-mul blocks bytes);
+      there = omega arith;
+    })
+    (below-or-not i (blocks * bytes))
+
+-- Two contents of so many blocks are equal if each block's part is.
+pub parts-same : (blocks bytes : ℕ) (xs ys : List ℕ) → length xs ≡ blocks * bytes → length ys ≡ blocks * bytes
+    → ((b : ℕ) → b < blocks → part bytes xs b ≡ part bytes ys b) → xs ≡ ys
+unfolding part
+parts-same blocks bytes xs ys e f same =
+    ext-getD 0 xs ys (e ∙ sym f)
+    (λ i h.
+    let w = standing blocks bytes i (omega arith) in
+    let at : (zs : List ℕ) → getD (take bytes (drop (w .block * bytes) zs)) (w .place) 0 ≡ getD zs (w .block * bytes + w .place) 0 = λ zs.
+    getD-take bytes (drop (w .block * bytes) zs) (w .place) 0 (w .inside) ∙ getD-drop (w .block * bytes) zs (w .place) 0 in
+    subst (λ (n : ℕ). getD xs n 0 ≡ getD ys n 0) (w .there)
+    (sym (at xs) ∙ ap (λ (zs : List ℕ). getD zs (w .place) 0) (same (w .block) (w .low)) ∙ at ys))

@@ -12,7 +12,7 @@ use Rattle.card.specs.Session.{Sent, Reply, reply, performed}
 use Rattle.card.specs.declared.AllocOperands.{AllocOperands}
 use Rattle.card.specs.declared.DeleteOperands.{DeleteOperands}
 use Rattle.card.specs.declared.Call.{Call}
-use Rattle.card.specs.declared.Call.the-variants.{Read, Write, Alloc, AllocContig, Create, Delete, DeleteTree, KeyRead, KeyWrite, Renew, Force, Free, Tick, Audit, Rent}
+use Rattle.card.specs.declared.Call.the-variants.{Read, Write, Alloc, AllocContig, Create, Delete, DeleteTree, KeyRead, KeyWrite, Renew, Force, Free, Tick, Audit, Rent, Sweep}
 
 -- 1 where the test holds.
 abbrev pub once : Bool → ℕ
@@ -39,6 +39,7 @@ made Free r a b = 0
 made (Tick o) r a b = 0
 made Audit r a b = 0
 made (Rent o) r a b = 0
+made (Sweep o) r a b = 0
 
 -- The pointer from a to b is the one that a DELETE_TREE removes, or comes from a block that it frees.
 abbrev pub goes : Card → DeleteOperands → ℕ → ℕ → Bool
@@ -61,6 +62,7 @@ taken c Free r a b = 0
 taken c (Tick o) r a b = 0
 taken c Audit r a b = 0
 taken c (Rent o) r a b = 0
+taken c (Sweep o) r a b = 0
 
 -- The same of a list of calls at either port, each on the card that the one before left, added up.
 unfoldable pub madeInAll : Card → List Sent → ℕ → ℕ → ℕ

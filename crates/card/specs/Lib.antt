@@ -26,6 +26,8 @@ pub mod RentLaws
 pub mod TreeLaws
 pub mod PicksLaws
 pub mod RunsLaws
+pub mod Lowest
+pub mod SweepLaws
 pub mod Promises
 pub mod Lent
 pub mod Session

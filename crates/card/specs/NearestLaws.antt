@@ -47,7 +47,7 @@ place-contains [] k l = absurd (not-suc-le-zero l)
 place-contains (x ∷ xs) zero l = contains-here x xs
 place-contains (x ∷ xs) (suc k) l = contains-there (getD xs k 0) x xs (place-contains xs k (le-of-suc-le-suc l))
 
-contains-append : (y : ℕ) (xs ys : List ℕ) → contains y (xs ++ ys) ≡ true → (contains y xs ≡ true) ⊎ (contains y ys ≡ true)
+pub contains-append : (y : ℕ) (xs ys : List ℕ) → contains y (xs ++ ys) ≡ true → (contains y xs ≡ true) ⊎ (contains y ys ≡ true)
 contains-append y [] ys h = inr h
 contains-append y (x ∷ xs) ys h =
     ⊎-elim
@@ -55,13 +55,13 @@ contains-append y (x ∷ xs) ys h =
     (λ e. ⊎-elim (λ i. inl (contains-there y x xs i)) (λ i. inr i) (contains-append y xs ys e))
     (or-cases (eqb x y) _ (sym (contains-cons y x (xs ++ ys)) ∙ h))
 
-contains-left : (y : ℕ) (xs ys : List ℕ) → contains y xs ≡ true → contains y (xs ++ ys) ≡ true
+pub contains-left : (y : ℕ) (xs ys : List ℕ) → contains y xs ≡ true → contains y (xs ++ ys) ≡ true
 unfolding contains any
 contains-left y [] ys h = absurd-test {t = false} h refl
 contains-left y (x ∷ xs) ys h =
     ⊎-elim (λ e. or-left (eqb x y) _ e) (λ e. or-right (eqb x y) _ (contains-left y xs ys e)) (or-cases (eqb x y) _ h)
 
-contains-right : (y : ℕ) (xs ys : List ℕ) → contains y ys ≡ true → contains y (xs ++ ys) ≡ true
+pub contains-right : (y : ℕ) (xs ys : List ℕ) → contains y ys ≡ true → contains y (xs ++ ys) ≡ true
 contains-right y [] ys h = h
 contains-right y (x ∷ xs) ys h = contains-there y x (xs ++ ys) (contains-right y xs ys h)
 

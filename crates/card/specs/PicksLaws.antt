@@ -1,4 +1,4 @@
--- ALLOC's picks: unallocated blocks below N, all different, and as many as asked for where enough are free.
+-- ALLOC's picks: free blocks, all different, and as many as asked for where enough are free.
 use Prim.Native.Nat.{ℕ, zero, suc, _≤_, _<_}
 use mathlib.Core.Path.{_≡_, refl, ap, subst}
 use mathlib.Core.Logic.{⊎-elim}
@@ -13,7 +13,7 @@ use Rattle.card.specs.Lists.{all, any, numbersBelow}
 use Rattle.card.specs.ListsLaws.{or-left, or-right, or-cases, all-cons, all-head, all-tail, all-append, all-map}
 use Rattle.card.specs.Pointers.{contains, remove, removeBeside}
 use Rattle.card.specs.PointersLaws.{all-remove, remove-length}
-use Rattle.card.specs.Card.{Public, allocated, freeBlocks}
+use Rattle.card.specs.Card.{Public, free, freeBlocks}
 use Rattle.card.specs.Takeable.{Without, Distinct, none, more, Takeable}
 use Rattle.card.specs.Calls.{distance, nearest, picks}
 
@@ -67,7 +67,7 @@ numbersBelow-below p (suc n) =
     go true = all-cons (λ x. ltb x (suc n)) n [] (lt-ltb n (suc n) (omega arith)) refl
     go false = refl
 
-numbersBelow-all : (p : ℕ → Bool) (n : ℕ) → all p (numbersBelow p n) ≡ true
+pub numbersBelow-all : (p : ℕ → Bool) (n : ℕ) → all p (numbersBelow p n) ≡ true
 unfolding numbersBelow all
 numbersBelow-all p zero = refl
 numbersBelow-all p (suc n) = all-append p (numbersBelow p n) (cond (p n) (n ∷ []) []) (numbersBelow-all p n) (go (p n) refl)
@@ -76,7 +76,7 @@ numbersBelow-all p (suc n) = all-append p (numbersBelow p n) (cond (p n) (n ∷ 
     go true e = all-cons p n [] e refl
     go false e = refl
 
-numbersBelow-distinct : (p : ℕ → Bool) (n : ℕ) → Distinct (numbersBelow p n)
+pub numbersBelow-distinct : (p : ℕ → Bool) (n : ℕ) → Distinct (numbersBelow p n)
 unfolding numbersBelow
 numbersBelow-distinct p zero = none
 numbersBelow-distinct p (suc n) = go (p n) (numbersBelow-distinct p n)
@@ -143,7 +143,6 @@ picks-length want (suc n) (x ∷ xs) h =
 pub picks-takeable : (p : Public) (want n : ℕ) → Takeable p (picks want n (freeBlocks p))
 unfolding freeBlocks
 picks-takeable p want n = record {
-  below = picks-all (λ b. ltb b (p .info .blocks)) want n (freeBlocks p) (numbersBelow-below (λ b. not (allocated p b)) (p .info .blocks));
-  free = picks-all (λ b. not (allocated p b)) want n (freeBlocks p) (numbersBelow-all (λ b. not (allocated p b)) (p .info .blocks));
-  distinct = picks-distinct want n (freeBlocks p) (numbersBelow-distinct (λ b. not (allocated p b)) (p .info .blocks));
+  free = picks-all (free p) want n (freeBlocks p) (numbersBelow-all (free p) (p .info .blocks));
+  distinct = picks-distinct want n (freeBlocks p) (numbersBelow-distinct (free p) (p .info .blocks));
 }

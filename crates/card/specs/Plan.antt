@@ -55,6 +55,8 @@ pub data Change : Type 0 where
   setKey : Mode → ℕ → NewKey → Change
   takeBlock : ℕ → Change
   freeBlock : ℕ → Change
+  -- 2026-09: a waiting block is overwritten and becomes free.
+  sweepBlock : ℕ → Change
   addPointer : ℕ → ℕ → Change
   raisePointer : ℕ → ℕ → Change
   lowerPointer : ℕ → ℕ → Change
@@ -131,9 +133,9 @@ withCount p b times = record {
   windows = p .windows;
 }
 
--- The flags of a block that is freed.
-abbrev pub freedFlag : ℕ
-freedFlag = 0
+-- The flags of a block that is freed. 2026-09, "A freed block now waits, flag 8 alone".
+abbrev pub freedFlags : ℕ
+freedFlags = 8
 
 -- What a change does to the public part.
 unfoldable pub changePublic : Change → Public → Public
@@ -141,7 +143,8 @@ changePublic (setWindow mode b end) p = withWindow p mode b end
 changePublic (setBlock b ys) p = p
 changePublic (setKey mode b key) p = withFlags p (set (p .flags) b (keyedFlags (flag p b) mode key))
 changePublic (takeBlock b) p = withFlags p (set (p .flags) b 1)
-changePublic (freeBlock b) p = withWindow (withWindow (withFlags p (set (p .flags) b freedFlag)) Reading b 0) Writing b 0
+changePublic (freeBlock b) p = withWindow (withWindow (withFlags p (set (p .flags) b freedFlags)) Reading b 0) Writing b 0
+changePublic (sweepBlock b) p = withFlags p (set (p .flags) b 0)
 changePublic (addPointer a b) p = record {
   info = withUsed (p .info) (p .info .used + 1);
   flags = p .flags;
@@ -189,6 +192,7 @@ changeKeys (setBlock b ys) keys = keys
 changeKeys (setKey mode b key) keys = replaceKey keys mode b key
 changeKeys (takeBlock b) keys = keys
 changeKeys (freeBlock b) keys = clearKeys keys b
+changeKeys (sweepBlock b) keys = keys
 changeKeys (addPointer a b) keys = keys
 changeKeys (raisePointer a b) keys = keys
 changeKeys (lowerPointer a b) keys = keys
@@ -203,6 +207,7 @@ changeContents bytes (setBlock b ys) contents = fill bytes contents b ys
 changeContents bytes (setKey mode b key) contents = contents
 changeContents bytes (takeBlock b) contents = fill bytes contents b (zeros bytes)
 changeContents bytes (freeBlock b) contents = contents
+changeContents bytes (sweepBlock b) contents = fill bytes contents b (zeros bytes)
 changeContents bytes (addPointer a b) contents = contents
 changeContents bytes (raisePointer a b) contents = contents
 changeContents bytes (lowerPointer a b) contents = contents

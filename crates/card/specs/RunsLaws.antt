@@ -1,17 +1,17 @@
 -- The runs of ALLOC_CONTIG: the first blocks of them, the nearest, and its blocks, which can be taken.
 use Prim.Native.Nat.{ℕ, zero, suc, _+_, _-_, _≤_, _<_}
 use mathlib.Core.Path.{_≡_, refl, sym, ap, _∙_, subst}
-use mathlib.Core.Bool.{Bool, true, false, _&&_, not}
+use mathlib.Core.Bool.{Bool, true, false, not}
 use mathlib.Core.List.{List, [], _∷_}
 use native.Mathlib.Nat.{not-suc-le-zero, le-of-suc-le-suc}
 use native.Mathlib.Omega.{arith}
-use lib.Dec.{eqb, ltb}
+use lib.Dec.{eqb}
 use lib.ListN.{length, getD}
-use borrow.Author.Tests.{lt-ltb, ltb-true, ne-eqb, not-true}
-use Rattle.card.specs.Lists.{all, any, allBelow, numbersBelow, numbersFrom}
-use Rattle.card.specs.ListsLaws.{and-left, and-right, and-true, absurd-test, all-cons, allBelow-true, true-allBelow}
+use borrow.Author.Tests.{ne-eqb}
+use Rattle.card.specs.Lists.{all, any, numbersFrom}
+use Rattle.card.specs.ListsLaws.{absurd-test, all-cons, allBelow-true, true-allBelow}
 use Rattle.card.specs.Pointers.{ascending, contains}
-use Rattle.card.specs.Card.{Public, allocated}
+use Rattle.card.specs.Card.{Public, free}
 use Rattle.card.specs.Calls.{distance, nearest, isRun, runStarts, nearestRun}
 use Rattle.card.specs.NearestLaws.{contains-here, numbers-hold, hold-numbers, numbers-ascend, nearest-is}
 use Rattle.card.specs.Takeable.{Distinct, none, more, Takeable}
@@ -47,20 +47,16 @@ numbersFrom-distinct first (suc n) =
 -- ---- runs
 
 module _ (p : Public) (count : ℕ) where
-  -- Each block of a run is below N and unallocated.
-  pub run-blocks : {first : ℕ} → isRun p count first ≡ true → (b : ℕ) → first ≤ b → b < first + count → (b < p .info .blocks) × (allocated p b ≡ false)
+  -- Each block of a run is free.
+  pub run-blocks : {first : ℕ} → isRun p count first ≡ true → (b : ℕ) → first ≤ b → b < first + count → free p b ≡ true
   unfolding isRun
   run-blocks {first} h b l u =
       let same : first + (b - first) ≡ b = omega arith in
-      let t = allBelow-true (λ i. ltb (first + i) (p .info .blocks) && not (allocated p (first + i))) count h (b - first) (omega arith) in
-      subst (λ (n : ℕ). (n < p .info .blocks) × (allocated p n ≡ false)) same
-      (ltb-true _ _ (and-left _ _ t), not-true _ (and-right (ltb (first + (b - first)) (p .info .blocks)) _ t))
+      subst (λ (n : ℕ). free p n ≡ true) same (allBelow-true (λ i. free p (first + i)) count h (b - first) (omega arith))
 
-  pub blocks-run : {first : ℕ} → ((b : ℕ) → first ≤ b → b < first + count → (b < p .info .blocks) × (allocated p b ≡ false)) → isRun p count first ≡ true
+  pub blocks-run : {first : ℕ} → ((b : ℕ) → first ≤ b → b < first + count → free p b ≡ true) → isRun p count first ≡ true
   unfolding isRun
-  blocks-run {first} h =
-      true-allBelow (λ i. ltb (first + i) (p .info .blocks) && not (allocated p (first + i))) count
-      (λ i l. let t = h (first + i) (omega arith) (omega arith) in and-true _ _ (lt-ltb _ _ (t .0)) (ap not (t .1)))
+  blocks-run {first} h = true-allBelow (λ i. free p (first + i)) count (λ i l. h (first + i) (omega arith) (omega arith))
 
   -- The first blocks are counted 0 where there is no run, and only there.
   pub no-start : length (runStarts p count) ≡ 0 → {first : ℕ} → first < p .info .blocks → isRun p count first ≡ true → ⊥
@@ -110,13 +106,12 @@ module _ (p : Public) (count : ℕ) where
   run-takeable want = go (runStarts p count) refl
     where
       go : (starts : List ℕ) → runStarts p count ≡ starts → Takeable p (nearestRun want count starts)
-      go [] e = record { below = refl; free = refl; distinct = none }
+      go [] e = record { free = refl; distinct = none }
       go (x ∷ xs) e =
           let first : ℕ = nearest want x xs in
           let run : isRun p count first ≡ true = start-run first (subst (λ (ys : List ℕ). contains first ys ≡ true) (sym e) (nearest-there want x xs)) in
           record {
-            below = numbersFrom-all (λ b. ltb b (p .info .blocks)) first count (λ b l u. lt-ltb _ _ (run-blocks run b l u .0));
-            free = numbersFrom-all (λ b. not (allocated p b)) first count (λ b l u. ap not (run-blocks run b l u .1));
+            free = numbersFrom-all (free p) first count (run-blocks run);
             distinct = numbersFrom-distinct first count;
           }
 

@@ -1,6 +1,6 @@
 -- One call performed, and a list of calls run, each on the card that the one before left.
 use Prim.Native.Nat.{ℕ}
-use mathlib.Core.Bool.{cond}
+use mathlib.Core.Bool.{Bool, true, false, cond}
 use mathlib.Core.List.{List, [], _∷_, _++_, map}
 use mathlib.Core.Option.{Option, none, some}
 use lib.Dec.{eqb}
@@ -8,7 +8,7 @@ use lib.ListN.{length, take}
 use Rattle.card.specs.Card.{Card}
 use Rattle.card.specs.Access.{admits, opens}
 use Rattle.card.specs.Plan.{Check, audited, Plan, Buffers, Result, judge, judgeSound}
-use Rattle.card.specs.Calls.{answerNumber, answerValues, modeOf, readPlan, writePlan, allocPlan, allocContigPlan, createPlan, deletePlan, deleteTreePlan, keyPlan, renewPlan, forcePlan, freePlan, tickPlan, auditPlan, rentPlan}
+use Rattle.card.specs.Calls.{answerNumber, answerValues, modeOf, readPlan, writePlan, allocPlan, allocContigPlan, createPlan, deletePlan, deleteTreePlan, keyPlan, renewPlan, forcePlan, freePlan, tickPlan, auditPlan, rentPlan, sweepPlan}
 use Rattle.card.specs.declared.Port.{Port}
 use Rattle.card.specs.declared.Port.the-variants.{Host}
 use Rattle.card.specs.declared.Mode.{Mode}
@@ -18,9 +18,10 @@ use Rattle.card.specs.declared.Credential.the-variants.{Key as KeyCreden
 use Rattle.card.specs.declared.KeyOperands.{KeyOperands}
 use Rattle.card.specs.declared.TickOperands.{TickOperands}
 use Rattle.card.specs.declared.RentOperands.{RentOperands}
+use Rattle.card.specs.declared.SweepOperands.{SweepOperands}
 use Rattle.card.specs.declared.Answer.{Answer}
 use Rattle.card.specs.declared.Call.{Call}
-use Rattle.card.specs.declared.Call.the-variants.{Read, Write, Alloc, AllocContig, Create, Delete, DeleteTree, KeyRead, KeyWrite, Renew, Force, Free, Tick, Audit, Rent}
+use Rattle.card.specs.declared.Call.the-variants.{Read, Write, Alloc, AllocContig, Create, Delete, DeleteTree, KeyRead, KeyWrite, Renew, Force, Free, Tick, Audit, Rent, Sweep}
 
 -- KEY_READ or KEY_WRITE, by the mode whose key it sets.
 abbrev pub keyCall : Mode → KeyOperands → Call
@@ -54,6 +55,7 @@ plan port c Free lent = freePlan (c .public)
 plan port c (Tick o) lent = tickPlan (c .public) o
 plan port c Audit lent = auditPlan
 plan port c (Rent o) lent = rentPlan (c .public) o
+plan port c (Sweep o) lent = sweepPlan (c .public) o
 
 -- The port by whose rules a call is judged. "RENEW .. host only", "FORCE .. host only": no record and no function of C asks for them at the
 -- service port; there they do what they do at the host's.
@@ -73,13 +75,34 @@ portOf port Free = port
 portOf port (Tick o) = port
 portOf port Audit = port
 portOf port (Rent o) = port
+portOf port (Sweep o) = port
 
--- "FREE", "TICK", "AUDIT" and, 2026-08, RENT, "Either port may call it": the calls that look at no port.
+-- "FREE", "TICK", "AUDIT" and, by 2026-08 and 2026-09, RENT and SWEEP, "Either port may call it": the calls that look at no port.
 pub data EitherPort : Call → Type 0 where
   free : EitherPort Free
   tick : (o : TickOperands) → EitherPort (Tick o)
   audit : EitherPort Audit
   rent : (o : RentOperands) → EitherPort (Rent o)
+  sweep : (o : SweepOperands) → EitherPort (Sweep o)
+
+-- The call is SWEEP.
+unfoldable pub isSweep : Call → Bool
+isSweep (Read o) = false
+isSweep (Write o) = false
+isSweep (Alloc o) = false
+isSweep (AllocContig o) = false
+isSweep (Create o) = false
+isSweep (Delete o) = false
+isSweep (DeleteTree o) = false
+isSweep (KeyRead o) = false
+isSweep (KeyWrite o) = false
+isSweep (Renew o) = false
+isSweep (Force o) = false
+isSweep Free = false
+isSweep (Tick o) = false
+isSweep Audit = false
+isSweep (Rent o) = false
+isSweep (Sweep o) = true
 
 -- All that a request can be refused for, in order: the shape and the soundness of the card, then what its paragraph names.
 unfoldable pub refusals : Port → Card → Request → List Check
@@ -175,6 +198,7 @@ traits Free = plain []
 traits (Tick o) = record { credentials = []; values = λ r. []; takesPointerTo = none; seconds = o .seconds }
 traits Audit = plain []
 traits (Rent o) = plain []
+traits (Sweep o) = plain []
 
 -- ---- what a player reports
 

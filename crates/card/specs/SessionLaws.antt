@@ -7,11 +7,11 @@ use lib.ListN.{length, drop}
 use lib.Seq.{drop-at}
 use Rattle.card.specs.Card.{Public, Card}
 use Rattle.card.specs.Soundness.{verdict}
-use Rattle.card.specs.Plan.{first, audited, Change, setWindow, setBlock, setKey, takeBlock, freeBlock, addPointer, raisePointer, lowerPointer, dropPointer, dropFrom, setTime, withUsed, withTime, changePublic, change, changes, Plan, Buffers, settle, judge}
+use Rattle.card.specs.Plan.{first, audited, Change, setWindow, setBlock, setKey, takeBlock, freeBlock, sweepBlock, addPointer, raisePointer, lowerPointer, dropPointer, dropFrom, setTime, withUsed, withTime, changePublic, change, changes, Plan, Buffers, settle, judge}
 use Rattle.card.specs.Promises.{Is, judged-misshapen, judged-unsound, judged-sound}
 use Rattle.card.specs.Access.{admits}
 use Rattle.card.specs.Calls.{keyPlan}
-use Rattle.card.specs.Session.{keyCall, Request, Sent, Reply, plan, portOf, EitherPort, free, tick, audit, rent, perform, performSound, reply, performed, replies, afterAll}
+use Rattle.card.specs.Session.{keyCall, Request, Sent, Reply, plan, portOf, EitherPort, free, tick, audit, rent, sweep, perform, performSound, reply, performed, replies, afterAll}
 use Rattle.card.specs.declared.Info.{Info}
 use Rattle.card.specs.declared.Port.{Port}
 use Rattle.card.specs.declared.Mode.{Mode}
@@ -23,7 +23,7 @@ use Rattle.card.specs.declared.Refusal.the-variants.{Misshapen as Missha
 use Rattle.card.specs.declared.Answer.{Answer}
 use Rattle.card.specs.declared.Answer.the-variants.{Refused}
 use Rattle.card.specs.declared.Call.{Call}
-use Rattle.card.specs.declared.Call.the-variants.{Read, Write, Alloc, AllocContig, Create, Delete, DeleteTree, KeyRead, KeyWrite, Renew, Force, Free, Tick, Audit, Rent}
+use Rattle.card.specs.declared.Call.the-variants.{Read, Write, Alloc, AllocContig, Create, Delete, DeleteTree, KeyRead, KeyWrite, Renew, Force, Free, Tick, Audit, Rent, Sweep}
 
 module _ (port : Port) (c : Card) (q : Request) where
   pub is-misshapen : verdict c ≡ Misshapen → Is (perform port c q) (Refused MisshapenRefusal) c (q .lent .out) (q .lent .places)
@@ -68,8 +68,9 @@ perform-portOf port c q = ap (judge c (q .lent)) (go (q .call))
     go (Tick o) = refl
     go Audit = refl
     go (Rent o) = refl
+    go (Sweep o) = refl
 
--- Document 01, of FREE, TICK and AUDIT: "These three serve either port alike." 2026-08, of RENT: "Either port may call it".
+-- Document 01, of FREE, TICK and AUDIT: "These three serve either port alike." 2026-08 and 2026-09, of RENT and SWEEP: "Either port may call it".
 pub ports-alike : {call : Call} → EitherPort call → (port other : Port) (c : Card) (lent : Buffers)
     → perform port c (record { call = call; lent = lent }) ≡ perform other c (record { call = call; lent = lent })
 unfolding perform plan
@@ -77,6 +78,7 @@ ports-alike free port other c lent = refl
 ports-alike (tick o) port other c lent = refl
 ports-alike audit port other c lent = refl
 ports-alike (rent o) port other c lent = refl
+ports-alike (sweep o) port other c lent = refl
 
 -- ---- a list of calls, part by part
 
@@ -115,6 +117,7 @@ module _ {size : Info → ℕ} (fixed : Fixed size) where
   changePublic-size (setKey mode b key) p = refl
   changePublic-size (takeBlock b) p = refl
   changePublic-size (freeBlock b) p = refl
+  changePublic-size (sweepBlock b) p = refl
   changePublic-size (addPointer a b) p = fixed .used (p .info) (p .info .used + 1)
   changePublic-size (raisePointer a b) p = refl
   changePublic-size (lowerPointer a b) p = refl

@@ -2,12 +2,12 @@
 -- Soundness, so that a card is a `SoundCard` if and only if its verdict is sound, is `verdict-sound` and `sound-verdict`.
 use Prim.Native.Nat.{ℕ, _+_, _*_, _%_, _≤_, _<_}
 use mathlib.Core.Path.{_≡_}
-use mathlib.Core.Bool.{true, false}
+use mathlib.Core.Bool.{true, false, _||_}
 use lib.Dec.{eqb}
 use lib.ListN.{length, drop}
 use Rattle.card.specs.Lists.{all}
 use Rattle.card.specs.Pointers.{ascending, source, destination, pointersTo}
-use Rattle.card.specs.Card.{Public, Card, flag, allocatedFlag, keyFlag, allocated, windowEnd, longestInterval, count, inUse, timesInUse, keyHigh, keyLow}
+use Rattle.card.specs.Card.{Public, Card, flag, allocatedFlag, keyFlag, waitingFlag, freeFlag, allocated, windowEnd, longestInterval, count, inUse, timesInUse, keyHigh, keyLow}
 use Rattle.card.specs.Soundness.{timeLimit, mostBlocks, pointerRight, multiplicityRight}
 use Rattle.card.specs.declared.Mode.{Mode}
 
@@ -46,9 +46,9 @@ pub record KeyZero (c : Card) (mode : Mode) (b : ℕ) : Type 0 where
   pub high : keyHigh (c .keys) mode b ≡ 0
   pub low : keyLow (c .keys) mode b ≡ 0
 
--- "flags, keys, count and windows 0"
+-- Free or waiting, with "keys, count and windows 0".
 pub record Empty (c : Card) (b : ℕ) : Type 0 where
-  pub flagZero : flag (c .public) b ≡ 0
+  pub freeOrWaiting : freeFlag (flag (c .public) b) || waitingFlag (flag (c .public) b) ≡ true
   pub keysZero : (mode : Mode) → KeyZero c mode b
   pub countZero : count (c .public) b ≡ 0
   pub windowZero : (mode : Mode) → windowEnd (c .public) mode b ≡ 0
@@ -61,7 +61,7 @@ pub record RightPointer (p : Public) (w : ℕ) : Type 0 where
 
 -- Document 01, "Soundness", as statements.
 pub record Consistent (c : Card) : Type 0 where
-  pub flagsLow : (b : ℕ) → b < c .public .info .blocks → flag (c .public) b < 8
+  pub flagsLow : (b : ℕ) → b < c .public .info .blocks → flag (c .public) b ≤ 8
   pub rootsAllocated : (b : ℕ) → b < c .public .info .blocks → b < c .public .info .roots → allocatedFlag (flag (c .public) b) ≡ true
   pub unallocated : (b : ℕ) → b < c .public .info .blocks → allocatedFlag (flag (c .public) b) ≡ false → Empty c b
   pub absentKey : (mode : Mode) (b : ℕ) → b < c .public .info .blocks → keyFlag mode (flag (c .public) b) ≡ false → KeyZero c mode b

@@ -6,7 +6,7 @@ use lib.Dec.{eqb, ltb, leb}
 use lib.ListN.{length, drop}
 use Rattle.card.specs.Lists.{every, all, allBelow}
 use Rattle.card.specs.Pointers.{ascending, source, destination, pointersTo}
-use Rattle.card.specs.Card.{Public, Card, flag, allocatedFlag, keyFlag, allocated, isRoot, windowEnd, longestInterval, count, inUse, timesInUse, highestMultiplicity, keyHigh, keyLow}
+use Rattle.card.specs.Card.{Public, Card, flag, allocatedFlag, keyFlag, waitingFlag, freeFlag, allocated, isRoot, windowEnd, longestInterval, count, inUse, timesInUse, highestMultiplicity, keyHigh, keyLow}
 use Rattle.card.specs.declared.Info.{Info}
 use Rattle.card.specs.declared.Mode.{Mode}
 use Rattle.card.specs.declared.Mode.the-variants.{Reading, Writing}
@@ -70,9 +70,9 @@ shape c = every (shapeClauses c)
 -- ---- soundness, of one block
 
 module _ (c : Card) (b : ℕ) where
-  -- "flags below 8"
-  unfoldable pub flagsBelow8 : Bool
-  flagsBelow8 = ltb (flag (c .public) b) 8
+  -- "flags below 8" and, 2026-09, "AUDIT allows flag 8": alone, so none above it.
+  unfoldable pub flagsLow : Bool
+  flagsLow = leb (flag (c .public) b) 8
 
   -- "roots allocated"
   unfoldable pub rootAllocated : Bool
@@ -82,12 +82,12 @@ module _ (c : Card) (b : ℕ) where
   unfoldable pub keyZero : Mode → Bool
   keyZero mode = eqb (keyHigh (c .keys) mode b) 0 && eqb (keyLow (c .keys) mode b) 0
 
-  -- "an unallocated block has flags, keys, count and windows 0"
+  -- "an unallocated block has flags, keys, count and windows 0", or is a waiting one, 2026-09: "flag 8 with keys, count and windows 0".
   unfoldable pub unallocatedEmpty : Bool
   unallocatedEmpty =
       allocatedFlag (flag (c .public) b)
       || every
-      (eqb (flag (c .public) b) 0
+      ((freeFlag (flag (c .public) b) || waitingFlag (flag (c .public) b))
       ∷ keyZero Reading
       ∷ keyZero Writing
       ∷ eqb (count (c .public) b) 0
@@ -136,7 +136,7 @@ totalInTime info = leb (info .total) (info .time * mostBlocks)
 abbrev pub soundClauses : Card → List Bool
 soundClauses c =
     let blocks = c .public .info .blocks in
-    allBelow (λ b. flagsBelow8 c b) blocks
+    allBelow (λ b. flagsLow c b) blocks
     ∷ allBelow (λ b. rootAllocated c b) blocks
     ∷ allBelow (λ b. unallocatedEmpty c b) blocks
     ∷ allBelow (λ b. absentKeyZero c b Reading) blocks

@@ -1,15 +1,16 @@
 -- The two ways between the tests of shape and soundness and the statements of SoundCard.
 use Prim.Native.Nat.{ℕ, _≤_, _<_}
 use mathlib.Core.Path.{_≡_, refl, ap}
+use mathlib.Core.Logic.{_⊎_, inl, inr, ⊎-elim}
 use mathlib.Core.Bool.{Bool, true, false, _||_, not, cond}
 use mathlib.Core.List.{[], _∷_}
 use native.Mathlib.Omega.{arith}
 use lib.Dec.{eqb, ltb, leb}
 use borrow.Author.Tests.{lt-ltb, le-ltb, le-leb, eq-eqb, ne-eqb, ltb-true, ltb-false, leb-true, eqb-true, eqb-false, not-true, not-false}
-use Rattle.card.specs.ListsLaws.{and-left, and-right, and-true, or-else, or-false, or-false-left, or-false-right, every-true, true-every, allBelow-true, true-allBelow}
+use Rattle.card.specs.ListsLaws.{and-left, and-right, and-true, or-else, or-cases, or-false, or-false-left, or-false-right, false-unless, absurd-test, every-true, true-every, allBelow-true, true-allBelow}
 use Rattle.card.specs.Pointers.{source, destination}
-use Rattle.card.specs.Card.{Public, Card, flag, allocatedFlag, keyFlag, allocated, isRoot, windowEnd, count, highestMultiplicity, keyHigh}
-use Rattle.card.specs.Soundness.{rangeClauses, ranges, lengthClauses, lengths, shapeClauses, shape, soundClauses, flagsBelow8, rootAllocated, keyZero, unallocatedEmpty, absentKeyZero, countRight, pointedTo, windowInTime, pointerRight, multiplicityRight, totalInTime, sound, verdict}
+use Rattle.card.specs.Card.{Public, Card, flag, allocatedFlag, keyFlag, waitingFlag, freeFlag, allocated, waiting, free, isRoot, windowEnd, count, highestMultiplicity, keyHigh}
+use Rattle.card.specs.Soundness.{rangeClauses, ranges, lengthClauses, lengths, shapeClauses, shape, soundClauses, flagsLow, rootAllocated, keyZero, unallocatedEmpty, absentKeyZero, countRight, pointedTo, windowInTime, pointerRight, multiplicityRight, totalInTime, sound, verdict}
 use Rattle.card.specs.SoundCard.{InRanges, HasLengths, Shaped, KeyZero, Empty, RightPointer, Consistent, SoundCard}
 use Rattle.card.specs.declared.Mode.{Mode}
 use Rattle.card.specs.declared.Mode.the-variants.{Reading, Writing}
@@ -149,9 +150,9 @@ pub unallocatedEmpty-true : (c : Card) (b : ℕ) → unallocatedEmpty c b ≡ tr
 unfolding unallocatedEmpty
 unallocatedEmpty-true c b e f =
     let p = c .public in
-    let h = every-true (eqb (flag p b) 0 ∷ keyZero c b Reading ∷ keyZero c b Writing ∷ eqb (count p b) 0 ∷ eqb (windowEnd p Reading b) 0 ∷ eqb (windowEnd p Writing b) 0 ∷ []) (or-else _ _ e f) in
+    let h = every-true ((freeFlag (flag p b) || waitingFlag (flag p b)) ∷ keyZero c b Reading ∷ keyZero c b Writing ∷ eqb (count p b) 0 ∷ eqb (windowEnd p Reading b) 0 ∷ eqb (windowEnd p Writing b) 0 ∷ []) (or-else _ _ e f) in
     record {
-      flagZero = eqb-true _ _ (h .0);
+      freeOrWaiting = h .0;
       keysZero = elim [ Reading ↦ keyZero-true c b Reading (h .1 .0) | Writing ↦ keyZero-true c b Writing (h .1 .1 .0) ];
       countZero = eqb-true _ _ (h .1 .1 .1 .0);
       windowZero = elim [ Reading ↦ eqb-true _ _ (h .1 .1 .1 .1 .0) | Writing ↦ eqb-true _ _ (h .1 .1 .1 .1 .1 .0) ];
@@ -163,7 +164,7 @@ true-unallocatedEmpty c b f =
     or-from (allocatedFlag (flag (c .public) b)) _
     (λ e.
     true-every _ (
-      eq-eqb _ _ (f e .flagZero),
+      f e .freeOrWaiting,
       (
         true-keyZero (f e .keysZero Reading),
         (
@@ -243,12 +244,12 @@ true-pointedTo c b f =
     (not-false _ (or-false-right (isRoot (c .public) b) _ e))))
 
 pub sound-true : (c : Card) → sound c ≡ true → Consistent c
-unfolding sound flagsBelow8 countRight windowInTime totalInTime
+unfolding sound flagsLow countRight windowInTime totalInTime
 sound-true c e =
     let h = every-true (soundClauses c) e in
     let blocks = c .public .info .blocks in
     record {
-      flagsLow = λ b l. ltb-true _ _ (allBelow-true (λ b. flagsBelow8 c b) blocks (h .0) b l);
+      flagsLow = λ b l. leb-true _ _ (allBelow-true (λ b. flagsLow c b) blocks (h .0) b l);
       rootsAllocated = λ b l. rootAllocated-true c b (allBelow-true (λ b. rootAllocated c b) blocks (h .1 .0) b l);
       unallocated = λ b l. unallocatedEmpty-true c b (allBelow-true (λ b. unallocatedEmpty c b) blocks (h .1 .1 .0) b l);
       absentKey = elim [
@@ -270,11 +271,11 @@ sound-true c e =
     }
 
 pub true-sound : {c : Card} → Consistent c → sound c ≡ true
-unfolding sound flagsBelow8 countRight windowInTime totalInTime
+unfolding sound flagsLow countRight windowInTime totalInTime
 true-sound {c} h =
     let blocks = c .public .info .blocks in
     true-every (soundClauses c) (
-      true-allBelow _ blocks (λ b l. lt-ltb _ _ (h .flagsLow b l)),
+      true-allBelow _ blocks (λ b l. le-leb _ _ (h .flagsLow b l)),
       (
         true-allBelow _ blocks (λ b l. true-rootAllocated c b (h .rootsAllocated b l)),
         (
@@ -344,6 +345,49 @@ allocated-flag p b e = and-right (ltb b (p .info .blocks)) _ e
 pub flag-allocated : (p : Public) (b : ℕ) → b < p .info .blocks → allocatedFlag (flag p b) ≡ true → allocated p b ≡ true
 unfolding allocated
 flag-allocated p b l e = and-true _ _ (lt-ltb _ _ l) e
+
+-- A free block is below N and has no flag; a waiting one has flag 8 alone. Neither is allocated.
+pub free-below : (p : Public) (b : ℕ) → free p b ≡ true → b < p .info .blocks
+unfolding free
+free-below p b e = ltb-true _ _ (and-left _ _ e)
+
+pub free-flag : (p : Public) (b : ℕ) → free p b ≡ true → flag p b ≡ 0
+unfolding free
+free-flag p b e = eqb-true _ _ (and-right (ltb b (p .info .blocks)) _ e)
+
+pub flag-free : (p : Public) (b : ℕ) → b < p .info .blocks → flag p b ≡ 0 → free p b ≡ true
+unfolding free
+flag-free p b l e = and-true _ _ (lt-ltb _ _ l) (eq-eqb _ _ e)
+
+pub waiting-below : (p : Public) (b : ℕ) → waiting p b ≡ true → b < p .info .blocks
+unfolding waiting
+waiting-below p b e = ltb-true _ _ (and-left _ _ e)
+
+pub waiting-flag : (p : Public) (b : ℕ) → waiting p b ≡ true → flag p b ≡ 8
+unfolding waiting
+waiting-flag p b e = eqb-true _ _ (and-right (ltb b (p .info .blocks)) _ e)
+
+pub flag-waiting : (p : Public) (b : ℕ) → b < p .info .blocks → flag p b ≡ 8 → waiting p b ≡ true
+unfolding waiting
+flag-waiting p b l e = and-true _ _ (lt-ltb _ _ l) (eq-eqb _ _ e)
+
+pub free-unallocated : (p : Public) (b : ℕ) → free p b ≡ true → allocated p b ≡ false
+unfolding allocated
+free-unallocated p b e = rw (free-flag p b e, lt-ltb _ _ (free-below p b e)) refl
+
+pub waiting-unallocated : (p : Public) (b : ℕ) → waiting p b ≡ true → allocated p b ≡ false
+unfolding allocated
+waiting-unallocated p b e = rw (waiting-flag p b e, lt-ltb _ _ (waiting-below p b e)) refl
+
+-- A block of a sound card that is not allocated waits or is free.
+pub unallocated-cases : {c : Card} → Consistent c → (b : ℕ) → b < c .public .info .blocks → allocated (c .public) b ≡ false
+    → (waiting (c .public) b ≡ true) ⊎ (free (c .public) b ≡ true)
+unallocated-cases {c} s b l e =
+    let flagged : allocatedFlag (flag (c .public) b) ≡ false = false-unless _ (λ a. absurd-test (flag-allocated (c .public) b l a) e) in
+    ⊎-elim
+    (λ z. inr (flag-free (c .public) b l (eqb-true _ _ z)))
+    (λ w. inl (flag-waiting (c .public) b l (eqb-true _ _ w)))
+    (or-cases _ _ (s .unallocated b l flagged .freeOrWaiting))
 
 -- ---- what each verdict says, and when it is given
 

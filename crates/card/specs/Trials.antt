@@ -8,13 +8,13 @@ use Rattle.card.specs.Lists.{every, all, any, allBelow, numbersBelow, nu
 use Rattle.card.specs.Pointers.{ascending, contains, pointsFrom, insert, remove, beside, total, insertBeside, removeBeside, setBeside, keepBeside, keep, notFrom}
 use Rattle.card.specs.Least.{rounds, least}
 use Rattle.card.specs.Contents.{overwrite, part, fill, zeros}
-use Rattle.card.specs.Card.{Card, card, allocated, hasKey, freeBlocks, windowOpen, multiplicity, pointsTo, hasPointers}
+use Rattle.card.specs.Card.{Card, card, allocated, waiting, free as freeOf, hasKey, freeBlocks, waitingBlocks, windowOpen, multiplicity, pointsTo, hasPointers}
 use Rattle.card.specs.Tree.{ordinary, onlyFrom, orphaned, orphans}
 use Rattle.card.specs.Rent.{rented, rentFor, halfRounded, rounded, cents}
-use Rattle.card.specs.Soundness.{ranges, lengths, shape, flagsBelow8, rootAllocated, keyZero, unallocatedEmpty, absentKeyZero, countRight, pointedTo, windowInTime, pointerRight, multiplicityRight, totalInTime, sound}
+use Rattle.card.specs.Soundness.{ranges, lengths, shape, flagsLow, rootAllocated, keyZero, unallocatedEmpty, absentKeyZero, countRight, pointedTo, windowInTime, pointerRight, multiplicityRight, totalInTime, sound}
 use Rattle.card.specs.Access.{keyIs, keyOpens, opensKeyed, opensRoot, opensPointed, opens, admits}
 use Rattle.card.specs.Plan.{first, audited, changePublic, changeKeys, changeContents, change, changes, outAfter, placesAfter, settle, judge, withUsed, withTime, Buffers}
-use Rattle.card.specs.Calls.{rootAtHost, windowAfter, opensWindow, freshInfo, formatResult, format, readPlan, writePlan, wanted, nearest, picks, takeAll, allocPlan, isRun, runStarts, nearestRun, allocContigPlan, createPlan, deletePlan, freedWith, freeEach, deleteTreePlan, keyPlan, modeOf, renewPlan, forcePlan, freePlan, tickPlan, auditPlan, rentPlan}
+use Rattle.card.specs.Calls.{rootAtHost, windowAfter, opensWindow, freshInfo, formatResult, format, readPlan, writePlan, wanted, nearest, picks, takeAll, allocPlan, isRun, runStarts, nearestRun, allocContigPlan, createPlan, deletePlan, freedWith, freeEach, deleteTreePlan, keyPlan, modeOf, renewPlan, forcePlan, freePlan, tickPlan, auditPlan, rentPlan, lowestWaiting, sweepEach, sweepPlan}
 use Rattle.card.specs.Session.{keyCall, Sent, plan, perform, reported, reports, traits}
 use Rattle.card.specs.declared.Port.{Port}
 use Rattle.card.specs.declared.Port.the-variants.{Host, Service}
@@ -25,11 +25,11 @@ use Rattle.card.specs.declared.Credential.the-variants.{Nothing, Referen
 use Rattle.card.specs.declared.NewKey.{NewKey}
 use Rattle.card.specs.declared.NewKey.the-variants.{Absent, Present}
 use Rattle.card.specs.declared.Call.{Call}
-use Rattle.card.specs.declared.Call.the-variants.{Read, Write, Alloc, AllocContig, Create, Delete, DeleteTree, Free, Tick, Rent}
+use Rattle.card.specs.declared.Call.the-variants.{Read, Write, Alloc, AllocContig, Create, Delete, DeleteTree, Free, Tick, Rent, Sweep}
 
 -- To compute by the rules, a proof unfolds this one name.
 unfoldable pub rules : Unit {0}
-unfolding every all any allBelow numbersBelow numbersFrom tabulate rounds least ascending contains pointsFrom insert remove beside total insertBeside removeBeside setBeside keepBeside keep notFrom overwrite part fill allocated hasKey freeBlocks windowOpen multiplicity pointsTo hasPointers ordinary onlyFrom orphaned orphans rented rentFor halfRounded rounded cents ranges lengths shape flagsBelow8 rootAllocated keyZero unallocatedEmpty absentKeyZero countRight pointedTo windowInTime pointerRight multiplicityRight totalInTime sound keyIs keyOpens opensKeyed opensRoot opensPointed opens admits first audited changePublic changeKeys changeContents change changes outAfter placesAfter settle judge rootAtHost windowAfter opensWindow formatResult format readPlan writePlan wanted nearest picks takeAll allocPlan isRun runStarts nearestRun allocContigPlan createPlan deletePlan freedWith freeEach deleteTreePlan keyPlan modeOf renewPlan forcePlan freePlan tickPlan auditPlan rentPlan plan perform reported reports traits
+unfolding every all any allBelow numbersBelow numbersFrom tabulate rounds least ascending contains pointsFrom insert remove beside total insertBeside removeBeside setBeside keepBeside keep notFrom overwrite part fill allocated waiting freeOf hasKey freeBlocks waitingBlocks windowOpen multiplicity pointsTo hasPointers ordinary onlyFrom orphaned orphans rented rentFor halfRounded rounded cents ranges lengths shape flagsLow rootAllocated keyZero unallocatedEmpty absentKeyZero countRight pointedTo windowInTime pointerRight multiplicityRight totalInTime sound keyIs keyOpens opensKeyed opensRoot opensPointed opens admits first audited changePublic changeKeys changeContents change changes outAfter placesAfter settle judge rootAtHost windowAfter opensWindow formatResult format readPlan writePlan wanted nearest picks takeAll allocPlan isRun runStarts nearestRun allocContigPlan createPlan deletePlan freedWith freeEach deleteTreePlan keyPlan modeOf renewPlan forcePlan freePlan tickPlan auditPlan rentPlan lowestWaiting sweepEach sweepPlan plan perform reported reports traits
 rules = tt
 
 -- ---- the player's card
@@ -92,6 +92,9 @@ tick n = send Host (Tick (record { seconds = n }))
 abbrev pub rent : ℕ → Sent
 rent price = send Host (Rent (record { price = price }))
 
+abbrev pub sweep : ℕ → Sent
+sweep n = send Host (Sweep (record { most = n }))
+
 -- ---- the table
 
 -- Calls from a fresh player card, and what is reported of each.
@@ -137,16 +140,17 @@ trialTable =
     ∷ (alloc Service 0 65535 1 ∷ alloc Service 1 65535 1 ∷ delete Service 0 1 ∷ [] yields (0 ∷ 1 ∷ []) ∷ (0 ∷ 2 ∷ []) ∷ (9 ∷ []) ∷ [])
     -- T11
     ∷ (tick 1099511627775 ∷ tick 1 ∷ [] yields (0 ∷ 1099511627775 ∷ []) ∷ (12 ∷ []) ∷ [])
-    -- T12
+    -- T12, which by 2026-09 "sweeps before it asks for 2"
     ∷ (alloc Service 0 65535 2
     ∷ writeAll Service 2 Nothing 0 7
     ∷ read Service 2 Nothing 0
     ∷ delete Service 0 2
+    ∷ sweep 1
     ∷ alloc Service 0 2 1
     ∷ read Service 2 Nothing 0
     ∷ []
-    yields (0 ∷ 1 ∷ 2 ∷ []) ∷ (0 ∷ []) ∷ (0 ∷ replicate 8 7) ∷ (0 ∷ 1 ∷ []) ∷ (0 ∷ 2 ∷ []) ∷ (0 ∷ zeros8) ∷ [])
-    -- the example of ten records, its second as 2026-02 has it
+    yields (0 ∷ 1 ∷ 2 ∷ []) ∷ (0 ∷ []) ∷ (0 ∷ replicate 8 7) ∷ (0 ∷ 1 ∷ []) ∷ (0 ∷ 1 ∷ []) ∷ (0 ∷ 2 ∷ []) ∷ (0 ∷ zeros8) ∷ [])
+    -- the example of ten records, its second as 2026-02 has it and its last answer as 2026-09 has it
     ∷ (alloc Service 0 65535 2
     ∷ key Service Reading 1 Nothing (Present 1 2)
     ∷ read Host 1 Nothing 0
@@ -167,7 +171,7 @@ trialTable =
     ∷ (0 ∷ 10 ∷ [])
     ∷ (5 ∷ [])
     ∷ (0 ∷ 1 ∷ [])
-    ∷ (0 ∷ 14 ∷ [])
+    ∷ (0 ∷ 13 ∷ [])
     ∷ [])
     -- CREATE tests the destination for writing: its write key opens it, its read key does not
     ∷ (alloc Service 0 65535 2
@@ -244,7 +248,7 @@ trialTable =
     ∷ delete Service 0 1
     ∷ free
     ∷ []
-    yields (0 ∷ 1 ∷ []) ∷ (0 ∷ 2 ∷ []) ∷ (0 ∷ []) ∷ (0 ∷ 0 ∷ []) ∷ (9 ∷ []) ∷ (0 ∷ 1 ∷ []) ∷ (0 ∷ 1 ∷ []) ∷ (3 ∷ []) ∷ (0 ∷ 15 ∷ []) ∷ [])
+    yields (0 ∷ 1 ∷ []) ∷ (0 ∷ 2 ∷ []) ∷ (0 ∷ []) ∷ (0 ∷ 0 ∷ []) ∷ (9 ∷ []) ∷ (0 ∷ 1 ∷ []) ∷ (0 ∷ 1 ∷ []) ∷ (3 ∷ []) ∷ (0 ∷ 13 ∷ []) ∷ [])
     -- 2026-05: a block is freed with its last pointer, whichever block it comes from
     ∷ (alloc Service 0 65535 2
     ∷ create Service 2 Nothing 1 Nothing
@@ -272,7 +276,7 @@ trialTable =
     ∷ deleteTree Service 0 1
     ∷ free
     ∷ []
-    yields (0 ∷ 1 ∷ []) ∷ (0 ∷ 2 ∷ []) ∷ (0 ∷ 3 ∷ []) ∷ (9 ∷ []) ∷ (0 ∷ 3 ∷ []) ∷ (0 ∷ 15 ∷ []) ∷ [])
+    yields (0 ∷ 1 ∷ []) ∷ (0 ∷ 2 ∷ []) ∷ (0 ∷ 3 ∷ []) ∷ (9 ∷ []) ∷ (0 ∷ 3 ∷ []) ∷ (0 ∷ 12 ∷ []) ∷ [])
     -- 2026-07: a block with a pointer from outside stays, with all below it; its count is right, so that its last pointer frees it
     ∷ (alloc Service 0 65535 2
     ∷ alloc Service 1 65535 1
@@ -282,7 +286,7 @@ trialTable =
     ∷ deleteTree Service 2 3
     ∷ free
     ∷ []
-    yields (0 ∷ 1 ∷ 2 ∷ []) ∷ (0 ∷ 3 ∷ []) ∷ (0 ∷ 4 ∷ []) ∷ (0 ∷ []) ∷ (0 ∷ 1 ∷ []) ∷ (0 ∷ 2 ∷ []) ∷ (0 ∷ 14 ∷ []) ∷ [])
+    yields (0 ∷ 1 ∷ 2 ∷ []) ∷ (0 ∷ 3 ∷ []) ∷ (0 ∷ 4 ∷ []) ∷ (0 ∷ []) ∷ (0 ∷ 1 ∷ []) ∷ (0 ∷ 2 ∷ []) ∷ (0 ∷ 11 ∷ []) ∷ [])
     -- 2026-07: a cycle through the destination stays; then its blocks point to each other alone, and with a pointer of it the source goes too
     ∷ (alloc Service 0 65535 1
     ∷ alloc Service 1 65535 1
@@ -292,7 +296,7 @@ trialTable =
     ∷ deleteTree Service 1 2
     ∷ free
     ∷ []
-    yields (0 ∷ 1 ∷ []) ∷ (0 ∷ 2 ∷ []) ∷ (0 ∷ []) ∷ (0 ∷ 0 ∷ []) ∷ (0 ∷ 13 ∷ []) ∷ (0 ∷ 2 ∷ []) ∷ (0 ∷ 15 ∷ []) ∷ [])
+    yields (0 ∷ 1 ∷ []) ∷ (0 ∷ 2 ∷ []) ∷ (0 ∷ []) ∷ (0 ∷ 0 ∷ []) ∷ (0 ∷ 13 ∷ []) ∷ (0 ∷ 2 ∷ []) ∷ (0 ∷ 13 ∷ []) ∷ [])
     -- 2026-07: a write key deep in the tree refuses 15, a read key does not
     ∷ (alloc Service 0 65535 1
     ∷ alloc Service 1 65535 1
@@ -340,6 +344,79 @@ trialTable =
     ∷ rent 1000
     ∷ []
     yields (0 ∷ 1 ∷ 2 ∷ []) ∷ (0 ∷ 86399 ∷ []) ∷ (0 ∷ 1 ∷ []) ∷ (0 ∷ 1099511627775 ∷ []) ∷ (12 ∷ []) ∷ (12 ∷ []) ∷ (0 ∷ 12725830 ∷ []) ∷ [])
+    -- 2026-09: a freed block waits, so it is neither free for FREE and ALLOC, by hint and as the last one, nor allocated for a call that names it
+    ∷ (alloc Service 0 65535 3
+    ∷ delete Service 0 2
+    ∷ free
+    ∷ read Service 2 Nothing 0
+    ∷ alloc Service 0 2 1
+    ∷ alloc Service 0 65535 12
+    ∷ alloc Service 0 65535 11
+    ∷ alloc Service 0 65535 1
+    ∷ sweep 1
+    ∷ free
+    ∷ alloc Service 0 65535 1
+    ∷ []
+    yields (0 ∷ 1 ∷ 2 ∷ 3 ∷ [])
+    ∷ (0 ∷ 1 ∷ [])
+    ∷ (0 ∷ 12 ∷ [])
+    ∷ (3 ∷ [])
+    ∷ (0 ∷ 4 ∷ [])
+    ∷ (10 ∷ [])
+    ∷ (0 ∷ 5 ∷ 6 ∷ 7 ∷ 8 ∷ 9 ∷ 10 ∷ 11 ∷ 12 ∷ 13 ∷ 14 ∷ 15 ∷ [])
+    ∷ (10 ∷ [])
+    ∷ (0 ∷ 1 ∷ [])
+    ∷ (0 ∷ 1 ∷ [])
+    ∷ (0 ∷ 2 ∷ [])
+    ∷ [])
+    -- 2026-09: a run has no waiting block: 14
+    ∷ (alloc Service 0 65535 15
+    ∷ delete Service 0 5
+    ∷ delete Service 0 6
+    ∷ delete Service 0 7
+    ∷ sweep 3
+    ∷ alloc Service 0 6 1
+    ∷ delete Service 0 6
+    ∷ allocContig Service 0 65535 2
+    ∷ sweep 1
+    ∷ allocContig Service 0 65535 2
+    ∷ []
+    yields (0 ∷ 1 ∷ 2 ∷ 3 ∷ 4 ∷ 5 ∷ 6 ∷ 7 ∷ 8 ∷ 9 ∷ 10 ∷ 11 ∷ 12 ∷ 13 ∷ 14 ∷ 15 ∷ [])
+    ∷ (0 ∷ 1 ∷ [])
+    ∷ (0 ∷ 1 ∷ [])
+    ∷ (0 ∷ 1 ∷ [])
+    ∷ (0 ∷ 3 ∷ [])
+    ∷ (0 ∷ 6 ∷ [])
+    ∷ (0 ∷ 1 ∷ [])
+    ∷ (14 ∷ [])
+    ∷ (0 ∷ 1 ∷ [])
+    ∷ (0 ∷ 5 ∷ 6 ∷ [])
+    ∷ [])
+    -- 2026-09: SWEEP takes the lowest, all if fewer wait, and none where none is asked for or none waits; a block that waits goes with no other tree
+    ∷ (alloc Service 0 65535 1
+    ∷ alloc Service 1 65535 3
+    ∷ sweep 5
+    ∷ deleteTree Service 0 1
+    ∷ sweep 0
+    ∷ free
+    ∷ sweep 3
+    ∷ allocContig Service 0 65535 3
+    ∷ deleteTree Service 0 1
+    ∷ sweep 4294967295
+    ∷ free
+    ∷ []
+    yields (0 ∷ 1 ∷ [])
+    ∷ (0 ∷ 2 ∷ 3 ∷ 4 ∷ [])
+    ∷ (0 ∷ 0 ∷ [])
+    ∷ (0 ∷ 4 ∷ [])
+    ∷ (0 ∷ 0 ∷ [])
+    ∷ (0 ∷ 11 ∷ [])
+    ∷ (0 ∷ 3 ∷ [])
+    ∷ (0 ∷ 1 ∷ 2 ∷ 3 ∷ [])
+    ∷ (0 ∷ 1 ∷ [])
+    ∷ (0 ∷ 2 ∷ [])
+    ∷ (0 ∷ 13 ∷ [])
+    ∷ [])
     ∷ []
 
 -- What the rules report of a row's calls.
@@ -420,3 +497,48 @@ rentExpected (time for total at price asks expected) = expected ∷ []
 pub rent-trials : map rentReports rentTable ≡ map rentExpected rentTable
 unfolding rules rentTable rentReports
 rent-trials = refl
+
+-- ---- 2026-09, AUDIT and waiting blocks
+
+-- A fresh player card but for the flags of its root and of block 1, a word of block 1's read key, its count and the end of its read window.
+abbrev pub damaged : ℕ → ℕ → ℕ → ℕ → ℕ → Card
+damaged root flags word count end =
+    card (freshInfo 16 1 512)
+    (root ∷ flags ∷ zeros 14)
+    (zeros 4 ++ (word ∷ zeros 59))
+    (0 ∷ count ∷ zeros 14)
+    (zeros 32)
+    (zeros 32)
+    (zeros 2 ++ (end ∷ zeros 29))
+    (zeros 8192)
+
+-- These five, and what is reported of FREE.
+pub data WaitingTrial : Type 0 where
+  given : ℕ → ℕ → ℕ → ℕ → ℕ → List ℕ → WaitingTrial
+
+unfoldable pub waitingTable : List WaitingTrial
+waitingTable =
+    given 1 0 0 0 0 (0 ∷ 15 ∷ [])
+    -- "AUDIT allows flag 8 with keys, count and windows 0"
+    ∷ given 1 8 0 0 0 (0 ∷ 14 ∷ [])
+    ∷ given 1 8 1 0 0 (2 ∷ [])
+    ∷ given 1 8 0 1 0 (2 ∷ [])
+    ∷ given 1 8 0 0 1 (2 ∷ [])
+    -- "flag 8 alone": not beside another, of an allocated block neither, nor a higher one
+    ∷ given 1 10 0 0 0 (2 ∷ [])
+    ∷ given 1 12 0 0 0 (2 ∷ [])
+    ∷ given 1 16 0 0 0 (2 ∷ [])
+    ∷ given 9 0 0 0 0 (2 ∷ [])
+    -- a root does not wait
+    ∷ given 8 0 0 0 0 (2 ∷ [])
+    ∷ []
+
+unfoldable pub waitingReports : WaitingTrial → List (List ℕ)
+waitingReports (given root flags word count end expected) = reports (damaged root flags word count end) (free ∷ [])
+
+abbrev pub waitingExpected : WaitingTrial → List (List ℕ)
+waitingExpected (given root flags word count end expected) = expected ∷ []
+
+pub waiting-trials : map waitingReports waitingTable ≡ map waitingExpected waitingTable
+unfolding rules waitingTable waitingReports
+waiting-trials = refl

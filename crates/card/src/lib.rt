@@ -17,6 +17,9 @@ pub const LONGEST_INTERVAL: u32 = 86400;
 // 2026-05: the highest multiplicity of a pointer.
 pub const HIGHEST_MULTIPLICITY: u16 = 65535;
 
+// 2026-09: the flags of a block that was freed and waits to be overwritten.
+pub const WAITING_FLAGS: u8 = 8;
+
 // 2026-08: the highest price of RENT, in thousandths of a cent for a block and a day.
 pub const HIGHEST_PRICE: u32 = 2000;
 
@@ -124,7 +127,12 @@ pub struct RentOperands {
     pub price: u32,
 }
 
-// A call, with its credentials inside. Records carry all but RENT.
+// At most so many blocks are swept.
+pub struct SweepOperands {
+    pub most: u32,
+}
+
+// A call, with its credentials inside. Records carry all but RENT and SWEEP.
 pub enum Call {
     Read(ReadOperands),
     Write(WriteOperands),
@@ -141,6 +149,7 @@ pub enum Call {
     Tick(TickOperands),
     Audit,
     Rent(RentOperands),
+    Sweep(SweepOperands),
 }
 
 // Why a call is refused, in the order of the numbers: 1 to 13 of document 01, 14 of the request 2026-01,

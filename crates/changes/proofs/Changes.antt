@@ -9,7 +9,7 @@ use lib.Dec.{eqb}
 use lib.ListN.{length, take, getD, set}
 use Rattle.card.specs.Pointers.{pointer, contains, beside}
 use Rattle.card.specs.Card.{card, multiplicity, highestMultiplicity}
-use Rattle.card.specs.Plan.{freeBlock, withUsed, clearKeys, changePublic, changeKeys, changeContents, change}
+use Rattle.card.specs.Plan.{freeBlock, freedFlags, withUsed, clearKeys, changePublic, changeKeys, changeContents, change}
 use Rattle.card.specs.declared.Info.{Info}
 use Rattle.tables.specs.Places.{PutAt, TakenAt}
 use Rattle.tables.specs.Rank.{rank}
@@ -87,7 +87,7 @@ module _ {pointers multiplicities : List ℕ} {used w at : ℕ} (place : at ≡ 
 -- ---- freeing
 
 pub freed : (flags keys windows : List ℕ) (b : ℕ) {left : List ℕ} → left ≡ clearKeys keys b → (info : Info) (counts pointers multiplicities contents : List ℕ)
-    → card info (set flags b 0) left counts pointers multiplicities (set (set windows (2 * b) 0) (2 * b + 1) 0) contents
+    → card info (set flags b freedFlags) left counts pointers multiplicities (set (set windows (2 * b) 0) (2 * b + 1) 0) contents
     ≡ change (card info flags keys counts pointers multiplicities windows contents) (freeBlock b)
 unfolding change changePublic changeKeys changeContents
 freed flags keys windows b e info counts pointers multiplicities contents = rw e

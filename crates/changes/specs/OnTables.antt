@@ -45,7 +45,7 @@ ChangesPointers step info counts pointers multiplicities after =
 
 -- ---- blocks
 
--- A block is freed: a change of its flags, keys and windows.
+-- A block is freed and waits: a change of its flags, keys and windows.
 abbrev pub FreesBlock : ℕ → Lent → Lent → Lent → Type 0
 FreesBlock block flags keys windows =
     (info : Info) (counts pointers multiplicities contents : List ℕ)

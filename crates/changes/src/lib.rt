@@ -1,5 +1,6 @@
 // Changes of the tables that a pointer more or less and a freed block make.
 use card::Info;
+use card::WAITING_FLAGS;
 ghost use mathlib.Core.Path.{_≡_};
 ghost use Prim.Native.Nat.{_+_, _*_, _≤_, _<_};
 ghost use lib.ListN.{length, getD};
@@ -75,7 +76,7 @@ fn clear_keys(keys: &mut [u64], block: u16)
     keys[write + 1] = 0;
 }
 
-// Flags, keys and windows of a block become 0, whatever the other tables hold.
+// A block waits: its flags become those of a waiting block, its keys and windows 0, whatever the other tables hold.
 pub fn free_block(flags: &mut [u8], keys: &mut [u64], windows: &mut [u64], block: u16)
     requires { ⌜ block < length (now flags) ⌝ }
     requires { ⌜ 4 * block + 4 ≤ length (now keys) ⌝ }
@@ -84,7 +85,7 @@ pub fn free_block(flags: &mut [u8], keys: &mut [u64], windows: &mut [u64], block
 {
     let b = block as usize;
     let window = 2 * b;
-    flags[b] = 0;
+    flags[b] = WAITING_FLAGS;
     windows[window] = 0;
     windows[window + 1] = 0;
     clear_keys(keys, block);

@@ -200,6 +200,17 @@ pub fn perform_sound(
             contents,
             o,
         ),
+        Call::Sweep(o) => sweeping::sweep_sound(
+            info,
+            flags,
+            keys,
+            counts,
+            pointers,
+            multiplicities,
+            windows,
+            contents,
+            o,
+        ),
         Call::Audit => Outcome {
             answer: Answer::Done,
             info,

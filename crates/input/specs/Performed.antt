@@ -39,7 +39,7 @@ module _ (m : Manner) where
     pub writes : p .output ≡ writtenOf (m .write) (before + 1) made (replies c (map (sentWith (m .size (c .public .info .bytes))) made))
     pub ends : Ends (c .public .info .bytes) room xs behind p
     -- So what holds of every call holds of each of them: refused, it changes nothing; on a sound card it leaves a sound one; and it touches no
-    -- unallocated block but those that it allots.
+    -- unallocated block but those that it allots or sweeps.
     pub safe : Each SafeCall c (map (sentWith (m .size (c .public .info .bytes))) made)
 
   -- What one turn comes to: a record is performed, or nothing is done.

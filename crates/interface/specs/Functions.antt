@@ -5,7 +5,7 @@ use Rattle.card.specs.Card.{Card}
 use Rattle.card.specs.declared.Port.the-variants.{Host}
 use Rattle.card.specs.declared.Mode.{Mode}
 use Rattle.card.specs.declared.Mode.the-variants.{Reading, Writing}
-use Rattle.card.specs.declared.Call.the-variants.{Force, Free, Tick, Audit, Rent}
+use Rattle.card.specs.declared.Call.the-variants.{Force, Free, Tick, Audit, Rent, Sweep}
 use Rattle.records.specs.Decode.{readWith, writeWith, allocWith, allocContigWith, createWith, deleteWith, deleteTreeWith, keyWith, renewWith}
 use Rattle.records.specs.declared.Decoding.{Decoding}
 use Rattle.records.specs.declared.Decoding.the-variants.{Decoded}
@@ -29,6 +29,7 @@ pub data Function : Type 0 where
   free : (value : ℕ) → Function
   audit : Function
   rent : (price value : ℕ) → Function
+  sweep : (most value : ℕ) → Function
   serve : (port kind : ℕ) (body out places : List ℕ) (value : ℕ) → Function
 
 -- KEY_READ or KEY_WRITE, by the mode whose key it sets.
@@ -62,6 +63,7 @@ lendingOf (tick seconds value) = lending (Decoded Host (Tick (record { seconds =
 lendingOf (free value) = lending (Decoded Host Free) [] [] [] value
 lendingOf audit = lending (Decoded Host Audit) [] [] [] 0
 lendingOf (rent price value) = lending (Decoded Host (Rent (record { price = price }))) [] [] [] value
+lendingOf (sweep most value) = lending (Decoded Host (Sweep (record { most = most }))) [] [] [] value
 lendingOf (serve port kind body out places value) =
     lending (decodeAt (wireOf port) kind body) (dataIn (decodeAt (wireOf port) kind body) body) out places value
 
@@ -86,4 +88,5 @@ functionPort (tick seconds value) = 0
 functionPort (free value) = 0
 functionPort audit = 0
 functionPort (rent price value) = 0
+functionPort (sweep most value) = 0
 functionPort (serve port kind body out places value) = port

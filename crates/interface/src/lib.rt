@@ -7,7 +7,7 @@ use parameters::Wire;
 ghost use mathlib.Core.Path.{_≡_};
 ghost use mathlib.Core.List.{[]};
 ghost use Rattle.adapter.specs.Effects.{formatEffect, reachEffect, unlockingEffect, Effects, EffectsGiving, EffectsLent, EffectsListing};
-ghost use Rattle.interface.specs.Functions.{read, write, alloc, allocContig, create, delete, deleteTree, keyRead, keyWrite, renew, force, tick, free, audit, rent, serve, effectBy};
+ghost use Rattle.interface.specs.Functions.{read, write, alloc, allocContig, create, delete, deleteTree, keyRead, keyWrite, renew, force, tick, free, audit, rent, sweep, serve, effectBy};
 ghost use Rattle.interface.specs.Batch.{stopNumber, ServesBatch};
 
 // ---- the calls, by their operands
@@ -439,7 +439,7 @@ pub extern "C" fn negvask_tick(
     )
 }
 
-// FREE: `value` the number of unallocated blocks.
+// FREE: `value` the number of free blocks.
 #[no_mangle]
 pub extern "C" fn negvask_count_free(
     info: &mut [u64],
@@ -530,6 +530,38 @@ pub extern "C" fn negvask_rent(
         decoding,
         &[],
         cents,
+    )
+}
+
+// SWEEP: the lowest waiting blocks overwritten and made free, at most so many; `swept` how many were.
+#[no_mangle]
+pub extern "C" fn negvask_sweep(
+    info: &mut [u64],
+    flags: &mut [u8],
+    keys: &mut [u64],
+    counts: &mut [u32],
+    pointers: &mut [u32],
+    multiplicities: &mut [u16],
+    windows: &mut [u64],
+    contents: &mut [u8],
+    most: u32,
+    swept: &mut u64,
+) -> u32
+    ensures { λ r. ⌜ EffectsGiving (λ v. effectBy (sweep most v)) info flags keys counts pointers multiplicities windows contents swept r ⌝ }
+{
+    let decoding = parameters::sweep_call(most);
+    adapter::perform_without_buffers(
+        info,
+        flags,
+        keys,
+        counts,
+        pointers,
+        multiplicities,
+        windows,
+        contents,
+        decoding,
+        &[],
+        swept,
     )
 }
 

@@ -6,7 +6,7 @@ use lib.ListN.{length, take}
 use Rattle.card.specs.Session.{Reply, traits, shownValues}
 use Rattle.card.specs.declared.Answer.{Answer}
 use Rattle.card.specs.declared.Call.{Call}
-use Rattle.card.specs.declared.Call.the-variants.{Read, Write, Alloc, AllocContig, Create, Delete, DeleteTree, KeyRead, KeyWrite, Renew, Force, Free, Tick, Audit, Rent}
+use Rattle.card.specs.declared.Call.the-variants.{Read, Write, Alloc, AllocContig, Create, Delete, DeleteTree, KeyRead, KeyWrite, Renew, Force, Free, Tick, Audit, Rent, Sweep}
 use Rattle.lines.specs.declared.Filled.{Filled}
 use Rattle.lines.specs.declared.Filled.the-variants.{Neither, Bytes, Blocks}
 
@@ -35,6 +35,7 @@ filledBy Free = Neither
 filledBy (Tick o) = Neither
 filledBy Audit = Neither
 filledBy (Rent o) = Neither
+filledBy (Sweep o) = Neither
 
 abbrev pub valuesOf : Filled → List ℕ → List ℕ → List ℕ
 valuesOf Neither out places = []
@@ -58,3 +59,4 @@ values-filled Free r = refl
 values-filled (Tick o) r = refl
 values-filled Audit r = refl
 values-filled (Rent o) r = refl
+values-filled (Sweep o) r = refl

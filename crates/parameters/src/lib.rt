@@ -5,6 +5,7 @@ use card::Info;
 use card::Mode;
 use card::Port;
 use card::RentOperands;
+use card::SweepOperands;
 use card::TickOperands;
 use fields::ParsedCredential;
 use fields::ParsedKey;
@@ -13,7 +14,7 @@ use records::Parsed;
 ghost use mathlib.Core.Path.{_≡_};
 ghost use lib.ListN.{length};
 ghost use Rattle.card.specs.declared.Port.the-variants.{Host};
-ghost use Rattle.card.specs.declared.Call.the-variants.{Force, Tick, Free, Audit, Rent};
+ghost use Rattle.card.specs.declared.Call.the-variants.{Force, Tick, Free, Audit, Rent, Sweep};
 ghost use Rattle.records.specs.Decode.{readWith, writeWith, allocWith, allocContigWith, createWith, deleteWith, deleteTreeWith, keyWith, renewWith};
 ghost use Rattle.records.specs.Parsed.{ParsedIs};
 ghost use Rattle.records.specs.declared.Decoding.the-variants.{Decoded};
@@ -222,4 +223,10 @@ pub fn rent_call(price: u32) -> Decoding
     ensures { λ r. ⌜ r ≡ Decoded Host (Rent (record { price = price })) ⌝ }
 {
     Decoding::Decoded(Port::Host, Call::Rent(RentOperands { price }))
+}
+
+pub fn sweep_call(most: u32) -> Decoding
+    ensures { λ r. ⌜ r ≡ Decoded Host (Sweep (record { most = most })) ⌝ }
+{
+    Decoding::Decoded(Port::Host, Call::Sweep(SweepOperands { most }))
 }

@@ -96,7 +96,7 @@ fn look_at(
     }
 }
 
-// Each sealed block is shut; each that is within reach by itself is marked and waits. How many those are.
+// Each sealed block is shut; each that is within reach by itself is marked and queued. How many those are.
 fn begin(
     info: Info,
     flags: &[u8],

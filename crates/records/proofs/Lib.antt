@@ -1,4 +1,4 @@
 pub mod Parsing
 pub mod KindsDecoded
-pub mod RentUncarried
+pub mod Uncarried
 pub mod Rows

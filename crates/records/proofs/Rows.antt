@@ -1,6 +1,6 @@
--- `kinds-decoded` and `rent-uncarried` as tests, and a row for each mistake in the rules of records that a must-fail edit makes: the mistake turns it from true to false.
+-- `kinds-decoded`, `rent-uncarried` and `sweep-uncarried` as tests, and a row for each mistake in the rules of records that a must-fail edit makes: the mistake turns it from true to false.
 use Prim.Native.Nat.{ℕ, _<_}
-use mathlib.Core.Path.{_≡_, refl, ap}
+use mathlib.Core.Path.{_≡_, refl, ap, _∙_}
 use mathlib.Core.Bool.{Bool, true, false, not, _&&_}
 use mathlib.Core.List.{List, [], _∷_}
 use lib.Dec.{ltb}
@@ -12,8 +12,9 @@ use Rattle.card.proofs.Computed.Same.{sameList, true-sameList}
 use Rattle.card.specs.declared.Port.{Port}
 use Rattle.card.specs.declared.Port.the-variants.{Host, Service}
 use Rattle.card.specs.declared.RentOperands.{RentOperands}
+use Rattle.card.specs.declared.SweepOperands.{SweepOperands}
 use Rattle.card.specs.declared.Call.{Call}
-use Rattle.card.specs.declared.Call.the-variants.{Read, Write, Alloc, AllocContig, Create, Delete, DeleteTree, KeyRead, KeyWrite, Renew, Force, Free, Tick, Audit, Rent}
+use Rattle.card.specs.declared.Call.the-variants.{Read, Write, Alloc, AllocContig, Create, Delete, DeleteTree, KeyRead, KeyWrite, Renew, Force, Free, Tick, Audit, Rent, Sweep}
 use Rattle.fields.specs.Bytes.{number, zeroed}
 use Rattle.fields.specs.Fields.{credential}
 use Rattle.kinds.specs.Kinds.{row, names, kindNumber, lengthOf, dataLength, operandsLength, among, kindOf}
@@ -22,7 +23,7 @@ use Rattle.kinds.specs.declared.Length.{Length}
 use Rattle.kinds.specs.declared.Length.the-variants.{Bytes, Unknown}
 use Rattle.records.specs.Decode.{Next, ended, refused, sent, withCredential, decodeCall, decodeKnown, decodeBody, nameOf, dataOf, nextOf, decode}
 use Rattle.records.proofs.KindsDecoded.{Leaves, isCall, DecodedBy, kinds-decoded}
-use Rattle.records.proofs.RentUncarried.{rent-uncarried}
+use Rattle.records.proofs.Uncarried.{rent-uncarried, sweep-uncarried}
 
 -- What is found leaves just the bytes behind a body that is whole, or is refused.
 abbrev fits : Length → List ℕ → Next → Bool
@@ -66,56 +67,98 @@ decoded-tested (Bytes n) xs next h = and-true _ _ (fits-whole n xs (next xs) (h 
 pub kinds-decoded-tested : (wire : Port) (kind : ℕ) → kind < 256 → (xs : List ℕ) → kindsDecodedTest wire kind xs ≡ true
 kinds-decoded-tested wire kind h xs = decoded-tested (getD (expected wire) kind Unknown) xs (λ ys. decode wire (kind ∷ ys)) (kinds-decoded wire kind h)
 
-abbrev notRent : Call → Bool
-notRent (Read o) = true
-notRent (Write o) = true
-notRent (Alloc o) = true
-notRent (AllocContig o) = true
-notRent (Create o) = true
-notRent (Delete o) = true
-notRent (DeleteTree o) = true
-notRent (KeyRead o) = true
-notRent (KeyWrite o) = true
-notRent (Renew o) = true
-notRent (Force o) = true
-notRent Free = true
-notRent (Tick o) = true
-notRent Audit = true
-notRent (Rent o) = false
+-- A call that no record carries, with its operands, or one that a record carries.
+pub data Carriage : Type 0 where
+  carried : Carriage
+  rent : RentOperands → Carriage
+  sweep : SweepOperands → Carriage
 
--- What is found, if it is a call, is not RENT.
-abbrev findsNoRent : Next → Bool
-findsNoRent ended = true
-findsNoRent refused = true
-findsNoRent (sent port call payload rest) = notRent call
+abbrev carriageOf : Call → Carriage
+carriageOf (Read o) = carried
+carriageOf (Write o) = carried
+carriageOf (Alloc o) = carried
+carriageOf (AllocContig o) = carried
+carriageOf (Create o) = carried
+carriageOf (Delete o) = carried
+carriageOf (DeleteTree o) = carried
+carriageOf (KeyRead o) = carried
+carriageOf (KeyWrite o) = carried
+carriageOf (Renew o) = carried
+carriageOf (Force o) = carried
+carriageOf Free = carried
+carriageOf (Tick o) = carried
+carriageOf Audit = carried
+carriageOf (Rent o) = rent o
+carriageOf (Sweep o) = sweep o
+
+abbrev notRent : Carriage → Bool
+notRent carried = true
+notRent (rent o) = false
+notRent (sweep o) = true
+
+abbrev notSweep : Carriage → Bool
+notSweep carried = true
+notSweep (rent o) = true
+notSweep (sweep o) = false
+
+-- What is found, if it is a call, is of no carriage that the test refuses.
+abbrev finds : (Carriage → Bool) → Next → Bool
+finds test ended = true
+finds test refused = true
+finds test (sent port call payload rest) = test (carriageOf call)
 
 abbrev pub rentUncarriedTest : Port → List ℕ → Bool
-rentUncarriedTest wire xs = findsNoRent (decode wire xs)
+rentUncarriedTest wire xs = finds notRent (decode wire xs)
 
-not-rent : (call : Call) → ((o : RentOperands) → call ≡ Rent o → ⊥) → notRent call ≡ true
-not-rent (Read o) h = refl
-not-rent (Write o) h = refl
-not-rent (Alloc o) h = refl
-not-rent (AllocContig o) h = refl
-not-rent (Create o) h = refl
-not-rent (Delete o) h = refl
-not-rent (DeleteTree o) h = refl
-not-rent (KeyRead o) h = refl
-not-rent (KeyWrite o) h = refl
-not-rent (Renew o) h = refl
-not-rent (Force o) h = refl
-not-rent Free h = refl
-not-rent (Tick o) h = refl
-not-rent Audit h = refl
-not-rent (Rent o) h = absurd (h o refl)
+abbrev pub sweepUncarriedTest : Port → List ℕ → Bool
+sweepUncarriedTest wire xs = finds notSweep (decode wire xs)
 
-finds-no-rent : (next : Next) → ((o : RentOperands) (port : Port) (payload rest : List ℕ) → next ≡ sent port (Rent o) payload rest → ⊥) → findsNoRent next ≡ true
-finds-no-rent ended h = refl
-finds-no-rent refused h = refl
-finds-no-rent (sent port call payload rest) h = not-rent call (λ o e. h o port payload rest (ap (λ (c : Call). sent port c payload rest) e))
+-- The call that a carriage is of.
+abbrev Of : Call → Carriage → Type 0
+Of call carried = Unit {0}
+Of call (rent o) = call ≡ Rent o
+Of call (sweep o) = call ≡ Sweep o
+
+of-call : (call : Call) → Of call (carriageOf call)
+of-call (Read o) = tt
+of-call (Write o) = tt
+of-call (Alloc o) = tt
+of-call (AllocContig o) = tt
+of-call (Create o) = tt
+of-call (Delete o) = tt
+of-call (DeleteTree o) = tt
+of-call (KeyRead o) = tt
+of-call (KeyWrite o) = tt
+of-call (Renew o) = tt
+of-call (Force o) = tt
+of-call Free = tt
+of-call (Tick o) = tt
+of-call Audit = tt
+of-call (Rent o) = refl
+of-call (Sweep o) = refl
+
+tested : (test : Carriage → Bool) (next : Next) → ((port : Port) (call : Call) (payload rest : List ℕ) → next ≡ sent port call payload rest → test (carriageOf call) ≡ true) → finds test next ≡ true
+tested test ended h = refl
+tested test refused h = refl
+tested test (sent port call payload rest) h = h port call payload rest refl
+
+not-rent : {call : Call} (k : Carriage) → Of call k → ((o : RentOperands) → call ≡ Rent o → ⊥) → notRent k ≡ true
+not-rent carried of h = refl
+not-rent (rent o) of h = absurd (h o of)
+not-rent (sweep o) of h = refl
+
+not-sweep : {call : Call} (k : Carriage) → Of call k → ((o : SweepOperands) → call ≡ Sweep o → ⊥) → notSweep k ≡ true
+not-sweep carried of h = refl
+not-sweep (rent o) of h = refl
+not-sweep (sweep o) of h = absurd (h o of)
 
 pub rent-uncarried-tested : (wire : Port) (xs : List ℕ) → rentUncarriedTest wire xs ≡ true
-rent-uncarried-tested wire xs = finds-no-rent (decode wire xs) (λ o port payload rest. rent-uncarried wire xs o)
+rent-uncarried-tested wire xs =
+    tested notRent (decode wire xs) (λ port call payload rest e. not-rent (carriageOf call) (of-call call) (λ o same. rent-uncarried wire xs o (e ∙ ap (λ (c : Call). sent port c payload rest) same)))
+
+pub sweep-uncarried-tested : (wire : Port) (xs : List ℕ) → sweepUncarriedTest wire xs ≡ true
+sweep-uncarried-tested wire xs =
+    tested notSweep (decode wire xs) (λ port call payload rest e. not-sweep (carriageOf call) (of-call call) (λ o same. sweep-uncarried wire xs o (e ∙ ap (λ (c : Call). sent port c payload rest) same)))
 
 -- ---- rows
 
@@ -146,3 +189,11 @@ tick-taken-for-rent = refl
 pub unknown-kind-taken-for-rent : rentUncarriedTest Host (15 ∷ 0 ∷ 0 ∷ 0 ∷ 0 ∷ []) ≡ true
 unfolding row names kindNumber lengthOf dataLength operandsLength among kindOf decodeCall decodeKnown decodeBody nameOf dataOf nextOf decode
 unknown-kind-taken-for-rent = refl
+
+pub free-taken-for-sweep : sweepUncarriedTest Host (9 ∷ []) ≡ true
+unfolding row names kindNumber lengthOf dataLength operandsLength among kindOf decodeCall decodeKnown decodeBody nameOf dataOf nextOf decode
+free-taken-for-sweep = refl
+
+pub tick-taken-for-sweep : sweepUncarriedTest Service (10 ∷ replicate 8 0) ≡ true
+unfolding number row names kindNumber lengthOf dataLength operandsLength among kindOf decodeCall decodeKnown decodeBody nameOf dataOf nextOf decode
+tick-taken-for-sweep = refl

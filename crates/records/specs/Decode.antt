@@ -15,7 +15,7 @@ use Rattle.card.specs.declared.Credential.the-variants.{Nothing, Reference, Key
 use Rattle.card.specs.declared.AllocOperands.{AllocOperands}
 use Rattle.card.specs.declared.DeleteOperands.{DeleteOperands}
 use Rattle.card.specs.declared.Call.{Call}
-use Rattle.card.specs.declared.Call.the-variants.{Read, Write, Alloc, AllocContig, Create, Delete, DeleteTree, KeyRead, KeyWrite, Renew, Force, Free, Tick, Audit, Rent}
+use Rattle.card.specs.declared.Call.the-variants.{Read, Write, Alloc, AllocContig, Create, Delete, DeleteTree, KeyRead, KeyWrite, Renew, Force, Free, Tick, Audit, Rent, Sweep}
 use Rattle.fields.specs.Bytes.{number}
 use Rattle.fields.specs.Fields.{credential, newKey}
 use Rattle.kinds.specs.Kinds.{lengthOf, operandsLength, kindOf}
@@ -118,7 +118,7 @@ decodeKnown Unknown xs = Bad
 unfoldable pub decodeBody : Port → ℕ → List ℕ → Decoding
 decodeBody wire kind xs = decodeKnown (kindOf wire kind) xs
 
--- 2026-08, of RENT, "no record carries it": it has no name.
+-- 2026-08 and 2026-09, of RENT and SWEEP, "no record carries it": they have no name.
 unfoldable pub nameOf : Call → Option Name
 nameOf (Read o) = some READ
 nameOf (Write o) = some WRITE
@@ -135,6 +135,7 @@ nameOf Free = some FREE
 nameOf (Tick o) = some TICK
 nameOf Audit = some AUDIT
 nameOf (Rent o) = none
+nameOf (Sweep o) = none
 
 -- A length by a call's name: 0 where it has none.
 abbrev pub lengthBy : (Name → ℕ) → Option Name → ℕ

@@ -12,7 +12,7 @@ use Rattle.card.specs.declared.AllocOperands.{AllocOperands}
 use Rattle.card.specs.declared.DeleteOperands.{DeleteOperands}
 use Rattle.card.specs.declared.KeyOperands.{KeyOperands}
 use Rattle.card.specs.declared.Call.{Call}
-use Rattle.card.specs.declared.Call.the-variants.{Read, Write, Alloc, AllocContig, Create, Delete, DeleteTree, KeyRead, KeyWrite, Renew, Force, Free, Tick, Audit, Rent}
+use Rattle.card.specs.declared.Call.the-variants.{Read, Write, Alloc, AllocContig, Create, Delete, DeleteTree, KeyRead, KeyWrite, Renew, Force, Free, Tick, Audit, Rent, Sweep}
 use Rattle.fields.specs.Bytes.{bytes}
 use Rattle.kinds.specs.Kinds.{kindNumber}
 use Rattle.kinds.specs.declared.Name.{Name}
@@ -58,6 +58,7 @@ body Free ys = ys
 body (Tick o) ys = bytes 8 (o .seconds) ++ ys
 body Audit ys = ys
 body (Rent o) ys = ys
+body (Sweep o) ys = ys
 
 -- The kind of a named call in front of its body. A call without a name has no record.
 unfoldable pub behindKind : Port → Option Name → List ℕ → List ℕ
@@ -109,3 +110,4 @@ FitsCall Free = Unit {0}
 FitsCall (Tick o) = Fits 8 (o .seconds)
 FitsCall Audit = Unit {0}
 FitsCall (Rent o) = Unit {0}
+FitsCall (Sweep o) = Unit {0}

@@ -23,7 +23,7 @@ use Rattle.card.specs.declared.AllocOperands.{AllocOperands}
 use Rattle.card.specs.declared.DeleteOperands.{DeleteOperands}
 use Rattle.card.specs.declared.KeyOperands.{KeyOperands}
 use Rattle.card.specs.declared.Call.{Call}
-use Rattle.card.specs.declared.Call.the-variants.{Read, Write, Alloc, AllocContig, Create, Delete, DeleteTree, KeyRead, KeyWrite, Renew, Force, Free, Tick, Audit, Rent}
+use Rattle.card.specs.declared.Call.the-variants.{Read, Write, Alloc, AllocContig, Create, Delete, DeleteTree, KeyRead, KeyWrite, Renew, Force, Free, Tick, Audit, Rent, Sweep}
 use Rattle.fields.specs.Bytes.{number, bytes, zeroed}
 use Rattle.fields.specs.BytesLaws.{length-bytes, number-bytes}
 use Rattle.kinds.specs.Kinds.{row, names, kindNumber, lengthOf, dataLength, operandsLength, takes, hasKind, among, kindOf}
@@ -129,6 +129,7 @@ behind Free ys = record { skip = refl; long = omega arith }
 behind (Tick o) ys = then-bytes 8 _ ys
 behind Audit ys = record { skip = refl; long = omega arith }
 behind (Rent o) ys = record { skip = refl; long = omega arith }
+behind (Sweep o) ys = record { skip = refl; long = omega arith }
 
 -- ---- each call
 
@@ -215,6 +216,7 @@ decoded port Free ys h = laws.free port ys
 decoded port (Tick o) ys h = laws.tick port _ (sym (number-bytes 8 (o .seconds) ys h))
 decoded port Audit ys h = laws.audit port ys
 decoded port (Rent o) ys h = tt
+decoded port (Sweep o) ys h = tt
 
 -- ---- a record
 
@@ -287,6 +289,7 @@ body-append Free ys zs = refl
 body-append (Tick o) ys zs = simp append-assoc
 body-append Audit ys zs = refl
 body-append (Rent o) ys zs = refl
+body-append (Sweep o) ys zs = refl
 
 module _
     (wire port : Port)

@@ -15,7 +15,7 @@ use Rattle.card.specs.ListsLaws.{and-left, and-right, and-true, absurd-test, fa
 use Rattle.card.specs.LeastLaws.{Some, any-member, member-any}
 use Rattle.card.specs.NearestLaws.{numbers-hold, hold-numbers}
 use Rattle.card.specs.Card.{Card, card, keyFlag}
-use Rattle.card.specs.Plan.{freeBlock, changePublic, changeKeys, change, changes}
+use Rattle.card.specs.Plan.{freeBlock, freedFlags, changePublic, changeKeys, change, changes}
 use Rattle.card.specs.ChangesLaws.{clearKeys-length}
 use Rattle.card.specs.Calls.{freshInfo, freeEach}
 use Rattle.card.specs.declared.Info.{Info}
@@ -117,7 +117,7 @@ module _ (marks flags keys windows : List ℕ) where
           let more : markedBelow marks (at + 1) ≡ markedBelow marks at ++ (at ∷ []) = rw (add-one at, eq-eqb (mark marks at) 1 e) in
           record {
             most = omega arith;
-            sameFlags = ap (λ (c : Card). length (c .public .flags)) freed-alone ∙ length-set flags′ at 0 ∙ h .sameFlags;
+            sameFlags = ap (λ (c : Card). length (c .public .flags)) freed-alone ∙ length-set flags′ at freedFlags ∙ h .sameFlags;
             sameKeys = ap (λ (c : Card). length (c .keys)) freed-alone ∙ clearKeys-length keys′ at ∙ h .sameKeys;
             sameWindows = ap (λ (c : Card). length (c .public .windows)) freed-alone ∙ simp length-set (h .sameWindows);
             is = λ info counts pointers multiplicities contents.

@@ -171,7 +171,7 @@ fn drop_pointers(
 
 // ---- the blocks
 
-// Each marked block is freed.
+// Each marked block is freed, and waits.
 fn free_marked(
     flags: &mut [u8],
     keys: &mut [u64],

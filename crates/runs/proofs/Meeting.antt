@@ -1,16 +1,16 @@
 -- The walk that meets each run at its last block, over plain values.
 use Prim.Native.Nat.{ℕ, zero, suc, _+_, _-_, _≤_, _<_}
 use mathlib.Core.Path.{_≡_, refl, sym, ap, _∙_, subst}
-use mathlib.Core.Logic.{_⊎_, inl, inr, ⊎-elim}
-use mathlib.Core.Bool.{Bool, true, false, _&&_, not, cond}
+use mathlib.Core.Logic.{⊎-elim}
+use mathlib.Core.Bool.{Bool, true, false, _&&_, cond}
 use mathlib.Core.List.{List, [], _∷_, _++_, append-nil}
 use native.Mathlib.Omega.{arith}
 use lib.Dec.{ltb}
 use lib.ListN.{length, getD}
 use borrow.Author.Tests.{lt-ltb, le-ltb}
-use Rattle.card.specs.Lists.{allBelow, numbersBelow}
+use Rattle.card.specs.Lists.{numbersBelow}
 use Rattle.card.specs.ListsLaws.{and-true, and-false-left, and-false-right, absurd-test, false-unless, allBelow-true, true-allBelow, same-or-other}
-use Rattle.card.specs.Card.{allocatedFlag}
+use Rattle.card.specs.Card.{freeFlag}
 use Rattle.card.specs.Calls.{distance, nearest}
 use Rattle.runs.specs.declared.NearestRun.{NearestRun}
 use Rattle.runs.specs.declared.NearestRun.the-variants.{Absent, From}
@@ -61,30 +61,30 @@ no-more p m (suc n) l h =
     (same-or-other m (suc n))
 
 module _ (flags : List ℕ) (count : ℕ) where
-  is-run : (first : ℕ) → ((b : ℕ) → first ≤ b → b < first + count → (b < length flags) × (allocatedFlag (getD flags b 0) ≡ false)) → runIn flags count first ≡ true
+  is-run : (first : ℕ) → ((b : ℕ) → first ≤ b → b < first + count → (b < length flags) × (freeFlag (getD flags b 0) ≡ true)) → runIn flags count first ≡ true
   unfolding runIn
-  is-run first h = true-allBelow _ count (λ i l. let t = h (first + i) (omega arith) (omega arith) in and-true _ _ (lt-ltb _ _ (t .0)) (ap not (t .1)))
+  is-run first h = true-allBelow _ count (λ i l. let t = h (first + i) (omega arith) (omega arith) in and-true _ _ (lt-ltb _ _ (t .0)) (t .1))
 
-  -- A block that is allocated, or past the last, is in no run.
-  no-run : (first b : ℕ) → first ≤ b → b < first + count → ltb b (length flags) && not (allocatedFlag (getD flags b 0)) ≡ false → runIn flags count first ≡ false
+  -- A block that is not free, or past the last, is in no run.
+  no-run : (first b : ℕ) → first ≤ b → b < first + count → ltb b (length flags) && freeFlag (getD flags b 0) ≡ false → runIn flags count first ≡ false
   unfolding runIn
   no-run first b l u f =
       let same : first + (b - first) ≡ b = omega arith in
       false-unless _
       (λ h.
       absurd-test
-      (subst (λ (n : ℕ). ltb n (length flags) && not (allocatedFlag (getD flags n 0)) ≡ true) same
-      (allBelow-true (λ i. ltb (first + i) (length flags) && not (allocatedFlag (getD flags (first + i) 0))) count h (b - first) (omega arith)))
+      (subst (λ (n : ℕ). ltb n (length flags) && freeFlag (getD flags n 0) ≡ true) same
+      (allBelow-true (λ i. ltb (first + i) (length flags) && freeFlag (getD flags (first + i) 0)) count h (b - first) (omega arith)))
       f)
 
 -- ---- the walk
 
--- Before `block`: the blocks from `since` on are unallocated and the one before them is not, and of the runs that end before the block the nearest is known.
+-- Before `block`: the blocks from `since` on are free and the one before them is not, and of the runs that end before the block the nearest is known.
 pub record Met (flags : List ℕ) (want count : ℕ) (best : NearestRun) (since block : ℕ) : Type 0 where
   pub most : block ≤ length flags
   pub inside : since ≤ block
-  pub free : (b : ℕ) → since ≤ b → b < block → allocatedFlag (getD flags b 0) ≡ false
-  pub held : (b : ℕ) → b + 1 ≡ since → allocatedFlag (getD flags b 0) ≡ true
+  pub free : (b : ℕ) → since ≤ b → b < block → freeFlag (getD flags b 0) ≡ true
+  pub notFree : (b : ℕ) → b + 1 ≡ since → freeFlag (getD flags b 0) ≡ false
   pub known : best ≡ nearestOf want (numbersBelow (runIn flags count) (block + 1 - count))
 
 pub met-start : (flags : List ℕ) (want : ℕ) {count : ℕ} → 1 ≤ count → Met flags want count Absent 0 0
@@ -95,46 +95,46 @@ met-start flags want {count} some =
       most = omega arith;
       inside = omega arith;
       free = λ b l u. absurd (omega arith);
-      held = λ b e. absurd (omega arith);
+      notFree = λ b e. absurd (omega arith);
       known = rw none;
     }
 
-module _ (since block flag : ℕ) {t : Bool} (told : t ≡ allocatedFlag flag) where
-  pub since-passed : t ≡ true → block + 1 ≡ sinceAfter since block flag
+module _ (since block flag : ℕ) {t : Bool} (told : t ≡ freeFlag flag) where
+  pub since-passed : t ≡ false → block + 1 ≡ sinceAfter since block flag
   unfolding sinceAfter
   since-passed e = rw (← told, e)
 
-  pub since-stays : t ≡ false → since ≡ sinceAfter since block flag
+  pub since-stays : t ≡ true → since ≡ sinceAfter since block flag
   unfolding sinceAfter
   since-stays e = rw (← told, e)
 
--- One block further, with where the unallocated blocks before it then start.
+-- One block further, with where the free blocks before it then start.
 record Further (flags : List ℕ) (since block : ℕ) : Type 0 where
   pub inside : since ≤ block
-  pub free : (b : ℕ) → since ≤ b → b < block → allocatedFlag (getD flags b 0) ≡ false
-  pub held : (b : ℕ) → b + 1 ≡ since → allocatedFlag (getD flags b 0) ≡ true
+  pub free : (b : ℕ) → since ≤ b → b < block → freeFlag (getD flags b 0) ≡ true
+  pub notFree : (b : ℕ) → b + 1 ≡ since → freeFlag (getD flags b 0) ≡ false
 
-further : (flags : List ℕ) (since block : ℕ) → since ≤ block → ((b : ℕ) → since ≤ b → b < block → allocatedFlag (getD flags b 0) ≡ false)
-    → ((b : ℕ) → b + 1 ≡ since → allocatedFlag (getD flags b 0) ≡ true) → Further flags (sinceAfter since block (getD flags block 0)) (block + 1)
+further : (flags : List ℕ) (since block : ℕ) → since ≤ block → ((b : ℕ) → since ≤ b → b < block → freeFlag (getD flags b 0) ≡ true)
+    → ((b : ℕ) → b + 1 ≡ since → freeFlag (getD flags b 0) ≡ false) → Further flags (sinceAfter since block (getD flags block 0)) (block + 1)
 unfolding sinceAfter
-further flags since block l free held = go (allocatedFlag (getD flags block 0)) refl
+further flags since block l free notFree = go (freeFlag (getD flags block 0)) refl
   where
-    go : (t : Bool) → allocatedFlag (getD flags block 0) ≡ t → Further flags (cond t (block + 1) since) (block + 1)
+    go : (t : Bool) → freeFlag (getD flags block 0) ≡ t → Further flags (cond t since (block + 1)) (block + 1)
     go true e = record {
       inside = omega arith;
-      free = λ b k u. absurd (omega arith);
-      held = λ b f. let same : b ≡ block = omega arith in rw same e;
+      free = λ b k u. ⊎-elim (λ (f : b ≡ block). rw f e) (λ (f : b ≡ block → ⊥). free b k (omega arith)) (same-or-other b block);
+      notFree = notFree;
     }
     go false e = record {
       inside = omega arith;
-      free = λ b k u. ⊎-elim (λ (f : b ≡ block). rw f e) (λ (f : b ≡ block → ⊥). free b k (omega arith)) (same-or-other b block);
-      held = held;
+      free = λ b k u. absurd (omega arith);
+      notFree = λ b f. let same : b ≡ block = omega arith in rw same e;
     }
 
 module _ {flags : List ℕ} {want count : ℕ} {best : NearestRun} {since block : ℕ} (m : Met flags want count best since block) (some : 1 ≤ count) (l : block < length flags)
     {next : ℕ} (e : next ≡ sinceAfter since block (getD flags block 0)) where
   after : Further flags next (block + 1)
-  after = subst (λ (n : ℕ). Further flags n (block + 1)) (sym e) (further flags since block (m .inside) (m .free) (m .held))
+  after = subst (λ (n : ℕ). Further flags n (block + 1)) (sym e) (further flags since block (m .inside) (m .free) (m .notFree))
 
   pub met-inside : next ≤ block + 1
   met-inside = after .inside
@@ -151,7 +151,7 @@ module _ {flags : List ℕ} {want count : ℕ} {best : NearestRun} {since block 
         most = omega arith;
         inside = after .inside;
         free = after .free;
-        held = after .held;
+        notFree = after .notFree;
         known =
             f
             ∙ ap (λ (n : NearestRun). nearerOf want n ((block + 1) - count)) (m .known)
@@ -166,7 +166,7 @@ module _ {flags : List ℕ} {want count : ℕ} {best : NearestRun} {since block 
     most = omega arith;
     inside = after .inside;
     free = after .free;
-    held = after .held;
+    notFree = after .notFree;
     known = m .known ∙ ap (nearestOf want) (sym same);
   }
     where
@@ -175,7 +175,7 @@ module _ {flags : List ℕ} {want count : ℕ} {best : NearestRun} {since block 
           no-more (runIn flags count) (block + 1 - count) (block + 1 + 1 - count) (omega arith)
           (λ b k u.
           no-run flags count b (next - 1) (omega (arith, after .inside)) (omega (arith, after .inside))
-          (and-false-right (ltb (next - 1) (length flags)) _ (ap not (after .held (next - 1) (omega (arith, after .inside))))))
+          (and-false-right (ltb (next - 1) (length flags)) _ (after .notFree (next - 1) (omega (arith, after .inside)))))
 
 -- The whole table is walked: no run starts so high that it would end past the last block.
 pub met-whole : {flags : List ℕ} {want count : ℕ} {best : NearestRun} {since block : ℕ} → Met flags want count best since block → 1 ≤ count → length flags ≤ block
@@ -188,4 +188,4 @@ met-whole {flags} {want} {count} {best} {since} {block} m some l =
     (no-more (runIn flags count) (block + 1 - count) (length flags) (omega (arith, m .most))
     (λ b k u.
     no-run flags count b (b + count - 1) (omega arith) (omega arith)
-    (and-false-left _ (not (allocatedFlag (getD flags (b + count - 1) 0))) (le-ltb (b + count - 1) (length flags) (omega (arith, m .most)))))))
+    (and-false-left _ (freeFlag (getD flags (b + count - 1) 0)) (le-ltb (b + count - 1) (length flags) (omega (arith, m .most)))))))

@@ -1,18 +1,18 @@
 -- What is found of the runs in a table of flags.
 use Prim.Native.Nat.{ℕ, _+_}
-use mathlib.Core.Bool.{Bool, _&&_, not, cond}
+use mathlib.Core.Bool.{Bool, _&&_, cond}
 use mathlib.Core.List.{List, [], _∷_}
 use lib.Dec.{ltb}
 use lib.ListN.{length, getD}
 use Rattle.card.specs.Lists.{allBelow, numbersBelow}
-use Rattle.card.specs.Card.{allocatedFlag}
+use Rattle.card.specs.Card.{freeFlag}
 use Rattle.card.specs.Calls.{distance, nearest}
 use Rattle.runs.specs.declared.NearestRun.{NearestRun}
 use Rattle.runs.specs.declared.NearestRun.the-variants.{Absent, From}
 
--- So many unallocated blocks from `first` on, as the rule's `isRun` has it.
+-- So many free blocks from `first` on, as the rule's `isRun` has it.
 unfoldable pub runIn : List ℕ → ℕ → ℕ → Bool
-runIn flags count first = allBelow (λ i. ltb (first + i) (length flags) && not (allocatedFlag (getD flags (first + i) 0))) count
+runIn flags count first = allBelow (λ i. ltb (first + i) (length flags) && freeFlag (getD flags (first + i) 0)) count
 
 -- The first blocks of the runs, ascending.
 unfoldable pub startsIn : List ℕ → ℕ → List ℕ
@@ -28,6 +28,6 @@ unfoldable pub nearerOf : ℕ → NearestRun → ℕ → NearestRun
 nearerOf want Absent start = From start
 nearerOf want (From first) start = cond (ltb (distance want start) (distance want first)) (From start) (From first)
 
--- Where the unallocated blocks start that end with a block.
+-- Where the free blocks start that end with a block.
 unfoldable pub sinceAfter : ℕ → ℕ → ℕ → ℕ
-sinceAfter since block flag = cond (allocatedFlag flag) (block + 1) since
+sinceAfter since block flag = cond (freeFlag flag) since (block + 1)

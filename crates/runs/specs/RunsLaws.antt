@@ -1,36 +1,24 @@
 -- Laws of the runs in a table of flags: on a card of the right shape they are the rule's, and so is the nearest.
-use Prim.Native.Nat.{ℕ, zero, suc, _+_}
-use mathlib.Core.Path.{_≡_, refl, sym, ap, _∙_}
-use mathlib.Core.Bool.{Bool, true, false, _&&_, not}
+use Prim.Native.Nat.{ℕ, suc}
+use mathlib.Core.Path.{_≡_, refl, ap, _∙_}
+use mathlib.Core.Bool.{false}
 use mathlib.Core.List.{List, [], _∷_}
 use native.Mathlib.Omega.{arith}
-use lib.Dec.{eqb, ltb}
-use lib.ListN.{length, getD}
+use lib.Dec.{eqb}
+use lib.ListN.{length}
 use borrow.Author.Tests.{ne-eqb}
-use Rattle.card.specs.Lists.{allBelow, numbersBelow, numbersFrom}
+use Rattle.card.specs.Lists.{numbersBelow, numbersFrom}
 use Rattle.card.specs.ListsLaws.{numbersBelow-same}
-use Rattle.card.specs.Card.{Public, flag, allocatedFlag, allocated}
+use Rattle.card.specs.Card.{Public, free}
 use Rattle.card.specs.Calls.{nearest, isRun, runStarts, nearestRun}
-use Rattle.runs.specs.declared.NearestRun.{NearestRun}
 use Rattle.runs.specs.declared.NearestRun.the-variants.{Absent, From}
 use Rattle.runs.specs.Runs.{runIn, startsIn, nearestOf}
 
 -- ---- the rule's runs
 
-below-free : (t a : Bool) → t && not (t && a) ≡ t && not a
-below-free true a = refl
-below-free false a = refl
-
-allBelow-same : (p q : ℕ → Bool) (n : ℕ) → ((i : ℕ) → p i ≡ q i) → allBelow p n ≡ allBelow q n
-unfolding allBelow
-allBelow-same p q zero same = refl
-allBelow-same p q (suc n) same = rw (same n, allBelow-same p q n same)
-
 run-in : (p : Public) → length (p .flags) ≡ p .info .blocks → (count first : ℕ) → runIn (p .flags) count first ≡ isRun p count first
-unfolding runIn isRun allocated
-run-in p e count first =
-    rw e
-    (allBelow-same _ _ count (λ i. sym (below-free (ltb (first + i) (p .info .blocks)) (allocatedFlag (flag p (first + i))))))
+unfolding runIn isRun free
+run-in p e count first = rw e
 
 pub starts-in : (p : Public) → length (p .flags) ≡ p .info .blocks → (count : ℕ) → startsIn (p .flags) count ≡ runStarts p count
 unfolding startsIn runStarts

@@ -1,4 +1,4 @@
-// ALLOC_CONTIG's run: the unallocated blocks that adjoin and start nearest the wanted one, found on one walk of the flags.
+// ALLOC_CONTIG's run: the free blocks that adjoin and start nearest the wanted one, found on one walk of the flags.
 ghost use mathlib.Core.Path.{_≡_};
 ghost use Prim.Native.Nat.{_≤_, _<_};
 ghost use lib.ListN.{length};
@@ -17,16 +17,12 @@ fn distance(a: usize, b: usize) -> usize
     if a < b { b - a } else { a - b }
 }
 
-// The first of the unallocated blocks that end with the block, or the block behind it if it is allocated itself.
+// The first of the free blocks that end with the block, or the block behind it if it is not free itself.
 fn since_after(since: usize, block: usize, flag: u8) -> usize
     requires { ⌜ block < 4096 ⌝ }
     ensures { λ r. ⌜ r ≡ sinceAfter since block flag ⌝ }
 {
-    if flags::allocated(flag) {
-        block + 1
-    } else {
-        since
-    }
+    if flags::free(flag) { since } else { block + 1 }
 }
 
 // The nearest of the runs so far and of one more, which starts above them: so on a tie it is not taken.

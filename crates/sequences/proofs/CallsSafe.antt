@@ -34,7 +34,7 @@ use Rattle.sequences.specs.Sequence.{Memory, cardOf, Step, calls, batche
 pub record CallsSafe (m : Memory) (steps : List Step) (rs : List Returned) (n : Memory) : Type 0 where
   pub returns : rs ≡ returnsIn (isWhole (m .info)) (cardOf m) steps
   pub leaves : cardOf n ≡ afterAll (cardOf m) (callsIn (isWhole (m .info)) (cardOf m) steps)
-  -- Refused, a call changes nothing; on a sound card it leaves a sound one; and it touches no unallocated block but those that it allots.
+  -- Refused, a call changes nothing; on a sound card it leaves a sound one; and it touches no unallocated block but those that it allots or sweeps.
   pub safe : Each SafeCall (cardOf m) (callsIn (isWhole (m .info)) (cardOf m) steps)
   -- The record has its numbers afterwards if it had them before, and is as it was if it had not.
   pub whole : isWhole (n .info) ≡ isWhole (m .info)

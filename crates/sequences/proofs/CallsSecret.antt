@@ -15,7 +15,7 @@ use Rattle.card.specs.declared.Port.{Port}
 use Rattle.card.specs.declared.Port.the-variants.{Host}
 use Rattle.card.specs.declared.Call.{Call}
 use Rattle.card.specs.declared.Credential.the-variants.{Nothing, Reference, Key as KeyCredential}
-use Rattle.card.proofs.Secrecy.Theorem.{EqualBut, HiddenOrFree, HiddenOrStillFree, HasKeys, Secret}
+use Rattle.card.proofs.Secrecy.Theorem.{EqualBut, HiddenOrUnallocated, StillDiffers, HasKeys, Secret}
 use Rattle.card.proofs.Secrecy.Acts.{Act, heldBy, madeBy, answersBy, ActsSecret, acts-secret}
 use Rattle.fields.specs.declared.ParsedCredential.{ParsedCredential}
 use Rattle.fields.specs.declared.ParsedCredential.the-variants.{Valid as ValidCredential, Invalid as InvalidCredential}
@@ -33,7 +33,7 @@ use Rattle.parameters.specs.Numbers.{numbersOf, recordOf, wireOf, callAt, atPor
 use Rattle.parameters.specs.NumbersLaws.{numbers-record}
 use Rattle.parameters.specs.declared.Wire.{Wire}
 use Rattle.parameters.specs.declared.Wire.the-variants.{At}
-use Rattle.interface.specs.Functions.{Function, read, write, alloc, allocContig, create, delete, deleteTree, keyRead, keyWrite, renew, force, tick, free, audit, rent, serve as serveRecord, Lending, lendingOf, functionPort}
+use Rattle.interface.specs.Functions.{Function, read, write, alloc, allocContig, create, delete, deleteTree, keyRead, keyWrite, renew, force, tick, free, audit, rent, sweep, serve as serveRecord, Lending, lendingOf, functionPort}
 use Rattle.interface.specs.Batch.{stopNumber}
 use Rattle.sequences.specs.Sequence.{Memory, cardOf, Step, calls, batches, Returned, fromCall, fromBatch, Called, isWhole, sentOf, sentAt, callsOf, callsIn, byReply, callReturns, batchReturns, returnsOf, returnsIn, portNumber, AllAtHost, requestOf, requestsOf, requestsBy, keysBy}
 use Rattle.sequences.proofs.CallsSafe.{CallsSafe, calls-safe}
@@ -50,7 +50,7 @@ pub record CallsSecret (steps : List Step) (m n : Memory) (rs ss : List Returned
   pub answers : rs ≡ ss
   -- The memories are still equal but for the contents of blocks that could differ at the start.
   pub sameInfo : m' .info ≡ n' .info
-  pub cards : EqualBut (HiddenOrStillFree (keysBy (cardOf m) steps) (cardOf m) (cardOf m')) (cardOf m') (cardOf n')
+  pub cards : EqualBut (StillDiffers (keysBy (cardOf m) steps) (cardOf m) (cardOf m')) (cardOf m') (cardOf n')
   -- On both, each hidden block ends with the contents it started with, unless a call of the sequence took its last pointer away.
   pub kept : (b : ℕ) → Hidden (keysBy (cardOf m) steps) (cardOf m) b → lastTaken (cardOf m) (callsMade m steps) b ≡ false → block (cardOf m') b ≡ block (cardOf m) b
   pub keptOnOther : (b : ℕ) → Hidden (keysBy (cardOf m) steps) (cardOf m) b → lastTaken (cardOf n) (callsMade n steps) b ≡ false → block (cardOf n') b ≡ block (cardOf n) b
@@ -97,6 +97,7 @@ at-host (tick seconds value) e = refl
 at-host (free value) e = refl
 at-host audit e = refl
 at-host (rent price value) e = refl
+at-host (sweep most value) e = refl
 at-host (serveRecord port kind body out places value) e = at-wire port kind body e
 
 -- ---- a step as an act of a host
@@ -241,7 +242,7 @@ whole-numbers xs h = sym (numbers-record xs (eqb-true _ _ h))
 module _ {steps : List Step} {m n m' n' : Memory} {rs ss : List Returned} (atHost : AllAtHost steps)
     (runs : Called m steps rs m') (runsOther : Called n steps ss n')
     (sc : SoundCard (cardOf m)) (sd : SoundCard (cardOf n)) (sameRecord : m .info ≡ n .info)
-    (same : EqualBut (HiddenOrFree (keysBy (cardOf m) steps) (cardOf m)) (cardOf m) (cardOf n)) where
+    (same : EqualBut (HiddenOrUnallocated (keysBy (cardOf m) steps) (cardOf m)) (cardOf m) (cardOf n)) where
   abbrev c : Card
   c = cardOf m
 
@@ -292,10 +293,10 @@ module _ {steps : List Step} {m n m' n' : Memory} {rs ss : List Returned} (atHos
   after-other : cardOf n' ≡ afterAll d (callsMade m steps)
   after-other = right-safe .leaves ∙ ap (afterAll d) other-calls
 
-  same-cards : EqualBut (HiddenOrStillFree K c (cardOf m')) (cardOf m') (cardOf n')
+  same-cards : EqualBut (StillDiffers K c (cardOf m')) (cardOf m') (cardOf n')
   same-cards =
-      subst (λ (x : Card). EqualBut (HiddenOrStillFree K c x) x (cardOf n')) (sym (left-safe .leaves))
-      (subst (λ (y : Card). EqualBut (HiddenOrStillFree K c (afterAll c (callsMade m steps))) (afterAll c (callsMade m steps)) y) (sym after-other) (secret .cards))
+      subst (λ (x : Card). EqualBut (StillDiffers K c x) x (cardOf n')) (sym (left-safe .leaves))
+      (subst (λ (y : Card). EqualBut (StillDiffers K c (afterAll c (callsMade m steps))) (afterAll c (callsMade m steps)) y) (sym after-other) (secret .cards))
 
   same-info : (t : Bool) → isWholeBefore ≡ t → m' .info ≡ n' .info
   same-info true e =
@@ -320,8 +321,8 @@ module _ {steps : List Step} {m n m' n' : Memory} {rs ss : List Returned} (atHos
   }
 
 -- Any sequence of functions called at the host port, each with what the one before left, from any two memories that hold sound cards and are equal but for
--- the contents of hidden and unallocated blocks. Hidden is judged on the starting card, with the keys that any step presents.
+-- the contents of hidden, waiting and free blocks. Hidden is judged on the starting card, with the keys that any step presents.
 pub calls-secret : (steps : List Step) → AllAtHost steps → {m n m' n' : Memory} {rs ss : List Returned} → Called m steps rs m' → Called n steps ss n'
-    → SoundCard (cardOf m) → SoundCard (cardOf n) → m .info ≡ n .info → EqualBut (HiddenOrFree (keysBy (cardOf m) steps) (cardOf m)) (cardOf m) (cardOf n)
+    → SoundCard (cardOf m) → SoundCard (cardOf n) → m .info ≡ n .info → EqualBut (HiddenOrUnallocated (keysBy (cardOf m) steps) (cardOf m)) (cardOf m) (cardOf n)
     → CallsSecret steps m n rs ss m' n'
 calls-secret steps h runs runsOther sc sd e same = all-alike h runs runsOther sc sd e same

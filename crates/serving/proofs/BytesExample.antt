@@ -1,5 +1,5 @@
--- The theorem on bytes at the host port is not empty: the two cards of the example of sessions, which differ in hidden blocks, and bytes that hold
--- done calls, refused ones, and a DELETE that frees one of these blocks.
+-- The theorem on bytes at the host port is not empty: the two cards of the example of sessions, which differ in hidden blocks and in a waiting
+-- one, and bytes that hold done calls, refused ones, and a DELETE that frees one of the hidden blocks. No record carries SWEEP, so it waits.
 use Prim.Native.Nat.{ℕ, _<_}
 use mathlib.Core.Path.{_≡_, refl, sym, ap₂, _∙_}
 use mathlib.Core.Logic.{inl, inr, ⊎-elim}
@@ -9,14 +9,14 @@ use lib.ListN.{replicate}
 use Rattle.card.specs.Lists.{every, allBelow}
 use Rattle.card.specs.ListsLaws.{absurd-test, every-true, allBelow-true}
 use Rattle.card.specs.Contents.{zeros}
-use Rattle.card.specs.Card.{Card, hasKey, block}
+use Rattle.card.specs.Card.{Card, waiting, hasKey, block}
 use Rattle.card.specs.SoundCard.{SoundCard}
 use Rattle.card.specs.SoundnessLaws.{allocated-below}
 use Rattle.card.specs.Session.{afterAll}
 use Rattle.card.specs.Reach.{shows, someShows, presents, presented, keyPresented, sealed, Reach, unsealedRoot, byKey, openWindow, pointed, Hidden, takesLast, isOne, lastTaken}
 use Rattle.card.specs.Trials.{rules, playerCard}
-use Rattle.card.proofs.Secrecy.Theorem.{EqualBut, HiddenOrFree}
-use Rattle.card.proofs.Secrecy.Example.{prepared, cardWith, session, sound-cards, hidden-blocks, equal-but, contents-differ}
+use Rattle.card.proofs.Secrecy.Theorem.{EqualBut, HiddenOrUnallocated}
+use Rattle.card.proofs.Secrecy.Example.{prepared, cardWith, session, sound-cards, hidden-blocks, equal-but, contents-differ, waiting-differ}
 use Rattle.card.specs.declared.Mode.{Mode}
 use Rattle.card.specs.declared.Mode.the-variants.{Reading, Writing}
 use Rattle.card.specs.declared.Port.the-variants.{Host}
@@ -91,9 +91,10 @@ input =
 abbrev pub room : ℕ
 room = 2000
 
--- What is answered: a block of zeros; done; refused 5 twice; a block freed; the bytes written; 13 blocks unallocated.
+-- What is answered: a block of zeros; done; refused 5 twice; a block freed; the bytes written; 11 blocks free, since blocks 2 and 4
+-- wait.
 abbrev pub answered : List ℕ
-answered = 0 ∷ (zeros 512 ++ (0 ∷ 5 ∷ 5 ∷ 0 ∷ (zeros 7 ++ (1 ∷ 0 ∷ (replicate 512 9 ++ (0 ∷ (zeros 7 ++ (13 ∷ []))))))))
+answered = 0 ∷ (zeros 512 ++ (0 ∷ 5 ∷ 5 ∷ 0 ∷ (zeros 7 ++ (1 ∷ 0 ∷ (replicate 512 9 ++ (0 ∷ (zeros 7 ++ (11 ∷ []))))))))
 
 -- What a batch tells of the bytes on the one card: all of them are served, and this is answered. By the theorem it is so on the other card too.
 pub served-all : told (serve Host (cardWith 5) input room) ≡ record { stop = Ended; output = answered; records = 7; left = [] }
@@ -158,17 +159,20 @@ both-sound = sound-cards
 pub both-hidden : Hidden keys (cardWith 5) 2 × Hidden keys (cardWith 5) 3
 both-hidden = (hidden-still (hidden-blocks .0), hidden-still (hidden-blocks .1))
 
--- The cards are equal but for hidden blocks.
-pub equal-but-hidden : EqualBut (HiddenOrFree keys (cardWith 5)) (cardWith 5) (cardWith 6)
+-- The cards are equal but for hidden blocks and a waiting one.
+pub equal-but-hidden : EqualBut (HiddenOrUnallocated keys (cardWith 5)) (cardWith 5) (cardWith 6)
 equal-but-hidden = record {
   samePublic = equal-but .samePublic;
   sameKeys = equal-but .sameKeys;
-  sameContents = λ b l n. equal-but .sameContents b l (λ h. n (⊎-elim (λ hidden. inl (hidden-still hidden)) (λ free. inr free) h));
+  sameContents = λ b l n. equal-but .sameContents b l (λ h. n (⊎-elim (λ hidden. inl (hidden-still hidden)) (λ unallocated. inr unallocated) h));
 }
 
--- The contents of block 3 differ.
+-- The contents of block 3 differ, and those of block 4, which waits.
 pub still-differ : block (cardWith 5) 3 ≡ block (cardWith 6) 3 → ⊥
 still-differ = contents-differ
+
+pub waiting-still-differ : (waiting (cardWith 5 .public) 4 ≡ true) × (block (cardWith 5) 4 ≡ block (cardWith 6) 4 → ⊥)
+waiting-still-differ = waiting-differ
 
 -- The bytes take block 2's last pointer away and leave block 3's.
 pub freed : (lastTaken (cardWith 5) (madeIn (cardWith 5) input room) 2 ≡ true) × (lastTaken (cardWith 5) (madeIn (cardWith 5) input room) 3 ≡ false)

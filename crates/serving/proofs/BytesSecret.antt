@@ -1,4 +1,4 @@
--- Demand 3 from the bytes: what a host is answered to any bytes, and what they leave, depends on no hidden block and on no unallocated one.
+-- Demand 3 from the bytes: what a host is answered to any bytes, and what they leave, depends on no hidden block, on no waiting one and on no free one.
 use Prim.Native.Nat.{ℕ, zero, suc, _+_, _-_}
 use mathlib.Core.Path.{_≡_, refl, sym, ap, ap₂, _∙_, subst}
 use mathlib.Core.Bool.{Bool, true, false, cond, true≢false}
@@ -13,7 +13,7 @@ use Rattle.card.specs.SoundCard.{SoundCard}
 use Rattle.card.specs.Session.{Request, Sent, Reply, request, perform, reply, performed, replies, afterAll, sentByHost, hostSession}
 use Rattle.card.specs.SessionLaws.{perform-bytes}
 use Rattle.card.specs.Reach.{presents, presented, Hidden, lastTaken}
-use Rattle.card.proofs.Secrecy.Theorem.{EqualBut, HiddenOrFree, HiddenOrStillFree, HasKeys, Secret}
+use Rattle.card.proofs.Secrecy.Theorem.{EqualBut, HiddenOrUnallocated, StillDiffers, HasKeys, Secret}
 use Rattle.card.proofs.Secrecy.Acts.{Act, ActsSecret, madeBy, answersBy, heldBy, acts-secret}
 use Rattle.card.specs.declared.Port.{Port}
 use Rattle.card.specs.declared.Port.the-variants.{Host}
@@ -38,7 +38,7 @@ pub record BytesSecret (c d : Card) (xs : List ℕ) (room : ℕ) : Type 0 where
   pub stops : serve Host c xs room .stop ≡ serve Host d xs room .stop
   pub left : serve Host c xs room .left ≡ serve Host d xs room .left
   -- The cards are still equal but for the contents of blocks that could differ at the start.
-  pub cards : EqualBut (HiddenOrStillFree (keysIn c xs) c (serve Host c xs room .after)) (serve Host c xs room .after) (serve Host d xs room .after)
+  pub cards : EqualBut (StillDiffers (keysIn c xs) c (serve Host c xs room .after)) (serve Host c xs room .after) (serve Host d xs room .after)
   -- On both, each hidden block ends with the contents it started with, unless a call of the bytes took its last pointer away.
   pub kept : (b : ℕ) → Hidden (keysIn c xs) c b → lastTaken c (madeIn c xs room) b ≡ false → block (serve Host c xs room .after) b ≡ block c b
   pub keptOnOther : (b : ℕ) → Hidden (keysIn c xs) c b → lastTaken d (madeIn d xs room) b ≡ false → block (serve Host d xs room .after) b ≡ block d b
@@ -195,7 +195,7 @@ after-made c xs room =
 pub only : {A : Type 0} {x y : A} → _≡_ {A = List A} (x ∷ []) (y ∷ []) → x ≡ y
 only e = cc
 
-module _ (xs : List ℕ) (room : ℕ) (c d : Card) (sc : SoundCard c) (sd : SoundCard d) (same : EqualBut (HiddenOrFree (keysIn c xs) c) c d) where
+module _ (xs : List ℕ) (room : ℕ) (c d : Card) (sc : SoundCard c) (sd : SoundCard d) (same : EqualBut (HiddenOrUnallocated (keysIn c xs) c) c d) where
   abbrev K : ℕ → ℕ → Bool
   K = keysIn c xs
 
@@ -234,13 +234,13 @@ module _ (xs : List ℕ) (room : ℕ) (c d : Card) (sc : SoundCard c) (sd : Soun
     stops = ap (λ (t : Told). t .stop) same-told;
     left = ap (λ (t : Told). t .left) same-told;
     cards =
-        subst (λ (x : Card). EqualBut (HiddenOrStillFree K c x) x (serve Host d xs room .after)) (sym (after-made c xs room))
-        (subst (λ (y : Card). EqualBut (HiddenOrStillFree K c (afterAll c (madeIn c xs room))) (afterAll c (madeIn c xs room)) y) (sym after-other) (secret .cards));
+        subst (λ (x : Card). EqualBut (StillDiffers K c x) x (serve Host d xs room .after)) (sym (after-made c xs room))
+        (subst (λ (y : Card). EqualBut (StillDiffers K c (afterAll c (madeIn c xs room))) (afterAll c (madeIn c xs room)) y) (sym after-other) (secret .cards));
     kept = λ b h f. ap (λ (x : Card). block x b) (after-made c xs room) ∙ secret .kept b h f;
     keptOnOther = λ b h f. ap (λ (x : Card). block x b) after-other ∙ secret .keptOnOther b h (ap (λ (calls : List Sent). lastTaken d calls b) (sym same-made) ∙ f);
   }
 
--- Any bytes that arrive at the host port, any room for answers, and any two sound cards that are equal but for the contents of hidden and unallocated
--- blocks. Hidden is judged on the starting card, with the keys that any record of the bytes presents; `arrivals` says which records these are.
-pub bytes-secret : (xs : List ℕ) (room : ℕ) (c d : Card) → SoundCard c → SoundCard d → EqualBut (HiddenOrFree (keysIn c xs) c) c d → BytesSecret c d xs room
+-- Any bytes that arrive at the host port, any room for answers, and any two sound cards that are equal but for the contents of hidden, waiting and
+-- free blocks. Hidden is judged on the starting card, with the keys that any record of the bytes presents; `arrivals` says which records these are.
+pub bytes-secret : (xs : List ℕ) (room : ℕ) (c d : Card) → SoundCard c → SoundCard d → EqualBut (HiddenOrUnallocated (keysIn c xs) c) c d → BytesSecret c d xs room
 bytes-secret = all-alike

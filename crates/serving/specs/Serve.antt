@@ -13,7 +13,7 @@ use Rattle.card.specs.declared.Port.{Port}
 use Rattle.card.specs.declared.Answer.{Answer}
 use Rattle.card.specs.declared.Answer.the-variants.{Refused, Done, Value}
 use Rattle.card.specs.declared.Call.{Call}
-use Rattle.card.specs.declared.Call.the-variants.{Read, Write, Alloc, AllocContig, Create, Delete, DeleteTree, KeyRead, KeyWrite, Renew, Force, Free, Tick, Audit, Rent}
+use Rattle.card.specs.declared.Call.the-variants.{Read, Write, Alloc, AllocContig, Create, Delete, DeleteTree, KeyRead, KeyWrite, Renew, Force, Free, Tick, Audit, Rent, Sweep}
 use Rattle.fields.specs.Bytes.{bytes}
 use Rattle.records.specs.Decode.{Next, ended, refused, sent, decode}
 use Rattle.lines.specs.Replied.{filledBy}
@@ -78,6 +78,7 @@ answerRoom size Free = 1 + 8
 answerRoom size (Tick o) = 1 + 8
 answerRoom size Audit = 1
 answerRoom size (Rent o) = 1 + 8
+answerRoom size (Sweep o) = 1 + 8
 
 -- ---- one record
 

@@ -22,18 +22,18 @@ use Rattle.card.specs.declared.RentOperands.{RentOperands}
 use Rattle.card.specs.declared.Call.the-variants.{Free, Tick, Rent}
 use Rattle.card.specs.declared.Refusal.the-variants.{TimeEnds, PriceTooHigh}
 use Rattle.card.specs.declared.Answer.the-variants.{Value}
-use Rattle.tables.specs.Free.{unallocatedBelow}
-use Rattle.tables.specs.FreeLaws.{unallocated-free}
+use Rattle.tables.specs.Free.{freeBelow}
+use Rattle.tables.specs.FreeLaws.{flags-free}
 use Rattle.tables.specs.Rented.{rentedBelow}
 use Rattle.tables.specs.RentedLaws.{rented-ordinary}
 use Rattle.outcomes.specs.Outcomes.{refusing}
 use Rattle.outcomes.proofs.Returned.{withInfo, refuses}
 
-pub free-done : {c : Card} (port : Port) → SoundCard c → {n : ℕ} → n ≡ length (unallocatedBelow (c .public .flags) (length (c .public .flags)))
+pub free-done : {c : Card} (port : Port) → SoundCard c → {n : ℕ} → n ≡ length (freeBelow (c .public .flags) (length (c .public .flags)))
     → Is (performSound port c (request Free [] [] [])) (Value n) c [] []
 unfolding performSound plan freePlan changes outAfter placesAfter
 free-done {c} port s e =
-    rw (e, unallocated-free (c .public) (s .shaped .hasLengths .flags))
+    rw (e, flags-free (c .public) (s .shaped .hasLengths .flags))
     (is-done c (request Free [] [] [] .lent) (freePlan (c .public)) tt refl refl refl)
 
 -- ---- TICK

@@ -1,7 +1,7 @@
 -- A count of the blocks that pass a test, one block a turn, from a first block on below which none passes.
 use Prim.Native.Nat.{ℕ, _+_, _≤_, _<_}
 use mathlib.Core.Path.{_≡_, sym, ap, _∙_}
-use mathlib.Core.Bool.{Bool, true, false, not, cond, and-true}
+use mathlib.Core.Bool.{Bool, true, false, cond, and-true}
 use mathlib.Core.List.{List}
 use native.Mathlib.Nat.{not-suc-le-zero}
 use native.Mathlib.Numerals.{add-one}
@@ -11,8 +11,8 @@ use borrow.Author.Tests.{lt-ltb, le-ltb}
 use Rattle.card.specs.Lists.{numbersBelow}
 use Rattle.card.specs.ListsLaws.{and-false-right}
 use Rattle.card.specs.NumbersLaws.{one, numbers-more, numbers-none, numbers-most}
-use Rattle.card.specs.Card.{allocatedFlag}
-use Rattle.tables.specs.Free.{isUnallocated, unallocatedBelow}
+use Rattle.card.specs.Card.{allocatedFlag, freeFlag}
+use Rattle.tables.specs.Free.{isFree, freeBelow}
 use Rattle.tables.specs.Rented.{isRented, rentedBelow}
 
 -- Those below i are tested.
@@ -46,17 +46,17 @@ module _ {test : List ℕ → ℕ → Bool} {flags : List ℕ} {first count i : 
   counted-more l true e n = counted-next l (omega (arith, one-more true e))
   counted-more l false e n = counted-next l (omega (arith, one-more false e))
 
--- ---- the unallocated blocks
+-- ---- the free blocks
 
-pub free-start : (flags : List ℕ) → Counted isUnallocated flags 0 0 0
-free-start flags = counted-start isUnallocated flags 0 (λ b h. absurd (not-suc-le-zero h))
+pub free-start : (flags : List ℕ) → Counted isFree flags 0 0 0
+free-start flags = counted-start isFree flags 0 (λ b h. absurd (not-suc-le-zero h))
 
-pub free-more : {flags : List ℕ} {count i next : ℕ} {t : Bool} → Counted isUnallocated flags 0 count i → i < length flags → t ≡ allocatedFlag (getD flags i 0) → (u : Bool)
-    → not t ≡ u → next ≡ cond u (count + 1) count → Counted isUnallocated flags 0 next (i + 1)
-free-more k l told u e n = counted-more k l u (ap not (sym told) ∙ e) n
+pub free-more : {flags : List ℕ} {count i next : ℕ} {t : Bool} → Counted isFree flags 0 count i → i < length flags → t ≡ freeFlag (getD flags i 0) → (u : Bool)
+    → t ≡ u → next ≡ cond u (count + 1) count → Counted isFree flags 0 next (i + 1)
+free-more k l told u e n = counted-more k l u (sym told ∙ e) n
 
-pub free-whole : {flags : List ℕ} {count i : ℕ} → Counted isUnallocated flags 0 count i → length flags ≤ i → count ≡ length (unallocatedBelow flags (length flags))
-unfolding unallocatedBelow
+pub free-whole : {flags : List ℕ} {count i : ℕ} → Counted isFree flags 0 count i → length flags ≤ i → count ≡ length (freeBelow flags (length flags))
+unfolding freeBelow
 free-whole k l = k .whole l
 
 -- ---- those that rent is paid for

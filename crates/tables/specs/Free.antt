@@ -1,14 +1,14 @@
--- The unallocated blocks of a table of flags.
+-- The free blocks of a table of flags.
 use Prim.Native.Nat.{ℕ}
-use mathlib.Core.Bool.{Bool, not}
+use mathlib.Core.Bool.{Bool}
 use mathlib.Core.List.{List}
 use lib.ListN.{getD}
 use Rattle.card.specs.Lists.{numbersBelow}
-use Rattle.card.specs.Card.{allocatedFlag}
+use Rattle.card.specs.Card.{freeFlag}
 
-abbrev pub isUnallocated : List ℕ → ℕ → Bool
-isUnallocated flags b = not (allocatedFlag (getD flags b 0))
+abbrev pub isFree : List ℕ → ℕ → Bool
+isFree flags b = freeFlag (getD flags b 0)
 
--- The numbers below n whose flags are not those of an allocated block, ascending.
-unfoldable pub unallocatedBelow : List ℕ → ℕ → List ℕ
-unallocatedBelow flags n = numbersBelow (isUnallocated flags) n
+-- The numbers below n whose flags are those of a free block, ascending.
+unfoldable pub freeBelow : List ℕ → ℕ → List ℕ
+freeBelow flags n = numbersBelow (isFree flags) n

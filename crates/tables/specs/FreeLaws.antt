@@ -1,16 +1,15 @@
--- The unallocated blocks of a table of flags, on a card.
+-- The free blocks of a table of flags, on a card.
 use mathlib.Core.Path.{_≡_}
-use mathlib.Core.Bool.{not}
 use lib.ListN.{length}
 use borrow.Author.Tests.{lt-ltb}
 use Rattle.card.specs.ListsLaws.{numbersBelow-same}
-use Rattle.card.specs.Card.{Public, allocated, freeBlocks}
-use Rattle.tables.specs.Free.{isUnallocated, unallocatedBelow}
+use Rattle.card.specs.Card.{Public, free, freeBlocks}
+use Rattle.tables.specs.Free.{isFree, freeBelow}
 
 -- On a card of the right shape they are its free blocks.
-pub unallocated-free : (p : Public) → length (p .flags) ≡ p .info .blocks → unallocatedBelow (p .flags) (length (p .flags)) ≡ freeBlocks p
-unfolding unallocatedBelow freeBlocks allocated
-unallocated-free p e =
+pub flags-free : (p : Public) → length (p .flags) ≡ p .info .blocks → freeBelow (p .flags) (length (p .flags)) ≡ freeBlocks p
+unfolding freeBelow freeBlocks free
+flags-free p e =
     rw e
-    (numbersBelow-same (isUnallocated (p .flags)) (λ b. not (allocated p b)) (p .info .blocks)
+    (numbersBelow-same (isFree (p .flags)) (free p) (p .info .blocks)
     (λ b l. rw (lt-ltb b (p .info .blocks) l)))

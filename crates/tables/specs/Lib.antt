@@ -11,3 +11,4 @@ pub mod Rented
 pub mod RentedLaws
 pub mod Merge
 pub mod MergeLaws
+pub mod Cleared

@@ -10,7 +10,7 @@ ghost use Rattle.card.specs.Pointers.{contains, pointsFrom, beside, insert};
 ghost use Rattle.card.specs.Plan.{withUsed, withTime};
 ghost use Rattle.card.specs.Calls.{freshInfo};
 ghost use Rattle.tables.specs.Rank.{rank};
-ghost use Rattle.tables.specs.Free.{unallocatedBelow};
+ghost use Rattle.tables.specs.Free.{freeBelow};
 ghost use Rattle.tables.specs.Rented.{rentedBelow};
 ghost use Rattle.tables.specs.Places.{removeAt, raisedAt, PutAt, TakenAt};
 ghost use Rattle.tables.specs.Merge.{MergedIn};
@@ -87,14 +87,14 @@ pub fn clear(to: &mut [u8])
 
 // ---- flags
 
-// The number of unallocated blocks.
+// The number of free blocks.
 pub fn count_free(flags: &[u8]) -> usize
-    ensures { λ r. ⌜ r ≡ length (unallocatedBelow (now (flags .entry)) (length (now (flags .entry)))) ⌝ }
+    ensures { λ r. ⌜ r ≡ length (freeBelow (now (flags .entry)) (length (now (flags .entry)))) ⌝ }
 {
     let mut free: usize = 0;
     let mut block = 0;
     while block < flags.len() {
-        if !flags::allocated(flags[block]) {
+        if flags::free(flags[block]) {
             free += 1;
         }
         block += 1;

@@ -84,7 +84,7 @@ module _ {pointers multiplicities : List ℕ} {used : ℕ} (fit : Releasable poi
             (entered-cases r b m);
       }
 
-  -- With no block waiting, a block of which something is left is pointed to from one that is not marked.
+  -- With no block left in the queue, a block of which something is left is pointed to from one that is not marked.
   pub spreading-whole : {left marks queue : List ℕ} {block head tail : ℕ} → Spreading (take used pointers) (take used multiplicities) left marks queue block head tail
       → tail ≤ head → Released (take used pointers) marks block tail
   unfolding remaining splitTotal

@@ -1,5 +1,5 @@
 // The blocks that are freed with a pointer, found before anything is changed: of each block it is held how often pointers still lead to it, and
-// with the last of them the block is marked, and waits until its own pointers are taken off in turn.
+// with the last of them the block is marked, and queued until its own pointers are taken off in turn.
 use card::Info;
 ghost use mathlib.Core.Path.{_≡_};
 ghost use mathlib.Core.Bool.{true};
@@ -42,7 +42,7 @@ fn index(pointers: &[u32], used: usize, first: &mut [u16; 4096])
 
 // ---- the walk
 
-// So many of the pointers to a block are gone: with the last of them the block is marked, and waits.
+// So many of the pointers to a block are gone: with the last of them the block is marked and queued.
 fn lose(
     left: &mut [u32; 4096],
     marks: &mut [u8; 4096],

@@ -267,7 +267,7 @@ module _ {edge : ℕ → ℕ → Type 0} {before marks : List ℕ} (g : Grown ed
 
 -- ---- the end
 
--- With no block waiting, the marked blocks are those of the least set.
+-- With no block left in the queue, the marked blocks are those of the least set.
 module _ {edge : ℕ → ℕ → Type 0} {before marks queue : List ℕ} {head tail : ℕ}
     (h : Walking edge marks queue head tail) (g : Grown edge before marks) (l : tail ≤ head) where
   walking-reached : (b : ℕ) → Led edge before b → mark marks b ≡ 1

@@ -1,5 +1,5 @@
 // Walks from block to block, along the pointers or against them, each pointer looked at once: a mark for each block that was come to, and a
-// queue of them in which those from its head on wait.
+// queue of them: of those from its head on the pointers are still to be followed.
 ghost use mathlib.Core.Path.{_≡_};
 ghost use Prim.Native.Nat.{_+_, _<_};
 ghost use lib.ListN.{length, take, replicate};
@@ -60,7 +60,7 @@ fn link(
 
 // ---- the walk
 
-// A block that is not marked is marked, and waits.
+// A block that is not marked is marked and queued.
 pub fn enter(marks: &mut [u8; 4096], queue: &mut [u16; 4096], tail: usize, block: u16) -> usize
     requires { ⌜ block < 4096 ⌝ }
     requires { ⌜ ((mark (now marks) block ≡ 1 → ⊥) → tail < 4096) ⌝ }
@@ -108,7 +108,7 @@ fn follow(
     end
 }
 
-// From the blocks in the queue on, each block to which pointers lead is marked and waits in turn, by links that are made. How many are marked.
+// From the blocks in the queue on, each block to which pointers lead is marked and queued in turn, by links that are made. How many are marked.
 fn spread(
     pointers: &[u32],
     used: usize,

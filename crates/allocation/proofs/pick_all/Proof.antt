@@ -30,11 +30,11 @@ next-requires c κs = picked-spread (c .before .loop .inv) (c .loop-test .taken)
 add-high : tie.Need-add-high Inv-loop μ-loop
 add-high c = omega (arith, next-narrow (c .before .before .before .loop .inv) (c .before .next .ensures))
 
-shared-slice-read-allocated : tie.Need-shared-slice-read-allocated Inv-loop μ-loop
-shared-slice-read-allocated c = c .before .before .next .ensures .below
+shared-slice-read-free : tie.Need-shared-slice-read-free Inv-loop μ-loop
+shared-slice-read-free c = c .before .before .next .ensures .below
 
-allocated-requires : tie.Need-allocated-requires Inv-loop μ-loop
-allocated-requires c κs = tt
+free-requires : tie.Need-free-requires Inv-loop μ-loop
+free-requires c κs = tt
 
 cast-places : tie.Need-cast-places Inv-loop μ-loop
 cast-places c =
@@ -83,8 +83,8 @@ pick-all-spec =
     loop-holds
     next-requires
     add-high
-    shared-slice-read-allocated
-    allocated-requires
+    shared-slice-read-free
+    free-requires
     cast-places
     mul-places
     slice-write-places

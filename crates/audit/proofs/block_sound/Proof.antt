@@ -56,6 +56,12 @@ add-zero-words c = search needs
 zero-words-requires-2 : tie.Need-zero-words-requires-2
 zero-words-requires-2 c κs = search needs
 
+free-requires : tie.Need-free-requires
+free-requires c κs = search needs
+
+waiting-requires : tie.Need-waiting-requires
+waiting-requires c κs = search needs
+
 cast-latest : tie.Need-cast-latest
 cast-latest c = search needs
 
@@ -89,6 +95,8 @@ block-sound-spec =
     mul-zero-words-2
     add-zero-words
     zero-words-requires-2
+    free-requires
+    waiting-requires
     cast-latest
     add-latest
     returns)

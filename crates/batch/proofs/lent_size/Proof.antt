@@ -1,6 +1,5 @@
 -- `batch::lent_size` meets its contract.
-use Rattle.serving.specs.Serve.{lentSize}
-use Rattle.batch.proofs.AnswerBytesLaws.{lent-whole, lent-none}
+use Rattle.batch.proofs.AnswerBytesLaws.{lent-neither, lent-blocks, lent-whole, lent-none}
 use borrow.Author.Needs.{needs}
 use Rattle.batch.proofs.lent_size.Statement.{statement}
 use Rattle.batch.proofs.lent_size.Tie as tie
@@ -18,8 +17,7 @@ enum-told-3 : tie.Need-enum-told-3
 enum-told-3 c = search needs
 
 returns : tie.Need-returns
-unfolding lentSize
-returns c = search needs
+returns c = search lent-neither
 
 returns-2 : tie.Need-returns-2
 returns-2 c = search lent-whole
@@ -28,8 +26,7 @@ returns-3 : tie.Need-returns-3
 returns-3 c = search lent-none
 
 returns-4 : tie.Need-returns-4
-unfolding lentSize
-returns-4 c = search needs
+returns-4 c = search lent-blocks
 
 pub lent-size-spec : {M : Type 1} → statement M
 lent-size-spec =

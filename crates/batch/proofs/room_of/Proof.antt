@@ -8,7 +8,7 @@ use denote.Enum.Declared.{tagOf}
 use borrow.Author.Needs.{needs}
 use Rattle.card.proofs.Call.{the-type}
 use Rattle.card.specs.declared.Call.{Call}
-use Rattle.card.specs.declared.Call.the-variants.{Read, Write, Alloc, AllocContig, Create, Delete, DeleteTree, KeyRead, KeyWrite, Renew, Force, Free, Tick, Audit, Rent}
+use Rattle.card.specs.declared.Call.the-variants.{Read, Write, Alloc, AllocContig, Create, Delete, DeleteTree, KeyRead, KeyWrite, Renew, Force, Free, Tick, Audit, Rent, Sweep}
 use Rattle.serving.specs.Serve.{answerRoom}
 use Rattle.batch.proofs.AnswerBytesLaws.{lent-most, room-read}
 use Rattle.batch.proofs.room_of.Statement.{statement}
@@ -35,6 +35,7 @@ room-other size Free h = absurd (miss callsWithoutResults 11 tt h)
 room-other size (Tick o) h = absurd (miss callsWithoutResults 12 tt h)
 room-other size Audit h = refl
 room-other size (Rent o) h = absurd (miss callsWithoutResults 14 tt h)
+room-other size (Sweep o) h = absurd (miss callsWithoutResults 15 tt h)
 
 enum-told : tie.Need-enum-told
 enum-told c = search needs
@@ -68,39 +69,46 @@ enum-told-7 c = search needs
 enum-told-8 : tie.Need-enum-told-8
 enum-told-8 c = search needs
 
+enum-told-9 : tie.Need-enum-told-9
+enum-told-9 c = search needs
+
 returns : tie.Need-returns
 returns c = search room-read
 
 returns-2 : tie.Need-returns-2
 unfolding answerRoom
-returns-2 c = search needs
+returns-2 c = rw (c .enum-told2 .given .1)
 
 returns-3 : tie.Need-returns-3
 unfolding answerRoom
-returns-3 c = search needs
+returns-3 c = rw (c .enum-told3 .given .1)
 
 returns-4 : tie.Need-returns-4
 unfolding answerRoom
-returns-4 c = search needs
+returns-4 c = rw (c .enum-told4 .given .1)
 
 returns-5 : tie.Need-returns-5
 unfolding answerRoom
-returns-5 c = search needs
+returns-5 c = rw (c .enum-told5 .given .1)
 
 returns-6 : tie.Need-returns-6
 unfolding answerRoom
-returns-6 c = search needs
+returns-6 c = rw (c .enum-told6 .given .1)
 
 returns-7 : tie.Need-returns-7
 unfolding answerRoom
-returns-7 c = search needs
+returns-7 c = rw (c .enum-told7 .given .1)
 
 returns-8 : tie.Need-returns-8
 unfolding answerRoom
-returns-8 c = search needs
+returns-8 c = rw (c .enum-told8 .given .1)
 
 returns-9 : tie.Need-returns-9
-returns-9 c = search room-other
+unfolding answerRoom
+returns-9 c = rw (c .enum-told9 .given .1)
+
+returns-10 : tie.Need-returns-10
+returns-10 c = search room-other
 
 pub room-of-spec : {M : Type 1} → statement M
 room-of-spec =
@@ -116,6 +124,7 @@ room-of-spec =
     enum-told-6
     enum-told-7
     enum-told-8
+    enum-told-9
     returns
     returns-2
     returns-3
@@ -124,4 +133,5 @@ room-of-spec =
     returns-6
     returns-7
     returns-8
-    returns-9)
+    returns-9
+    returns-10)

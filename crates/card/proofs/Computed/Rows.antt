@@ -2,7 +2,7 @@
 -- theorem; with the mistake it computes to false, and so the theorem is false. And rows by which what a theorem excepts is seen to happen.
 use Prim.Native.Nat.{ℕ, _-_}
 use mathlib.Core.Path.{_≡_, refl}
-use mathlib.Core.Bool.{Bool, true, false, _&&_}
+use mathlib.Core.Bool.{Bool, true, false, _&&_, _||_}
 use mathlib.Core.List.{List, [], _∷_, _++_}
 use mathlib.Core.Option.{orElse}
 use lib.Dec.{eqb, ltb, leb}
@@ -15,9 +15,9 @@ use Rattle.card.specs.Calls.{freshInfo, format}
 use Rattle.card.specs.Lists.{sumBelow}
 use Rattle.card.specs.Ledger.{made, taken, madeInAll, takenInAll}
 use Rattle.card.specs.RentAdded.{added, addedInAll}
-use Rattle.card.specs.Session.{Request, Sent, performed, refusals, portOf, replies, afterAll, traits}
+use Rattle.card.specs.Session.{Request, Sent, performed, refusals, portOf, isSweep, replies, afterAll, traits}
 use Rattle.card.specs.Reach.{shows, someShows, presents, presented, keyPresented, sealed, isOne, takesLast, lastTaken}
-use Rattle.card.specs.Trials.{rules, blankCard, playerCard, lending, send, key, read, writeAll, alloc, create, delete, deleteTree, free, tick, trialTable, trialReports, rentedFor, rentTable, rentReports}
+use Rattle.card.specs.Trials.{rules, blankCard, playerCard, lending, send, key, read, writeAll, alloc, create, delete, deleteTree, free, tick, trialTable, trialReports, rentedFor, rentTable, rentReports, waitingTable, waitingReports}
 use Rattle.card.specs.declared.Port.the-variants.{Host, Service}
 use Rattle.card.specs.declared.Mode.{Mode}
 use Rattle.card.specs.declared.Mode.the-variants.{Reading, Writing}
@@ -28,16 +28,16 @@ use Rattle.card.specs.declared.NewKey.the-variants.{Absent, Present}
 use Rattle.card.specs.declared.AllocOperands.{AllocOperands}
 use Rattle.card.specs.declared.DeleteOperands.{DeleteOperands}
 use Rattle.card.specs.declared.KeyOperands.{KeyOperands}
-use Rattle.card.specs.declared.Call.the-variants.{Alloc, Delete, Renew, Force, Free, Tick}
+use Rattle.card.specs.declared.Call.the-variants.{Delete, Renew, Force, Free, Tick, Sweep}
 use Rattle.card.proofs.Guarantees.Windows.{byRead, byWrite, byRenew}
 use Rattle.card.proofs.Secrecy.Bounds.{bounds}
 use Rattle.card.proofs.Secrecy.Example.{hosted}
 use Rattle.card.proofs.Computed.Same.{sameList, sameLists, replyNumbers, allLines}
-use Rattle.card.proofs.Computed.Tests.{refusalUnchangedTest, portsAlikeTest, doneSoundTest, countsRightTest, pointersAscendingTest, formatSoundTest, untouchedTest, firstNumber, refusedIffTest, noneHold, madeAndTakenTest, ledgerTest, countsLedgerTest, runFoundTest, runAdjoinsTest, runNearestTest, treeLeastTest, treeSparesTest, treeCycleTest, treeKeyedTest, treeHidesTest, oneKeyUnsealedTest, otherKeyKeptTest, ownKeySetTest, bothWindowsClosedTest, writeAccessNeededTest, windowSetByTest, windowLaterTest, intervalZeroKeptTest, isSound, endsSooner, windowsKeptTest, withContents, sameHiddenTest, secrecyTest, rentSummedTest, rentUnchangedTest, rentNearestTest, rentAlikeTest, trialsTest, rentTrialsTest}
+use Rattle.card.proofs.Computed.Tests.{refusalUnchangedTest, portsAlikeTest, doneSoundTest, countsRightTest, pointersAscendingTest, formatSoundTest, untouchedTest, freedWaitsTest, sweptGoneTest, firstNumber, refusedIffTest, noneHold, madeAndTakenTest, ledgerTest, countsLedgerTest, runFoundTest, runAdjoinsTest, runNearestTest, treeLeastTest, treeSparesTest, treeCycleTest, treeKeyedTest, treeHidesTest, oneKeyUnsealedTest, otherKeyKeptTest, ownKeySetTest, bothWindowsClosedTest, writeAccessNeededTest, windowSetByTest, windowLaterTest, intervalZeroKeptTest, isSound, endsSooner, windowsKeptTest, withContents, sameHiddenTest, secrecyTest, rentSummedTest, rentUnchangedTest, rentNearestTest, rentAlikeTest, trialsTest, rentTrialsTest, waitingTrialsTest}
 
 -- To compute a row, its proof unfolds this one name. A wrong rule makes use of `orElse`.
 unfoldable pub computing : Unit {0}
-unfolding orElse rules playerCard refusals portOf replies afterAll sumBelow made taken madeInAll takenInAll added addedInAll traits shows someShows presents presented keyPresented sealed isOne takesLast lastTaken trialTable trialReports rentTable rentReports bounds sameList sameLists replyNumbers allLines firstNumber noneHold
+unfolding orElse rules playerCard refusals portOf isSweep replies afterAll sumBelow made taken madeInAll takenInAll added addedInAll traits shows someShows presents presented keyPresented sealed isOne takesLast lastTaken trialTable trialReports rentTable rentReports waitingTable waitingReports bounds sameList sameLists replyNumbers allLines firstNumber noneHold
 computing = tt
 
 -- ---- cards, drawn by hand: no rule has made them
@@ -107,6 +107,17 @@ apart left =
     (1 ∷ 2 ∷ 3 ∷ 4 ∷ 8 ∷ 9 ∷ 10 ∷ 11 ∷ zeros left)
     (zeros 8192)
 
+-- The root points to block 2, between the blocks 1 and 3, which wait.
+abbrev twoWaiting : List ℕ → Card
+twoWaiting contents = drawn 1 (1 ∷ 8 ∷ 1 ∷ 8 ∷ zeros 12) (zeros 64) (0 ∷ 0 ∷ 1 ∷ zeros 13) (2 ∷ zeros 31) contents
+
+-- One byte all over the contents of a card; or all over the blocks 1 and 3, and 7 over the others.
+abbrev filled : ℕ → List ℕ
+filled byte = replicate 8192 byte
+
+abbrev differing : ℕ → List ℕ
+differing byte = replicate 512 7 ++ (replicate 512 byte ++ (replicate 512 7 ++ (replicate 512 byte ++ replicate 6144 7)))
+
 -- The root points to block 1, which has both keys.
 abbrev keyed : List ℕ → Card
 keyed contents = drawn 1 (1 ∷ 7 ∷ zeros 14) (zeros 4 ++ (1 ∷ 2 ∷ 3 ∷ 4 ∷ zeros 56)) (0 ∷ 1 ∷ zeros 14) (1 ∷ zeros 31) contents
@@ -166,6 +177,9 @@ service-free-answers-nothing = portsAlikeTest playerCard Free (lending [])
 
 abbrev service-tick-stands-still : Bool
 service-tick-stands-still = portsAlikeTest playerCard (Tick (record { seconds = 5 })) (lending [])
+
+abbrev service-sweep-sweeps-nothing : Bool
+service-sweep-sweeps-nothing = portsAlikeTest (twoWaiting (filled 7)) (Sweep (record { most = 1 })) (lending [])
 
 -- ---- done-sound
 
@@ -242,6 +256,36 @@ unallocated-block-written = untouchedTest playerCard (writeAll Service 5 Nothing
 abbrev reused-block-unzeroed : Bool
 reused-block-unzeroed = untouchedTest (withContents playerCard (replicate 8192 7)) (alloc Service 0 65535 1) 1
 
+abbrev waiting-block-taken : Bool
+waiting-block-taken = untouchedTest (twoWaiting (filled 7)) (alloc Service 0 1 1) 1
+
+abbrev free-sweeps-a-block : Bool
+free-sweeps-a-block = untouchedTest (twoWaiting (filled 7)) free 1
+
+-- ---- freed-waits and swept-gone
+
+abbrev freed-at-once : Bool
+freed-at-once = freedWaitsTest twoBelow (delete Service 0 1) 1
+
+abbrev freed-block-overwritten : Bool
+freed-block-overwritten = freedWaitsTest (withContents chain (filled 7)) (deleteTree Service 0 1) 2
+
+-- The other card differs in the blocks that wait.
+abbrev swept-block-unfilled : Bool
+swept-block-unfilled = sweptGoneTest (twoWaiting (filled 7)) (differing 6) (record { most = 1 })
+
+abbrev swept-block-left-waiting : Bool
+swept-block-left-waiting = sweptGoneTest (twoWaiting (filled 7)) (differing 6) (record { most = 1 })
+
+abbrev highest-swept : Bool
+highest-swept = sweptGoneTest (twoWaiting (filled 7)) (differing 6) (record { most = 1 })
+
+abbrev one-more-swept : Bool
+one-more-swept = sweptGoneTest (twoWaiting (filled 7)) (differing 6) (record { most = 1 })
+
+abbrev sweep-answers-what-was-asked-for : Bool
+sweep-answers-what-was-asked-for = sweptGoneTest (twoWaiting (filled 7)) (differing 6) (record { most = 5 })
+
 -- ---- refused-iff
 
 abbrev done-though-refused : Bool
@@ -269,6 +313,9 @@ allocated-block-in-the-middle = runAdjoinsTest Service gapped (below0 65535 3) (
 
 abbrev run-past-the-last-block : Bool
 run-past-the-last-block = runAdjoinsTest Service playerCard (below0 15 2) (lending [])
+
+abbrev waiting-block-in-a-run : Bool
+waiting-block-in-a-run = runAdjoinsTest Service (twoWaiting (filled 7)) (below0 65535 2) (lending [])
 
 abbrev run-given-descending : Bool
 run-given-descending = runAdjoinsTest Service playerCard (below0 8 3) (lending [])
@@ -468,7 +515,17 @@ abbrev renew-presents-no-key : Bool
 renew-presents-no-key = secrecyTest nested (below 6) atMostOne (hosted (Renew (record { mode = 0; block = 2; high = 5; low = 6; interval = 10 })) ∷ reads 3 (Reference 2) 0 ∷ [])
 
 abbrev last-pointer-to-the-source : Bool
-last-pointer-to-the-source = secrecyTest nested (below 6) atMostOne (hosted (Delete (record { source = 1; credential = KeyCredential 3 4; destination = 4 })) ∷ hosted (Alloc (record { reference = 1; credential = KeyCredential 3 4; hint = 4; count = 1 })) ∷ [])
+last-pointer-to-the-source = secrecyTest nested (below 6) atMostOne (hosted (Delete (record { source = 1; credential = KeyCredential 3 4; destination = 4 })) ∷ hosted (Sweep (record { most = 1 })) ∷ [])
+
+-- Two blocks wait, and differ; the others are within reach, or free.
+abbrev sweeps : ℕ → List Request
+sweeps most = hosted (Sweep (record { most = most })) ∷ []
+
+abbrev sweep-reads-what-it-sweeps : Bool
+sweep-reads-what-it-sweeps = secrecyTest (twoWaiting (differing 1)) (differing 2) (λ b. eqb b 0 || eqb b 2) (sweeps 2)
+
+abbrev byte-left-by-sweep : Bool
+byte-left-by-sweep = secrecyTest (twoWaiting (differing 1)) (differing 2) (λ b. eqb b 0 || eqb b 2) (sweeps 2)
 
 -- ---- rent-summed, rent-unchanged, rent-nearest and rent-alike
 
@@ -522,6 +579,24 @@ eleven-on-an-existing-pointer = trialsTest 24
 
 abbrev rent-for-the-roots : Bool
 rent-for-the-roots = trialsTest 31
+
+abbrev free-counts-waiting-blocks : Bool
+free-counts-waiting-blocks = trialsTest 12
+
+abbrev waiting-block-pays-rent : Bool
+waiting-block-pays-rent = trialsTest 32
+
+abbrev waiting-block-goes-with-a-tree : Bool
+waiting-block-goes-with-a-tree = trialsTest 35
+
+abbrev waiting-block-refused : Bool
+waiting-block-refused = waitingTrialsTest 1
+
+abbrev window-of-a-waiting-block-allowed : Bool
+window-of-a-waiting-block-allowed = waitingTrialsTest 4
+
+abbrev flag-9-taken-for-allocated : Bool
+flag-9-taken-for-allocated = waitingTrialsTest 8
 
 abbrev highest-price-refused : Bool
 highest-price-refused = rentTrialsTest 5

@@ -15,21 +15,21 @@ use Rattle.card.specs.Pointers.{pointer, source, destination, ascending,
 use Rattle.card.specs.PointersLaws.{source-pointer, destination-pointer, contains-all, all-contains}
 use Rattle.card.specs.LeastLaws.{Some, any-member, member-any, least-own}
 use Rattle.card.specs.Contents.{zeros}
-use Rattle.card.specs.Card.{Public, Card, flag, allocated, hasKey, isRoot, freeBlocks, windowEnd, windowOpen, count, inUse, timesInUse, multiplicity, pointsTo, keyHigh, keyLow, block}
+use Rattle.card.specs.Card.{Public, Card, flag, allocated, waiting, free, hasKey, isRoot, freeBlocks, waitingBlocks, windowEnd, windowOpen, count, inUse, timesInUse, multiplicity, pointsTo, keyHigh, keyLow, block}
 use Rattle.card.specs.Tree.{orphaned, orphans}
 use Rattle.card.specs.Soundness.{ranges, lengths, shape, sound}
 use Rattle.card.specs.SoundCard.{SoundCard}
-use Rattle.card.specs.SoundnessLaws.{shape-true, true-shape, sound-true, true-sound, allocated-below}
+use Rattle.card.specs.SoundnessLaws.{free-below, waiting-below, shape-true, true-shape, sound-true, true-sound, allocated-below}
 use Rattle.card.specs.Plan.{Check, _⇒_, FirstHolds, here, later, NoneHolds, isPresent, highWord, lowWord, otherMode, keyBit, changePublic, Buffers, Result}
 use Rattle.card.specs.ChangesLaws.{other-mode}
 use Rattle.card.specs.Calls.{refusalNumber, answerNumber, answerValues, isDone, format, noHint, distance, isRun, freedWith}
 use Rattle.card.specs.RunsLaws.{run-blocks, blocks-run}
 use Rattle.card.specs.Ledger.{made as madeBy, taken as takenBy, madeInAll, takenInAll}
 use Rattle.card.specs.RentAdded.{addedInAll}
-use Rattle.card.specs.Session.{Request, Sent, portOf, EitherPort, refusals, perform, performed, reply, replies, afterAll, hostSession}
+use Rattle.card.specs.Session.{Request, Sent, portOf, EitherPort, isSweep, refusals, perform, performed, reply, replies, afterAll, hostSession}
 use Rattle.card.specs.SessionLaws.{ports-alike}
 use Rattle.card.specs.Reach.{presents, presented, keyPresented, sealed, Reach, unsealedRoot, byKey, Hidden, lastTaken}
-use Rattle.card.specs.Trials.{trialTable, trialReports, trials, lending, rentTable, rentReports, rentExpected, rent-trials}
+use Rattle.card.specs.Trials.{trialTable, trialReports, trials, lending, rentTable, rentReports, rentExpected, rent-trials, waitingTable, waitingReports, waitingExpected, waiting-trials}
 use Rattle.card.specs.declared.Port.{Port}
 use Rattle.card.specs.declared.Port.the-variants.{Host, Service}
 use Rattle.card.specs.declared.Mode.{Mode}
@@ -42,10 +42,11 @@ use Rattle.card.specs.declared.Answer.{Answer}
 use Rattle.card.specs.declared.Answer.the-variants.{Refused, Done, Value}
 use Rattle.card.specs.declared.Refusal.the-variants.{Misshapen, Unsound, NotAllocated, BadOperand, NotOpened, IsRoot, CannotPoint, NoPointer, HasPointers, TooFewBlocks, TooFewPlaces, TimeEnds, BadRecord, NoRun, HasWriteKey, PriceTooHigh}
 use Rattle.card.specs.declared.Call.{Call}
-use Rattle.card.specs.declared.Call.the-variants.{Read, Write, Alloc, AllocContig, Create, Delete, DeleteTree, KeyRead, KeyWrite, Renew, Force, Free, Tick, Audit, Rent}
+use Rattle.card.specs.declared.Call.the-variants.{Read, Write, Alloc, AllocContig, Create, Delete, DeleteTree, KeyRead, KeyWrite, Renew, Force, Free, Tick, Audit, Rent, Sweep}
 use Rattle.card.specs.declared.AllocOperands.{AllocOperands}
 use Rattle.card.specs.declared.DeleteOperands.{DeleteOperands}
 use Rattle.card.specs.declared.RentOperands.{RentOperands}
+use Rattle.card.specs.declared.SweepOperands.{SweepOperands}
 use Rattle.card.specs.declared.KeyOperands.{KeyOperands}
 use Rattle.card.proofs.Guarantees.Judged.{RefusedBy}
 use Rattle.card.proofs.Guarantees.Unchanged.{Unchanged, refusal-unchanged}
@@ -53,7 +54,9 @@ use Rattle.card.proofs.Guarantees.KeepsSound.{done-sound, counts-right,
 use Rattle.card.proofs.Guarantees.Ledger.{made-and-taken, ledger, counts-ledger}
 use Rattle.card.proofs.Guarantees.Rent.{rent-summed, renting, rent-unchanged, rent-nearest}
 use Rattle.card.proofs.Guarantees.Format.{format-sound}
-use Rattle.card.proofs.Guarantees.Untouched.{LeftAlone, AllottedZeroed, untouched}
+use Rattle.card.proofs.Guarantees.Untouched.{LeftAlone, Allotted, Swept, untouched}
+use Rattle.card.proofs.Guarantees.Freed.{freed-waits}
+use Rattle.card.proofs.Guarantees.Swept.{sweeping, LowestWaiting, SweptGone, swept-gone}
 use Rattle.card.proofs.Guarantees.RefusedIff.{RefusedIff, refused-iff}
 use Rattle.card.proofs.Guarantees.Runs.{Run, contig, some-blocks, run-found, run-adjoins, run-nearest}
 use Rattle.card.proofs.Guarantees.PointerSteps.{block-narrow}
@@ -61,7 +64,7 @@ use Rattle.card.proofs.Guarantees.Severing.{Spared}
 use Rattle.card.proofs.Guarantees.Trees.{deletingTree, Freed, removed, HoldsDestination, HoldsFollowers, LeastFreed, RestSpared, PointedWithin, true-removed, removed-true, DoneTree, done-tree, removed-points, tree-least, tree-spares, tree-cycle, tree-keyed}
 use Rattle.card.proofs.Guarantees.Keys.{setting, WriteAccess, byWriteKey, byReference, one-key-unsealed, other-key-kept, own-key-set, both-windows-closed, write-access-needed}
 use Rattle.card.proofs.Guarantees.Windows.{SetsWindow, SetBy, Shortens, byForce, byKeyRead, byKeyWrite, byFreeing, window-set-by, window-later, interval-zero-kept, windows-kept}
-use Rattle.card.proofs.Secrecy.Theorem.{EqualBut, HiddenOrFree, Secret, same-hidden, secrecy}
+use Rattle.card.proofs.Secrecy.Theorem.{EqualBut, HiddenOrUnallocated, Secret, same-hidden, secrecy}
 use Rattle.card.proofs.Secrecy.Trees.{Survives, tree-hides}
 use Rattle.card.proofs.Secrecy.Rent.{asked, rent-alike}
 use Rattle.card.proofs.Secrecy.Bounds.{bounds, reach-inside}
@@ -76,6 +79,10 @@ implies a b = not a || b
 pub true-implies : (a b : Bool) → (a ≡ true → b ≡ true) → implies a b ≡ true
 true-implies true b f = f refl
 true-implies false b f = refl
+
+-- A card with other contents.
+abbrev pub withContents : Card → List ℕ → Card
+withContents c contents = record { public = c .public; keys = c .keys; contents = contents }
 
 abbrev pub isSound : Card → Bool
 isSound c = shape c && sound c
@@ -229,20 +236,142 @@ rent-nearest-tested c o other = go (asked Host c o (lending [])) refl
 abbrev pub untouchedTest : Card → Sent → ℕ → Bool
 untouchedTest c s b =
     let d = performed c s .after in
+    let zeroed = sameList (block d b) (zeros (c .public .info .bytes)) in
     implies (not (allocated (c .public) b))
-    ((not (allocated (d .public) b) && sameList (block d b) (block c b))
-    || (allocated (d .public) b && sameList (block d b) (zeros (c .public .info .bytes))))
+    ((not (allocated (d .public) b) && (eqb (flag (d .public) b) (flag (c .public) b) && sameList (block d b) (block c b)))
+    || ((free (c .public) b && (allocated (d .public) b && zeroed)) || (isSweep (s .request .call) && (waiting (c .public) b && (free (d .public) b && zeroed)))))
 
 pub untouched-tested : (c : Card) (s : Sent) (b : ℕ) → untouchedTest c s b ≡ true
 untouched-tested c s b =
     true-implies (not (allocated (c .public) b)) _
     (λ h.
+    let d : Card = performed c s .after in
     ⊎-elim
-    (λ (l : LeftAlone c (performed c s .after) b). or-left _ _ (and-true _ _ (ap not (l .notAllocated)) (true-sameList (l .same))))
-    (λ (z : AllottedZeroed (c .public .info .bytes) (performed c s .after) b).
-    or-right (not (allocated (performed c s .after .public) b) && sameList (block (performed c s .after) b) (block c b)) _
-    (and-true _ _ (z .isAllocated) (true-sameList (z .holdsZeros))))
+    (λ (l : LeftAlone c d b). or-left _ _ (and-true _ _ (ap not (l .notAllocated)) (and-true _ _ (eq-eqb _ _ (l .sameFlags)) (true-sameList (l .same)))))
+    (λ (touched : Allotted c d b ⊎ Swept (s .request .call) c d b).
+    or-right (not (allocated (d .public) b) && (eqb (flag (d .public) b) (flag (c .public) b) && sameList (block d b) (block c b))) _
+    (⊎-elim
+    (λ (z : Allotted c d b). or-left _ _ (and-true _ _ (z .wasFree) (and-true _ _ (z .isAllocated) (true-sameList (z .holdsZeros)))))
+    (λ (z : Swept (s .request .call) c d b).
+    or-right (free (c .public) b && (allocated (d .public) b && sameList (block d b) (zeros (c .public .info .bytes)))) _
+    (and-true _ _ (z .bySweep) (and-true _ _ (z .wasWaiting) (and-true _ _ (z .isFree) (true-sameList (z .holdsZeros))))))
+    touched))
     (untouched (s .port) c (s .request) b (not-true _ h)))
+
+-- ---- freed-waits
+
+abbrev pub freedWaitsTest : Card → Sent → ℕ → Bool
+freedWaitsTest c s b =
+    let d = performed c s .after in
+    implies (allocated (c .public) b && not (allocated (d .public) b)) (waiting (d .public) b && sameList (block d b) (block c b))
+
+pub freed-waits-tested : (c : Card) (s : Sent) (b : ℕ) → freedWaitsTest c s b ≡ true
+freed-waits-tested c s b =
+    true-implies (allocated (c .public) b && not (allocated (performed c s .after .public) b)) _
+    (λ h.
+    let w = freed-waits (s .port) c (s .request) b (and-left _ _ h) (not-true _ (and-right (allocated (c .public) b) _ h)) in
+    and-true _ _ (w .waits) (true-sameList (w .same)))
+
+-- ---- swept-gone
+
+module _ (c : Card) (contents : List ℕ) (o : SweepOperands) where
+  abbrev sweptBy : Card → Result
+  sweptBy d = perform Host d (sweeping o (lending []))
+
+  -- The number that the answer gives: how many were swept.
+  abbrev number : ℕ
+  number = getD (answerValues (sweptBy c .answer)) 0 0
+
+  -- The block is among the lowest that wait, so many of them.
+  abbrev low : ℕ → ℕ → Bool
+  low k b = waiting (c .public) b && ltb (length (numbersBelow (waiting (c .public)) b)) k
+
+  abbrev goneOrKept : ℕ → ℕ → Bool
+  goneOrKept k b =
+      let d = sweptBy c .after in
+      cond (low k b) (free (d .public) b && sameList (block d b) (zeros (c .public .info .bytes)))
+      (eqb (flag (d .public) b) (flag (c .public) b) && sameList (block d b) (block c b))
+
+  abbrev otherTables : Card → List (List ℕ)
+  otherTables d = d .public .counts ∷ d .public .pointers ∷ d .public .multiplicities ∷ d .public .windows ∷ d .keys ∷ []
+
+  -- The other card differs at most in those blocks.
+  abbrev differsThere : ℕ → Bool
+  differsThere k =
+      isSound (withContents c contents)
+      && allBelow (λ b. low k b || sameList (block (withContents c contents) b) (block c b)) (c .public .info .blocks)
+
+  abbrev sweptTests : ℕ → List Bool
+  sweptTests k =
+      leb k (o .most)
+      ∷ leb k (length (waitingBlocks (c .public)))
+      ∷ implies (ltb k (o .most)) (eqb k (length (waitingBlocks (c .public))))
+      ∷ allBelow (goneOrKept k) (c .public .info .blocks)
+      ∷ sameLists (otherTables (sweptBy c .after)) (otherTables c)
+      ∷ implies (differsThere k) (sameList (sweptBy (withContents c contents) .after .contents) (sweptBy c .after .contents))
+      ∷ []
+
+  abbrev pub sweptGoneTest : Bool
+  sweptGoneTest = implies (isDone (sweptBy c .answer)) (every (sweptTests number))
+
+  low-lowest : (k b : ℕ) → low k b ≡ true → LowestWaiting (c .public) k b
+  low-lowest k b h = record {
+    below = waiting-below (c .public) b (and-left _ _ h);
+    holds = and-left _ _ h;
+    few = ltb-true _ _ (and-right (waiting (c .public) b) _ h);
+  }
+
+  lowest-low : (k b : ℕ) → LowestWaiting (c .public) k b → low k b ≡ true
+  lowest-low k b l = and-true _ _ (l .holds) (lt-ltb _ _ (l .few))
+
+  module _ (g : SweptGone Host c o (lending []) (sweptBy c)) where
+    gone-or-kept : (b : ℕ) (t : Bool) → low (g .number) b ≡ t
+        → cond t (free (sweptBy c .after .public) b && sameList (block (sweptBy c .after) b) (zeros (c .public .info .bytes)))
+        (eqb (flag (sweptBy c .after .public) b) (flag (c .public) b) && sameList (block (sweptBy c .after) b) (block c b)) ≡ true
+    gone-or-kept b true e = let z = g .gone b (low-lowest (g .number) b e) in and-true _ _ (z .isFree) (true-sameList (z .holdsZeros))
+    gone-or-kept b false e =
+        let z = g .kept b (λ l. absurd-test (lowest-low (g .number) b l) e) in
+        and-true _ _ (eq-eqb _ _ (z .flagged)) (true-sameList (z .held))
+
+    same-tables : otherTables (sweptBy c .after) ≡ otherTables c
+    same-tables = rw (g .rest .counts, g .rest .pointers, g .rest .multiplicities, g .rest .windows, g .rest .keys) refl
+
+    forgotten-too : differsThere (g .number) ≡ true → sameList (sweptBy (withContents c contents) .after .contents) (sweptBy c .after .contents) ≡ true
+    forgotten-too h =
+        true-sameList
+        (ap (λ (d : Card). d .contents)
+        (g .forgotten (withContents c contents) (isSound-true (and-left _ _ h)) refl refl
+        (λ b l n.
+        sameList-true _ _
+        (or-else (low (g .number) b) _
+        (allBelow-true (λ b. low (g .number) b || sameList (block (withContents c contents) b) (block c b)) _ (and-right (isSound (withContents c contents)) _ h) b l)
+        (false-unless _ (λ e. n (low-lowest (g .number) b e)))))))
+
+    all-swept : every (sweptTests (g .number)) ≡ true
+    all-swept =
+        true-every (sweptTests (g .number)) (
+          le-leb _ _ (g .most),
+          (
+            le-leb _ _ (g .few),
+            (
+              true-implies (ltb (g .number) (o .most)) _ (λ h. eq-eqb _ _ (g .allIfFewer (ltb-true _ _ h))),
+              (
+                true-allBelow (goneOrKept (g .number)) _ (λ b l. gone-or-kept b (low (g .number) b) refl),
+                (true-sameLists same-tables, (true-implies (differsThere (g .number)) _ forgotten-too, tt)),
+              ),
+            ),
+          ),
+        )
+
+    the-number : number ≡ g .number
+    the-number = ap (λ (a : Answer). getD (answerValues a) 0 0) (g .answers)
+
+pub swept-gone-tested : (c : Card) (contents : List ℕ) (o : SweepOperands) → sweptGoneTest c contents o ≡ true
+swept-gone-tested c contents o =
+    true-implies (isDone (sweptBy c contents o c .answer)) _
+    (λ h.
+    let g = swept-gone Host c o (lending []) h in
+    subst (λ (k : ℕ). every (sweptTests c contents o k) ≡ true) (sym (the-number c contents o g)) (all-swept c contents o g))
 
 -- ---- refused-iff
 
@@ -308,16 +437,16 @@ unfolding noneHold
 true-noneHold [] h = refl
 true-noneHold ((test ⇒ r) ∷ checks) h = and-true _ _ (ap not (h .0)) (true-noneHold checks (h .1))
 
--- So many blocks from `first` on are below N and unallocated. It is worked out apart from the rules' own runs.
+-- So many blocks from `first` on are below N and have no flag. It is worked out apart from the rules' own runs.
 abbrev adjoining : Card → ℕ → ℕ → Bool
-adjoining c count first = allBelow (λ i. ltb (first + i) (c .public .info .blocks) && not (allocated (c .public) (first + i))) count
+adjoining c count first = allBelow (λ i. ltb (first + i) (c .public .info .blocks) && eqb (flag (c .public) (first + i)) 0) count
 
 adjoining-run : (c : Card) (count first : ℕ) → adjoining c count first ≡ true → Run (c .public) count first
-unfolding isRun
+unfolding isRun free
 adjoining-run c count first h = run-blocks (c .public) count h
 
 run-adjoining : (c : Card) (count first : ℕ) → Run (c .public) count first → adjoining c count first ≡ true
-unfolding isRun
+unfolding isRun free
 run-adjoining c count first h = blocks-run (c .public) count h
 
 refusal-14 : (r : Refusal) → refusalNumber r ≡ 14 → r ≡ NoRun
@@ -394,7 +523,7 @@ module _ (port : Port) (c : Card) (o : AllocOperands) (lent : Buffers) where
               (allBelow-true (λ first. not (adjoining c (o .count) first)) (c .public .info .blocks)
               (and-right (leb (o .count) (length (freeBlocks (c .public)))) _ rest)
               first
-              (run first (omega arith) (omega (arith, some-blocks port c o lent early)) .0))),
+              (free-below (c .public) first (run first (omega arith) (omega (arith, some-blocks port c o lent early)))))),
         ),
       )
 
@@ -890,6 +1019,7 @@ closesBlock Free b = false
 closesBlock (Tick o) b = false
 closesBlock Audit b = false
 closesBlock (Rent o) b = false
+closesBlock (Sweep o) b = false
 
 abbrev pub endsSooner : Card → Card → Mode → ℕ → Bool
 endsSooner c d m b = ltb (windowEnd (d .public) m b) (windowEnd (c .public) m b)
@@ -913,9 +1043,6 @@ windows-kept-tested c s m b =
     ⊎-elim (λ kept. absurd (omega (arith, kept, below))) shortens-closes (windows-kept (s .port) c (s .request) m b))
 
 -- ---- same-hidden
-
-abbrev pub withContents : Card → List ℕ → Card
-withContents c contents = record { public = c .public; keys = c .keys; contents = contents }
 
 -- Within reach by itself: by a presented key, or as an unsealed root.
 abbrev byItself : (ℕ → ℕ → Bool) → Card → Mode → ℕ → Bool
@@ -968,13 +1095,13 @@ module _ (K : ℕ → ℕ → Bool) (c : Card) (contents : List ℕ) (named : �
     pub hidden-else : (b : ℕ) → allocated (c .public) b ≡ true → named b ≡ false → Hidden K c b
     hidden-else b a f = record { isAllocated = a; outOfReach = λ g. absurd-test (reach-inside K c named (every-true tests h .1 .1 .0) g) f }
 
-    named-else : (b : ℕ) → (HiddenOrFree K c b → ⊥) → named b ≡ true
+    named-else : (b : ℕ) → (HiddenOrUnallocated K c b → ⊥) → named b ≡ true
     named-else b n =
         ⊎-elim (λ e. e)
         (λ (f : named b ≡ false). absurd (n (⊎-elim (λ a. inl (hidden-else b a f)) (λ free. inr free) (not-cases (allocated (c .public) b)))))
         (not-cases (named b))
 
-    pub equal-else : EqualBut (HiddenOrFree K c) c other
+    pub equal-else : EqualBut (HiddenOrUnallocated K c) c other
     equal-else = record {
       samePublic = refl;
       sameKeys = refl;
@@ -990,10 +1117,18 @@ module _ (c : Card) (contents : List ℕ) (named : ℕ → Bool) (session : List
   abbrev keeps : ℕ → Bool
   keeps b = implies (allocated (c .public) b && not (named b)) (lastTaken c calls b || sameList (block (afterAll c calls) b) (block c b))
 
+  -- Equal on both at the end: a block that was allotted, and one that was swept.
+  abbrev ends : ℕ → Bool
+  ends b =
+      let d = afterAll c calls in
+      implies ((not (allocated (c .public) b) && allocated (d .public) b) || (not (free (c .public) b) && free (d .public) b))
+      (sameList (block d b) (block (afterAll (withContents c contents) calls) b))
+
   abbrev pub secrecyTest : Bool
   secrecyTest =
       implies (comparable (presented session) c contents named)
-      (sameLists (replyNumbers (replies c calls)) (replyNumbers (replies (withContents c contents) calls)) && allBelow keeps (c .public .info .blocks))
+      (sameLists (replyNumbers (replies c calls)) (replyNumbers (replies (withContents c contents) calls))
+      && (allBelow keeps (c .public .info .blocks) && allBelow ends (afterAll c calls .public .info .blocks)))
 
   module _ (h : comparable (presented session) c contents named ≡ true) where
     secret : Secret (presented session) calls c (withContents c contents)
@@ -1011,12 +1146,28 @@ module _ (c : Card) (contents : List ℕ) (named : ℕ → Bool) (session : List
         kept-or-taken true e k = refl
         kept-or-taken false e k = true-sameList (secret .kept b k e)
 
+    ended : (b : ℕ) → b < afterAll c calls .public .info .blocks → ends b ≡ true
+    ended b l =
+        true-implies ((not (allocated (c .public) b) && allocated (afterAll c calls .public) b) || (not (free (c .public) b) && free (afterAll c calls .public) b)) _
+        (λ e.
+        true-sameList
+        (secret .cards .sameContents b l
+        (λ differs.
+        ⊎-elim
+        (λ taken.
+        let was : allocated (c .public) b ≡ false = not-true _ (and-left _ _ taken) in
+        let is : allocated (afterAll c calls .public) b ≡ true = and-right (not (allocated (c .public) b)) _ taken in
+        ⊎-elim (λ (hidden : Hidden (presented session) c b). absurd-test (hidden .isAllocated) was) (λ u. absurd-test is (u .1)) (differs .0))
+        (λ swept. absurd-test (differs .1 (and-right (not (free (c .public) b)) _ swept)) (not-true _ (and-left _ _ swept)))
+        (or-cases (not (allocated (c .public) b) && allocated (afterAll c calls .public) b) _ e))))
+
 pub secrecy-tested : (c : Card) (contents : List ℕ) (named : ℕ → Bool) (session : List Request) → secrecyTest c contents named session ≡ true
 secrecy-tested c contents named session =
     true-implies (comparable (presented session) c contents named) _
     (λ h.
     and-true _ _ (true-sameLists (ap replyNumbers (secret c contents named session h .answers)))
-    (true-allBelow (keeps c contents named session) _ (λ b l. kept-all c contents named session h b)))
+    (and-true _ _ (true-allBelow (keeps c contents named session) _ (λ b l. kept-all c contents named session h b))
+    (true-allBelow (ends c contents named session) _ (λ b l. ended c contents named session h b l))))
 
 -- ---- rent-alike
 
@@ -1064,3 +1215,9 @@ rentTrialsTest n = sameLists (allLines (map rentReports (take 1 (drop n rentTabl
 
 pub rent-trials-tested : (n : ℕ) → rentTrialsTest n ≡ true
 rent-trials-tested n = true-sameLists (ap allLines (row-at rentReports rentExpected n rentTable rent-trials))
+
+abbrev pub waitingTrialsTest : ℕ → Bool
+waitingTrialsTest n = sameLists (allLines (map waitingReports (take 1 (drop n waitingTable)))) (allLines (map waitingExpected (take 1 (drop n waitingTable))))
+
+pub waiting-trials-tested : (n : ℕ) → waitingTrialsTest n ≡ true
+waiting-trials-tested n = true-sameLists (ap allLines (row-at waitingReports waitingExpected n waitingTable waiting-trials))

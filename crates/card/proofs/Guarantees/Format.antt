@@ -2,7 +2,7 @@
 use Prim.Native.Nat.{ℕ, zero, suc, _+_, _-_, _*_, _≤_, _<_}
 use mathlib.Core.Path.{_≡_, refl, sym, ap, _∙_, subst}
 use mathlib.Core.Logic.{⊎-elim}
-use mathlib.Core.Bool.{Bool, true, _&&_}
+use mathlib.Core.Bool.{Bool, true, _&&_, _||_}
 use mathlib.Core.List.{List, _++_}
 use native.Mathlib.Nat.{mul-le-mul-right}
 use native.Mathlib.Omega.{arith}
@@ -14,7 +14,7 @@ use Rattle.card.specs.ListsLaws.{and-left, and-right, absurd-test, below
 use Rattle.card.specs.Pointers.{ascending, total}
 use Rattle.card.specs.Contents.{overwrite, part, zeros}
 use Rattle.card.specs.ContentsLaws.{block-fits, overwrite-length, overwrite-within, overwrite-behind, part-length, part-same}
-use Rattle.card.specs.Card.{Card, allocatedFlag, block}
+use Rattle.card.specs.Card.{Card, allocatedFlag, waitingFlag, freeFlag, block}
 use Rattle.card.specs.Soundness.{ranges, lengths}
 use Rattle.card.specs.SoundCard.{InRanges, HasLengths, Shaped, KeyZero, Consistent, SoundCard}
 use Rattle.card.specs.SoundnessLaws.{ranges-true, lengths-true}
@@ -111,13 +111,13 @@ module _ (blocks roots bytes : ℕ) (c : Card) (inRanges : InRanges blocks roots
   fresh-sound : Consistent (freshCard blocks roots bytes c)
   unfolding ascending all total
   fresh-sound = record {
-    flagsLow = λ b l. freshFlags-either blocks roots (λ (f : ℕ). f < 8) b (λ r. omega arith) (λ r. omega arith);
+    flagsLow = λ b l. freshFlags-either blocks roots (λ (f : ℕ). f ≤ 8) b (λ r. omega arith) (λ r. omega arith);
     rootsAllocated = λ b l r. ap allocatedFlag (freshFlags-root blocks roots b r);
     unallocated = λ b l e. record {
-      flagZero =
+      freeOrWaiting =
           ⊎-elim
           (λ (r : b < roots). absurd-test (ap allocatedFlag (freshFlags-root blocks roots b r)) e)
-          (λ (r : roots ≤ b). freshFlags-other blocks roots b r)
+          (λ (r : roots ≤ b). ap (λ (f : ℕ). freeFlag f || waitingFlag f) (freshFlags-other blocks roots b r))
           (below-or-not b roots);
       keysZero = λ m. noKeys m b;
       countZero = zeros-at blocks b;

@@ -1,23 +1,23 @@
 -- A call on a sound card leaves a sound card: one lemma for each paragraph of document 01, "Calls", then the theorem.
 use Prim.Native.Nat.{ℕ, _+_, _≤_, _<_}
-use mathlib.Core.Path.{_≡_, refl, ap, _∙_}
+use mathlib.Core.Path.{_≡_, refl, _∙_}
 use mathlib.Core.Bool.{Bool, true, false, _&&_, _||_, not, cond}
 use mathlib.Core.List.{List, [], _∷_}
 use native.Mathlib.Nat.{max-le}
 use native.Mathlib.Omega.{arith}
 use lib.Dec.{eqb, ltb}
 use lib.ListN.{length, drop, set}
-use borrow.Author.Tests.{eqb-true, eqb-false, ltb-true, ltb-false, leb-false, not-true, not-false}
+use borrow.Author.Tests.{eqb-true, eqb-false, ltb-false, leb-false, not-true, not-false}
 use Rattle.card.specs.Lists.{all}
 use Rattle.card.specs.ListsLaws.{or-false-left, or-false-right, all-head, all-tail, all-both}
 use Rattle.card.specs.Pointers.{pointer, source, destination, ascending, pointersTo}
-use Rattle.card.specs.Card.{Public, Card, flag, allocatedFlag, allocated, isRoot, freeBlocks, longestInterval, count, inUse, timesInUse, multiplicity, pointsTo, hasPointers}
+use Rattle.card.specs.Card.{Public, Card, flag, allocatedFlag, allocated, free, isRoot, freeBlocks, longestInterval, count, inUse, timesInUse, multiplicity, pointsTo, hasPointers}
 use Rattle.card.specs.Soundness.{timeLimit}
 use Rattle.card.specs.SoundCard.{SoundCard}
-use Rattle.card.specs.SoundnessLaws.{multiplicityRight-low, allocated-below}
+use Rattle.card.specs.SoundnessLaws.{multiplicityRight-low, allocated-below, free-below, free-unallocated}
 use Rattle.card.specs.RentLaws.{rent-in-time}
 use Rattle.card.specs.Plan.{NoneHolds, setWindow, freeBlock, addPointer, raisePointer, lowerPointer, dropPointer, withFlags, changePublic, change, changes, Buffers, Result, settle}
-use Rattle.card.specs.Calls.{missing, windowAfter, opensWindow, wanted, picks, takeAll, closeWindows, modeOf, readPlan, writePlan, allocPlan, runStarts, nearestRun, allocContigPlan, createPlan, deletePlan, deleteTreePlan, keyPlan, renewPlan, forcePlan, freePlan, tickPlan, auditPlan, rentPlan}
+use Rattle.card.specs.Calls.{missing, windowAfter, opensWindow, wanted, picks, takeAll, closeWindows, modeOf, readPlan, writePlan, allocPlan, runStarts, nearestRun, allocContigPlan, createPlan, deletePlan, deleteTreePlan, keyPlan, renewPlan, forcePlan, freePlan, tickPlan, auditPlan, rentPlan, lowestWaiting, sweepPlan}
 use Rattle.card.specs.Session.{Request, plan, perform}
 use Rattle.card.specs.declared.Port.{Port}
 use Rattle.card.specs.declared.Port.the-variants.{Host, Service}
@@ -35,14 +35,16 @@ use Rattle.card.specs.declared.TickOperands.{TickOperands}
 use Rattle.card.specs.declared.Refusal.{Refusal}
 use Rattle.card.specs.declared.Answer.the-variants.{Refused}
 use Rattle.card.specs.declared.Call.{Call}
-use Rattle.card.specs.declared.Call.the-variants.{Read, Write, Alloc, AllocContig, Create, Delete, DeleteTree, KeyRead, KeyWrite, Renew, Force, Free, Tick, Audit, Rent}
-use Rattle.card.proofs.Guarantees.Steps.{allocated-set, allocated-other, unallocated-flag, setWindow-sound, setBlock-sound, setKey-sound, setTime-sound}
+use Rattle.card.specs.declared.Call.the-variants.{Read, Write, Alloc, AllocContig, Create, Delete, DeleteTree, KeyRead, KeyWrite, Renew, Force, Free, Tick, Audit, Rent, Sweep}
+use Rattle.card.proofs.Guarantees.Steps.{allocated-set, free-other, unallocated-flag, setWindow-sound, setBlock-sound, setKey-sound, setTime-sound}
 use Rattle.card.specs.ChangesLaws.{keyed-allocated, inserted-length}
 use Rattle.card.proofs.Guarantees.PointerSteps.{sound-but, addPointer-sound, takeAdd-sound, raise-sound, lower-sound, times-right, times-counted, dropOne-sound, dropLast-sound}
 use Rattle.card.proofs.Guarantees.Severing.{deleted-sound}
 use Rattle.card.specs.Takeable.{Without, Takeable}
 use Rattle.card.specs.PicksLaws.{distinct-head, distinct-tail, picks-takeable, picks-length}
 use Rattle.card.specs.RunsLaws.{run-takeable, run-length}
+use Rattle.card.specs.SweepLaws.{lowest-sweepable}
+use Rattle.card.proofs.Guarantees.Sweeping.{sweepEach-sound}
 use Rattle.card.proofs.Guarantees.Judged.{judge-cases, judge-after}
 
 -- A block that passes the check "allocated" is allocated.
@@ -190,10 +192,10 @@ tree-sound port c opened o s h = deleted-sound c (o .source) (o .destination) s 
 -- The first of the blocks that can be taken.
 module _ {p : Public} {b : ℕ} {bs : List ℕ} (t : Takeable p (b ∷ bs)) where
   pub takeable-below : b < p .info .blocks
-  takeable-below = ltb-true _ _ (all-head (λ x. ltb x (p .info .blocks)) b bs (t .below))
+  takeable-below = free-below p b (all-head (λ x. free p x) b bs (t .free))
 
   pub takeable-free : allocatedFlag (flag p b) ≡ false
-  takeable-free = unallocated-flag p b takeable-below (not-true _ (all-head (λ x. not (allocated p x)) b bs (t .free)))
+  takeable-free = unallocated-flag p b takeable-below (free-unallocated p b (all-head (λ x. free p x) b bs (t .free)))
 
 -- It is taken and pointed to, and then the others can still be.
 module _ {c : Card} (reference : ℕ) {b : ℕ} {bs : List ℕ} (s : SoundCard c) (a : allocated (c .public) reference ≡ true) (t : Takeable (c .public) (b ∷ bs))
@@ -213,17 +215,16 @@ module _ {c : Card} (reference : ℕ) {b : ℕ} {bs : List ℕ} (s : SoundCard c
   taken-allocated = allocated-set (c .public) b 1 reference refl a
 
   pub taken-rest : Takeable (taken .public) bs
-  unfolding takeAll changes change changePublic allocated
+  unfolding takeAll changes change changePublic free
   taken-rest =
       let p = c .public in
       let without : Without b bs = distinct-head (t .distinct) in
       record {
-        below = all-tail (λ x. ltb x (p .info .blocks)) b bs (t .below);
         free =
-            all-both (λ x. not (allocated p x)) (λ x. not (eqb x b)) (λ x. not (allocated (withFlags p (set (p .flags) b 1)) x))
-            (λ x e f. ap not (allocated-other p b 1 x (eqb-false _ _ (not-true _ f))) ∙ e)
+            all-both (λ x. free p x) (λ x. not (eqb x b)) (λ x. free (withFlags p (set (p .flags) b 1)) x)
+            (λ x e f. free-other p b 1 x (eqb-false _ _ (not-true _ f)) ∙ e)
             bs
-            (all-tail (λ x. not (allocated p x)) b bs (t .free))
+            (all-tail (λ x. free p x) b bs (t .free))
             without;
         distinct = distinct-tail (t .distinct);
       }
@@ -266,7 +267,7 @@ contig-sound port c opened o places s h =
 
 call-sound : (port : Port) (c : Card) (call : Call) (lent : Buffers) → SoundCard c → NoneHolds (plan port c call lent .checks)
     → SoundCard (changes c (plan port c call lent .steps))
-unfolding plan freePlan auditPlan rentPlan changes
+unfolding plan freePlan auditPlan rentPlan sweepPlan changes
 call-sound port c (Read o) lent = read-sound port c _ o _
 call-sound port c (Write o) lent = write-sound port c _ o _
 call-sound port c (Alloc o) lent = alloc-sound port c _ o _
@@ -282,6 +283,7 @@ call-sound port c Free lent = λ s h. s
 call-sound port c (Tick o) lent = tick-sound c o
 call-sound port c Audit lent = λ s h. s
 call-sound port c (Rent o) lent = λ s h. s
+call-sound port c (Sweep o) lent = λ s h. sweepEach-sound (lowestWaiting (c .public) (o .most)) s (lowest-sweepable (c .public) (o .most))
 
 -- Document 01, "A done call .. leaves a sound card"; a refused one leaves the card itself.
 pub done-sound : (port : Port) (c : Card) (q : Request) → SoundCard c → SoundCard (perform port c q .after)

@@ -20,9 +20,9 @@ use Rattle.card.specs.Card.{Public, Card, allocated, freeBlocks, count, 
 use Rattle.card.specs.SoundCard.{SoundCard}
 use Rattle.card.specs.SoundnessLaws.{allocated-below, pointerRight-true, multiplicityRight-low}
 use Rattle.card.specs.Soundness.{pointerRight}
-use Rattle.card.specs.Plan.{NoneHolds, Change, setWindow, setBlock, setKey, takeBlock, freeBlock, addPointer, raisePointer, lowerPointer, dropPointer, dropFrom, setTime, changePublic, change, changes, Buffers, Result, refused, placesAfter, settle}
+use Rattle.card.specs.Plan.{NoneHolds, Change, setWindow, setBlock, setKey, takeBlock, freeBlock, sweepBlock, addPointer, raisePointer, lowerPointer, dropPointer, dropFrom, setTime, changePublic, change, changes, Buffers, Result, refused, placesAfter, settle}
 use Rattle.card.specs.ChangesLaws.{used-in-step, inserted-take, insertedTimes-take, setTimes-take, removed-take, removedTimes-take}
-use Rattle.card.specs.Calls.{freshCard, windowAfter, opensWindow, wanted, picks, takeAll, readPlan, writePlan, allocPlan, runStarts, nearestRun, allocContigPlan, createPlan, deletePlan, freedWith, deleteTreePlan, keyPlan, renewPlan, forcePlan, freePlan, tickPlan, auditPlan, rentPlan}
+use Rattle.card.specs.Calls.{freshCard, windowAfter, opensWindow, wanted, picks, takeAll, readPlan, writePlan, allocPlan, runStarts, nearestRun, allocContigPlan, createPlan, deletePlan, freedWith, deleteTreePlan, keyPlan, renewPlan, forcePlan, freePlan, tickPlan, auditPlan, rentPlan, sweepEach, sweepPlan}
 use Rattle.card.specs.Takeable.{Without, Takeable}
 use Rattle.card.specs.PicksLaws.{distinct-head, picks-takeable, picks-length}
 use Rattle.card.specs.RunsLaws.{run-takeable, run-length}
@@ -39,7 +39,7 @@ use Rattle.card.specs.declared.AllocOperands.{AllocOperands}
 use Rattle.card.specs.declared.CreateOperands.{CreateOperands}
 use Rattle.card.specs.declared.DeleteOperands.{DeleteOperands}
 use Rattle.card.specs.declared.Call.{Call}
-use Rattle.card.specs.declared.Call.the-variants.{Read, Write, Alloc, AllocContig, Create, Delete, DeleteTree, KeyRead, KeyWrite, Renew, Force, Free, Tick, Audit, Rent}
+use Rattle.card.specs.declared.Call.the-variants.{Read, Write, Alloc, AllocContig, Create, Delete, DeleteTree, KeyRead, KeyWrite, Renew, Force, Free, Tick, Audit, Rent, Sweep}
 use Rattle.card.proofs.Guarantees.PointerSteps.{block-narrow, no-pointer, times-right}
 use Rattle.card.proofs.Guarantees.Severing.{treeDeleted, deleted-multiplicity}
 use Rattle.card.proofs.Guarantees.KeepsSound.{not-missing, takeable-below, takeable-free, taken-sound, taken-allocated, taken-rest, taken-room, done-sound}
@@ -86,6 +86,7 @@ Plain (setBlock b ys) = Unit {0}
 Plain (setKey m b key) = Unit {0}
 Plain (takeBlock b) = Unit {0}
 Plain (freeBlock b) = Unit {0}
+Plain (sweepBlock b) = Unit {0}
 Plain (addPointer a b) = ⊥
 Plain (raisePointer a b) = ⊥
 Plain (lowerPointer a b) = ⊥
@@ -100,6 +101,7 @@ plain-kept p (setBlock b ys) h x y = refl
 plain-kept p (setKey m b key) h x y = refl
 plain-kept p (takeBlock b) h x y = refl
 plain-kept p (freeBlock b) h x y = refl
+plain-kept p (sweepBlock b) h x y = refl
 plain-kept p (addPointer a b) h x y = absurd h
 plain-kept p (raisePointer a b) h x y = absurd h
 plain-kept p (lowerPointer a b) h x y = absurd h
@@ -124,6 +126,11 @@ opensWindow-plain Host p mode b interval = go (eqb interval 0)
     go true = tt
     go false = (tt, tt)
 opensWindow-plain Service p mode b interval = tt
+
+sweeps-plain : (bs : List ℕ) → PlainAll (sweepEach bs)
+unfolding sweepEach
+sweeps-plain [] = tt
+sweeps-plain (b ∷ bs) = (tt, sweeps-plain bs)
 
 -- What a table of pointers and one of multiplicities must be for the four changes of pointers.
 record Linked (p : Public) : Type 0 where
@@ -389,6 +396,7 @@ refused-booked c Free lent r a b = refl
 refused-booked c (Tick o) lent r a b = refl
 refused-booked c Audit lent r a b = refl
 refused-booked c (Rent o) lent r a b = refl
+refused-booked c (Sweep o) lent r a b = refl
 
 module _ (port : Port) (c : Card) (lent : Buffers) (s : SoundCard c) (a b : ℕ) (narrow : b < 65536) where
   -- Where no pointer is touched.
@@ -396,7 +404,7 @@ module _ (port : Port) (c : Card) (lent : Buffers) (s : SoundCard c) (a b : ℕ)
   plain-booked steps h = ap (λ (n : ℕ). n + 0) (plain-all c steps h a b)
 
   call-booked : (call : Call) → NoneHolds (plan port c call lent .checks) → Booked c call (settle c lent (plan port c call lent) none) a b
-  unfolding plan settle made taken readPlan writePlan allocPlan allocContigPlan createPlan deletePlan deleteTreePlan keyPlan renewPlan forcePlan freePlan tickPlan auditPlan rentPlan changes
+  unfolding plan settle made taken readPlan writePlan allocPlan allocContigPlan createPlan deletePlan deleteTreePlan keyPlan renewPlan forcePlan freePlan tickPlan auditPlan rentPlan sweepPlan changes
   call-booked (Read o) h = plain-booked (plan port c (Read o) lent .steps) (opensWindow-plain port (c .public) _ (o .block) (o .interval))
   call-booked (Write o) h = plain-booked (plan port c (Write o) lent .steps) (tt, opensWindow-plain port (c .public) _ (o .block) (o .interval))
   call-booked (Alloc o) h = made-booked _ _ _ (alloc-made port c (admits port c Writing (o .reference) (o .credential)) o (lent .places) s h a b narrow)
@@ -414,6 +422,7 @@ module _ (port : Port) (c : Card) (lent : Buffers) (s : SoundCard c) (a b : ℕ)
   call-booked (Tick o) h = plain-booked (plan port c (Tick o) lent .steps) (tt, tt)
   call-booked Audit h = refl
   call-booked (Rent o) h = refl
+  call-booked (Sweep o) h = plain-booked (plan port c (Sweep o) lent .steps) (sweeps-plain _)
 
 -- 2026-05: after any call on any card, at either port, done or refused, the multiplicity of the pointer from a to b is what it was,
 -- and one more for each that the call made, one less for each that it took away: a DELETE_TREE takes the whole multiplicity of each pointer that goes. Block numbers have 16 bits.

@@ -3,7 +3,7 @@
 use Prim.Native.Nat.{ℕ, _+_, _-_, _*_, _≤_, _<_}
 use mathlib.Core.Path.{_≡_, refl, sym, ap, _∙_, subst}
 use mathlib.Core.Logic.{_⊎_, inl, inr, ⊎-elim}
-use mathlib.Core.Bool.{true, false, _&&_, not, cond}
+use mathlib.Core.Bool.{true, false, _&&_, _||_, not, cond}
 use mathlib.Core.List.{List, _∷_, _++_}
 use native.Mathlib.Omega.{arith}
 use lib.Dec.{eqb, leb}
@@ -16,11 +16,11 @@ use Rattle.card.specs.Pointers.{pointer, source, destination, ascending,
 use Rattle.card.specs.PointersLaws.{source-pointer, destination-pointer, insert-ascending, all-insert, remove-ascending, all-remove, contains-all, unpointing}
 use Rattle.card.specs.BesideLaws.{InStep, Moved, moved-insert, moved-remove, moved-set, all-insertBeside, all-removeBeside, all-setBeside, beside-all, beside-absent, total-counted, uncounted}
 use Rattle.card.specs.Contents.{zeros}
-use Rattle.card.specs.Card.{Public, Card, flag, allocatedFlag, keyFlag, allocated, windowAt, windowEnd, longestInterval, count, inUse, timesInUse, multiplicity, highestMultiplicity, pointsTo, hasPointers}
+use Rattle.card.specs.Card.{Public, Card, flag, allocatedFlag, keyFlag, waitingFlag, freeFlag, allocated, windowAt, windowEnd, longestInterval, count, inUse, timesInUse, multiplicity, highestMultiplicity, pointsTo, hasPointers}
 use Rattle.card.specs.Soundness.{mostBlocks, pointerRight, multiplicityRight}
 use Rattle.card.specs.SoundCard.{Shaped, KeyZero, Empty, RightPointer, SoundCard}
 use Rattle.card.specs.SoundnessLaws.{pointerRight-true, true-pointerRight, multiplicityRight-low, multiplicityRight-high, true-multiplicityRight, allocated-below, allocated-flag, flag-allocated}
-use Rattle.card.specs.Plan.{takeBlock, freeBlock, addPointer, raisePointer, lowerPointer, dropPointer, withFlags, withCount, withMultiplicity, changePublic, changeKeys, changeContents, change}
+use Rattle.card.specs.Plan.{freedFlags, takeBlock, freeBlock, addPointer, raisePointer, lowerPointer, dropPointer, withFlags, withCount, withMultiplicity, changePublic, changeKeys, changeContents, change}
 use Rattle.card.specs.declared.Mode.{Mode}
 use Rattle.card.specs.declared.Mode.the-variants.{Reading, Writing}
 use Rattle.card.specs.ChangesLaws.{inserted-take, inserted-drop, inserted-length, removed-take, removed-drop, removed-length, used-in-step, insertedTimes-take, insertedTimes-drop, insertedTimes-length, setTimes-take, setTimes-drop, setTimes-length, removedTimes-take, removedTimes-drop, removedTimes-length, getD-set-either, getD-set-cases, windowAt-block, clearKeys-length, cleared-high, cleared-low, uncleared-high, uncleared-low}
@@ -31,7 +31,7 @@ use Rattle.card.proofs.Guarantees.Steps.{shaped-with, filled-length, ke
 -- Sound, but that a block of X may be allocated without a pointer to it.
 pub record SoundExcept (X : ℕ → Type 0) (c : Card) : Type 0 where
   pub shaped : Shaped c
-  pub flagsLow : (b : ℕ) → b < c .public .info .blocks → flag (c .public) b < 8
+  pub flagsLow : (b : ℕ) → b < c .public .info .blocks → flag (c .public) b ≤ 8
   pub rootsAllocated : (b : ℕ) → b < c .public .info .blocks → b < c .public .info .roots → allocatedFlag (flag (c .public) b) ≡ true
   pub unallocated : (b : ℕ) → b < c .public .info .blocks → allocatedFlag (flag (c .public) b) ≡ false → Empty c b
   pub absentKey : (mode : Mode) (b : ℕ) → b < c .public .info .blocks → keyFlag mode (flag (c .public) b) ≡ false → KeyZero c mode b
@@ -114,7 +114,7 @@ takeBlock-sound {c} b s below free =
           (filled-length b (zeros (p .info .bytes)) (s .shaped) below (length-replicate (p .info .bytes) 0))
           (s .shaped .usedHigh)
           (s .shaped .timeHigh);
-      flagsLow = λ x l. getD-set-either (λ (f : ℕ). f < 8) (p .flags) b 1 x (omega arith) (s .isSound .flagsLow x l);
+      flagsLow = λ x l. getD-set-either (λ (f : ℕ). f ≤ 8) (p .flags) b 1 x (omega arith) (s .isSound .flagsLow x l);
       rootsAllocated = λ x l r. getD-set-either (λ (f : ℕ). allocatedFlag f ≡ true) (p .flags) b 1 x refl (s .isSound .rootsAllocated x l r);
       unallocated = λ x l.
           getD-set-cases (λ (x f : ℕ). allocatedFlag f ≡ false → Empty d x) (p .flags) b 1 x inFlags
@@ -296,12 +296,12 @@ free-pointers : (p : Public) (b : ℕ) (ws : List ℕ)
     → all (λ w. pointerRight p w) ws ≡ true
     → all (λ w. not (eqb (source w) b)) ws ≡ true
     → all (λ w. not (eqb (destination w) b)) ws ≡ true
-    → all (λ w. pointerRight (withFlags p (set (p .flags) b 0)) w) ws ≡ true
+    → all (λ w. pointerRight (withFlags p (set (p .flags) b freedFlags)) w) ws ≡ true
 free-pointers p b ws right from to =
-    let kept : (x : ℕ) → (x ≡ b → ⊥) → allocated p x ≡ true → allocated (withFlags p (set (p .flags) b 0)) x ≡ true = λ x other a. allocated-other p b 0 x other ∙ a in
-    all-both (λ w. pointerRight p w) (λ w. not (eqb (source w) b) && not (eqb (destination w) b)) (λ w. pointerRight (withFlags p (set (p .flags) b 0)) w)
+    let kept : (x : ℕ) → (x ≡ b → ⊥) → allocated p x ≡ true → allocated (withFlags p (set (p .flags) b freedFlags)) x ≡ true = λ x other a. allocated-other p b freedFlags x other ∙ a in
+    all-both (λ w. pointerRight p w) (λ w. not (eqb (source w) b) && not (eqb (destination w) b)) (λ w. pointerRight (withFlags p (set (p .flags) b freedFlags)) w)
     (λ w e f.
-    right-kept p (set (p .flags) b 0) w e
+    right-kept p (set (p .flags) b freedFlags) w e
     (kept (source w) (eqb-false _ _ (not-true _ (and-left _ _ f))))
     (kept (destination w) (eqb-false _ _ (not-true _ (and-right (not (eqb (source w) b)) _ f)))))
     ws
@@ -332,20 +332,20 @@ freeBlock-except {c} {X} {Y} b s others below noRoot uncount unpoint =
     let keysKept : (m : Mode) (x : ℕ) → (x ≡ b → ⊥) → KeyZero c m x → KeyZero d m x = λ m x other.
     keyZero-from (uncleared-high (c .keys) b m x other) (uncleared-low (c .keys) b m x other) in
     record {
-      shaped = shaped-with (s .shaped) (length-set (p .flags) b 0) (clearKeys-length (c .keys) b) refl refl refl
+      shaped = shaped-with (s .shaped) (length-set (p .flags) b freedFlags) (clearKeys-length (c .keys) b) refl refl refl
           (length-set (set (p .windows) (windowAt Reading b) 0) (windowAt Writing b) 0 ∙ length-set (p .windows) (windowAt Reading b) 0)
           refl
           (s .shaped .usedHigh)
           (s .shaped .timeHigh);
-      flagsLow = λ x l. getD-set-either (λ (f : ℕ). f < 8) (p .flags) b 0 x (omega arith) (s .flagsLow x l);
+      flagsLow = λ x l. getD-set-either (λ (f : ℕ). f ≤ 8) (p .flags) b freedFlags x (omega arith) (s .flagsLow x l);
       rootsAllocated = λ x l.
-          getD-set-cases (λ (x f : ℕ). x < p .info .roots → allocatedFlag f ≡ true) (p .flags) b 0 x inFlags
+          getD-set-cases (λ (x f : ℕ). x < p .info .roots → allocatedFlag f ≡ true) (p .flags) b freedFlags x inFlags
           (λ r. absurd (omega arith))
           (λ other. s .rootsAllocated x l);
       unallocated = λ x l.
-          getD-set-cases (λ (x f : ℕ). allocatedFlag f ≡ false → Empty d x) (p .flags) b 0 x inFlags
+          getD-set-cases (λ (x f : ℕ). allocatedFlag f ≡ false → Empty d x) (p .flags) b freedFlags x inFlags
           (λ e. record {
-            flagZero = getD-set-same (p .flags) b 0 0 inFlags;
+            freeOrWaiting = ap (λ (f : ℕ). freeFlag f || waitingFlag f) (getD-set-same (p .flags) b freedFlags 0 inFlags);
             keysZero = noKeys;
             countZero = uncount;
             windowZero = closed-same (p .windows) b inWindows;
@@ -353,13 +353,13 @@ freeBlock-except {c} {X} {Y} b s others below noRoot uncount unpoint =
           (λ other e.
           let h : Empty c x = s .unallocated x l e in
           record {
-            flagZero = getD-set-other (p .flags) b x 0 0 other ∙ h .flagZero;
+            freeOrWaiting = ap (λ (f : ℕ). freeFlag f || waitingFlag f) (getD-set-other (p .flags) b x freedFlags 0 other) ∙ h .freeOrWaiting;
             keysZero = λ m. keysKept m x other (h .keysZero m);
             countZero = h .countZero;
             windowZero = λ m. closed-either (λ (n : ℕ). n ≡ 0) (p .windows) b (windowAt m x) refl (h .windowZero m);
           });
       absentKey = λ m x l.
-          getD-set-cases (λ (x f : ℕ). keyFlag m f ≡ false → KeyZero d m x) (p .flags) b 0 x inFlags
+          getD-set-cases (λ (x f : ℕ). keyFlag m f ≡ false → KeyZero d m x) (p .flags) b freedFlags x inFlags
           (λ e. noKeys m)
           (λ other e. keysKept m x other (s .absentKey m x l e));
       ascends = s .ascends;
@@ -369,8 +369,8 @@ freeBlock-except {c} {X} {Y} b s others below noRoot uncount unpoint =
       pointersRight = free-pointers p b (inUse p) (s .pointersRight) unpoint (uncounted (λ w. eqb (destination w) b) step (all-map (λ n. multiplicityRight n) (λ n. leb 1 n) (λ n e. le-leb 1 n (multiplicityRight-low n e)) (timesInUse p) (s .timesRight)) (sym (s .counts b below) ∙ uncount));
       counts = s .counts;
       pointed = λ x none l r.
-          getD-set-cases (λ (x f : ℕ). (Y x → ⊥) → allocatedFlag f ≡ true → 1 ≤ count p x) (p .flags) b 0 x inFlags
-          (λ o e. absurd-test {t = allocatedFlag 0} e refl)
+          getD-set-cases (λ (x f : ℕ). (Y x → ⊥) → allocatedFlag f ≡ true → 1 ≤ count p x) (p .flags) b freedFlags x inFlags
+          (λ o e. absurd-test {t = allocatedFlag freedFlags} e refl)
           (λ other o. s .pointed x (λ z. ⊎-elim other o (others x z)) l r)
           none;
       windowsLow = λ m x l.

@@ -9,8 +9,8 @@ use borrow.Author.Tests.{ltb-true, ltb-false}
 use Rattle.card.specs.ListsLaws.{absurd-test}
 use Rattle.card.specs.Card.{Public, Card, count, multiplicity, pointsTo}
 use Rattle.card.specs.Rent.{rentFor, halfRounded, rounded, cents}
-use Rattle.card.specs.Plan.{Change, setWindow, setBlock, setKey, takeBlock, freeBlock, addPointer, raisePointer, lowerPointer, dropPointer, dropFrom, setTime, changePublic, change, changes, Buffers, Result, outAfter, placesAfter, settle}
-use Rattle.card.specs.Calls.{isDone, windowAfter, opensWindow, takeAll, freeEach, distance, readPlan, writePlan, allocPlan, allocContigPlan, createPlan, deletePlan, deleteTreePlan, keyPlan, renewPlan, forcePlan, freePlan, tickPlan, auditPlan, rentPlan}
+use Rattle.card.specs.Plan.{Change, setWindow, setBlock, setKey, takeBlock, freeBlock, sweepBlock, addPointer, raisePointer, lowerPointer, dropPointer, dropFrom, setTime, changePublic, change, changes, Buffers, Result, outAfter, placesAfter, settle}
+use Rattle.card.specs.Calls.{isDone, windowAfter, opensWindow, takeAll, freeEach, distance, readPlan, writePlan, allocPlan, allocContigPlan, createPlan, deletePlan, deleteTreePlan, keyPlan, renewPlan, forcePlan, freePlan, tickPlan, auditPlan, rentPlan, sweepEach, sweepPlan}
 use Rattle.card.specs.Session.{Request, Sent, plan, perform, performed, afterAll, traits}
 use Rattle.card.specs.RentAdded.{added, addedInAll}
 use Rattle.card.specs.declared.Port.{Port}
@@ -19,7 +19,7 @@ use Rattle.card.specs.declared.Mode.{Mode}
 use Rattle.card.specs.declared.RentOperands.{RentOperands}
 use Rattle.card.specs.declared.Answer.the-variants.{Value}
 use Rattle.card.specs.declared.Call.{Call}
-use Rattle.card.specs.declared.Call.the-variants.{Read, Write, Alloc, AllocContig, Create, Delete, DeleteTree, KeyRead, KeyWrite, Renew, Force, Free, Tick, Audit, Rent}
+use Rattle.card.specs.declared.Call.the-variants.{Read, Write, Alloc, AllocContig, Create, Delete, DeleteTree, KeyRead, KeyWrite, Renew, Force, Free, Tick, Audit, Rent, Sweep}
 use Rattle.card.proofs.Guarantees.Judged.{judge-cases}
 use Rattle.card.proofs.Guarantees.Unchanged.{Unchanged, plan-done}
 
@@ -32,6 +32,7 @@ Timeless (setBlock b ys) = Unit {0}
 Timeless (setKey mode b key) = Unit {0}
 Timeless (takeBlock b) = Unit {0}
 Timeless (freeBlock b) = Unit {0}
+Timeless (sweepBlock b) = Unit {0}
 Timeless (addPointer a b) = Unit {0}
 Timeless (raisePointer a b) = Unit {0}
 Timeless (lowerPointer a b) = Unit {0}
@@ -46,6 +47,7 @@ timeless-kept p (setBlock b ys) h = refl
 timeless-kept p (setKey mode b key) h = refl
 timeless-kept p (takeBlock b) h = refl
 timeless-kept p (freeBlock b) h = refl
+timeless-kept p (sweepBlock b) h = refl
 timeless-kept p (addPointer a b) h = refl
 timeless-kept p (raisePointer a b) h = refl
 timeless-kept p (lowerPointer a b) h = refl
@@ -81,6 +83,11 @@ unfolding freeEach
 frees-timeless [] = tt
 frees-timeless (b ∷ bs) = (tt, frees-timeless bs)
 
+sweeps-timeless : (bs : List ℕ) → TimelessAll (sweepEach bs)
+unfolding sweepEach
+sweeps-timeless [] = tt
+sweeps-timeless (b ∷ bs) = (tt, sweeps-timeless bs)
+
 -- CREATE makes one of two changes, DELETE one of two others, and another where it frees.
 create-timeless : (a b : ℕ) (there : Bool) → TimelessAll (cond there (raisePointer a b) (addPointer a b) ∷ [])
 create-timeless a b true = (tt, tt)
@@ -102,7 +109,7 @@ module _ (port : Port) (c : Card) (lent : Buffers) where
   none-grew steps h = omega (arith, timeless-all c steps h)
 
   call-grew : (call : Call) → Grew (changes c (plan port c call lent .steps)) (traits call .seconds)
-  unfolding plan traits readPlan writePlan allocPlan allocContigPlan createPlan deletePlan deleteTreePlan keyPlan renewPlan forcePlan freePlan tickPlan auditPlan rentPlan changes change changePublic
+  unfolding plan traits readPlan writePlan allocPlan allocContigPlan createPlan deletePlan deleteTreePlan keyPlan renewPlan forcePlan freePlan tickPlan auditPlan rentPlan sweepPlan changes change changePublic
   call-grew (Read o) = none-grew (plan port c (Read o) lent .steps) (opens-timeless port (c .public) _ (o .block) (o .interval))
   call-grew (Write o) = none-grew (plan port c (Write o) lent .steps) (tt, opens-timeless port (c .public) _ (o .block) (o .interval))
   call-grew (Alloc o) = none-grew (plan port c (Alloc o) lent .steps) (takes-timeless (o .reference) _)
@@ -119,6 +126,7 @@ module _ (port : Port) (c : Card) (lent : Buffers) where
   call-grew (Tick o) = refl
   call-grew Audit = none-grew [] tt
   call-grew (Rent o) = none-grew [] tt
+  call-grew (Sweep o) = none-grew (plan port c (Sweep o) lent .steps) (sweeps-timeless _)
 
 -- One call, on any card and at either port.
 call-added : (c : Card) (s : Sent) → performed c s .after .public .info .total ≡ c .public .info .total + added c s

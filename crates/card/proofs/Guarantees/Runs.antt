@@ -13,8 +13,9 @@ use Rattle.card.specs.Lists.{numbersFrom}
 use Rattle.card.specs.ListsLaws.{or-false-left, or-false-right}
 use Rattle.card.specs.Contents.{overwrite}
 use Rattle.card.specs.ContentsLaws.{overwrite-within}
-use Rattle.card.specs.Card.{Public, Card, allocated, freeBlocks}
-use Rattle.card.specs.Plan.{Check, _⇒_, first, FirstHolds, here, later, NoneHolds, audited, Buffers, Result, done, placesAfter}
+use Rattle.card.specs.Card.{Public, Card, free, freeBlocks}
+use Rattle.card.specs.SoundnessLaws.{free-below}
+use Rattle.card.specs.Plan.{Check, _⇒_, first, FirstHolds, here, later, NoneHolds, audited, Buffers, Result, placesAfter}
 use Rattle.card.specs.PlanLaws.{holds-first}
 use Rattle.card.specs.Calls.{refusalNumber, isDone, noHint, wanted, distance, runStarts, nearestRun, allocPlan, allocContigPlan}
 use Rattle.card.specs.RunsLaws.{numbersFrom-length, numbersFrom-at, run-blocks, blocks-run, no-start, start-none, NearestIs, nearest-run}
@@ -29,9 +30,9 @@ use Rattle.card.proofs.Guarantees.RefusedIff.{refused-iff}
 
 -- ---- the statements
 
--- So many unallocated blocks that adjoin, from `first` on.
+-- So many free blocks that adjoin, from `first` on.
 abbrev pub Run : Public → ℕ → ℕ → Type 0
-Run p count first = (b : ℕ) → first ≤ b → b < first + count → (b < p .info .blocks) × (allocated p b ≡ false)
+Run p count first = (b : ℕ) → first ≤ b → b < first + count → free p b ≡ true
 
 abbrev pub contig : AllocOperands → Buffers → Request
 contig o lent = record { call = AllocContig o; lent = lent }
@@ -44,7 +45,7 @@ pub record RunFound (port : Port) (c : Card) (o : AllocOperands) (lent : Buffers
   pub alwaysFound : NoneHolds (take 6 (refusals port c (contig o lent))) → o .count ≤ length (freeBlocks (c .public)) → (first : ℕ) → Run (c .public) (o .count) first
       → c .public .info .used + o .count ≤ length (c .public .pointers) → perform port c (contig o lent) .answer ≡ Done
 
--- The numbers that a done call leaves in the first places adjoin and ascend, and their blocks were all unallocated.
+-- The numbers that a done call leaves in the first places adjoin and ascend, and their blocks were all free.
 pub record RunAdjoins (p : Public) (o : AllocOperands) (places : List ℕ) : Type 0 where
   pub adjoin : (i : ℕ) → i < o .count → getD places i 0 ≡ getD places 0 0 + i
   pub wereFree : Run p (o .count) (getD places 0 0)
@@ -89,7 +90,7 @@ module _ (port : Port) (c : Card) (o : AllocOperands) (lent : Buffers) where
 
   no-runs : NoneHolds early → length (runStarts (c .public) (o .count)) ≡ 0 → (first : ℕ) → Run (c .public) (o .count) first → ⊥
   no-runs n e first run =
-      no-start (c .public) (o .count) e (run first (omega arith) (omega (arith, some-blocks n)) .0) (blocks-run (c .public) (o .count) run)
+      no-start (c .public) (o .count) e (free-below (c .public) first (run first (omega arith) (omega (arith, some-blocks n)))) (blocks-run (c .public) (o .count) run)
 
   -- What 14 says.
   abbrev FoundNone : Type 0
@@ -184,7 +185,7 @@ module _ (port : Port) (c : Card) (o : AllocOperands) (lent : Buffers) where
     nearest-wanted : (other : ℕ) → Run (c .public) (o .count) other
         → (distance (wanted (o .hint)) (taken .first) ≤ distance (wanted (o .hint)) other) × (other < taken .first → distance (wanted (o .hint)) (taken .first) < distance (wanted (o .hint)) other)
     nearest-wanted other run =
-        taken .nearest other (run other (omega arith) (omega (arith, some-blocks first-early)) .0) (blocks-run (c .public) (o .count) run)
+        taken .nearest other (free-below (c .public) other (run other (omega arith) (omega (arith, some-blocks first-early)))) (blocks-run (c .public) (o .count) run)
 
     pub run-nearest : (other : ℕ) → Run (c .public) (o .count) other → RunNearest o (getD (perform port c (contig o lent) .places) 0 0) other
     unfolding wanted

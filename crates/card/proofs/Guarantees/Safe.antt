@@ -16,8 +16,8 @@ pub record SafeCall (c : Card) (s : Sent) : Type 0 where
   pub refusalUnchanged : (r : Refusal) → performed c s .answer ≡ Refused r → Unchanged c (s .request .lent) (performed c s)
   -- A sound card stays sound.
   pub keepsSound : SoundCard c → SoundCard (performed c s .after)
-  -- An unallocated block is left as it was, or is taken and filled with zeros.
-  pub freeUntouched : (b : ℕ) → allocated (c .public) b ≡ false → Untouched c (performed c s .after) b
+  -- An unallocated block is left as it was, or is taken or swept and filled with zeros.
+  pub freeUntouched : (b : ℕ) → allocated (c .public) b ≡ false → Untouched (s .request .call) c (performed c s .after) b
 
 pub safe-call : (c : Card) (s : Sent) → SafeCall c s
 safe-call c s = record {

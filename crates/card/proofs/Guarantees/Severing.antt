@@ -17,11 +17,11 @@ use Rattle.card.specs.BesideLaws.{InStep, uncounted, total-none}
 use Rattle.card.specs.KeepLaws.{keep-in-step, keep-most, keep-passes, keep-contains, contains-keep, keep-ascending, all-keep, all-keepBeside, total-keep-most, beside-keep, tabulate-length, tabulate-at}
 use Rattle.card.specs.NearestLaws.{contains-here, contains-there}
 use Rattle.card.specs.Contents.{zeros, part}
-use Rattle.card.specs.Card.{Public, Card, flag, allocatedFlag, allocated, windowEnd, count, inUse, timesInUse, multiplicity, pointsTo, keyHigh, keyLow, block}
+use Rattle.card.specs.Card.{Public, Card, flag, allocatedFlag, allocated, waiting, windowEnd, count, inUse, timesInUse, multiplicity, pointsTo, keyHigh, keyLow, block}
 use Rattle.card.specs.Soundness.{pointerRight, multiplicityRight}
 use Rattle.card.specs.SoundCard.{SoundCard}
-use Rattle.card.specs.SoundnessLaws.{multiplicityRight-low, allocated-below, flag-allocated}
-use Rattle.card.specs.Plan.{freeBlock, dropPointer, dropFrom, changePublic, changeKeys, changeContents, change, changes}
+use Rattle.card.specs.SoundnessLaws.{multiplicityRight-low, allocated-below, flag-allocated, flag-waiting}
+use Rattle.card.specs.Plan.{freedFlags, freeBlock, dropPointer, dropFrom, changePublic, changeKeys, changeContents, change, changes}
 use Rattle.card.specs.ChangesLaws.{used-in-step, kept-take, kept-drop, kept-length, uncleared-high, uncleared-low, inUse-kept}
 use Rattle.card.specs.Tree.{ordinary, onlyFrom, orphans}
 use Rattle.card.specs.TreeLaws.{only-from, from-only, is-ordinary, ordinary-allocated, ordinary-below, ordinary-no-root, orphans-closed, orphans-ordinary, orphans-inward}
@@ -239,7 +239,7 @@ freeEach-spares c (x ∷ bs) b h =
     let rest : Spared (change c (freeBlock x)) (changes (change c (freeBlock x)) (freeEach bs)) b =
     freeEach-spares (change c (freeBlock x)) bs b (or-false-right (eqb x b) _ h) in
     record {
-      flags = rest .flags ∙ getD-set-other (c .public .flags) x b 0 0 other;
+      flags = rest .flags ∙ getD-set-other (c .public .flags) x b freedFlags 0 other;
       high = λ m. rest .high m ∙ uncleared-high (c .keys) x m b other;
       low = λ m. rest .low m ∙ uncleared-low (c .keys) x m b other;
       window = λ m. rest .window m ∙ closed-other (c .public .windows) x b m (λ e. other (sym e));
@@ -260,17 +260,17 @@ freeEach-alone c (b ∷ bs) =
     let rest : FreesAlone (change c (freeBlock b)) (changes (change c (freeBlock b)) (freeEach bs)) = freeEach-alone (change c (freeBlock b)) bs in
     record { info = rest .info; pointers = rest .pointers; multiplicities = rest .multiplicities; contents = rest .contents }
 
--- The flags of a block that is freed become 0.
-freeEach-frees : (c : Card) (bs : List ℕ) (b : ℕ) → b < length (c .public .flags) → contains b bs ≡ true → flag (changes c (freeEach bs) .public) b ≡ 0
+-- A block that is freed waits.
+freeEach-frees : (c : Card) (bs : List ℕ) (b : ℕ) → b < length (c .public .flags) → contains b bs ≡ true → flag (changes c (freeEach bs) .public) b ≡ freedFlags
 unfolding freeEach changes change changePublic contains any
 freeEach-frees c [] b l h = absurd-test {t = false} h refl
 freeEach-frees c (x ∷ bs) b l h =
     let next : Card = change c (freeBlock x) in
     ⊎-elim
-    (λ (e : contains b bs ≡ true). freeEach-frees next bs b (omega (arith, length-set (c .public .flags) x 0)) e)
+    (λ (e : contains b bs ≡ true). freeEach-frees next bs b (omega (arith, length-set (c .public .flags) x freedFlags)) e)
     (λ (e : contains b bs ≡ false).
     let same : x ≡ b = ⊎-elim (λ q. eqb-true x b q) (λ q. absurd-test q e) (or-cases (eqb x b) _ h) in
-    freeEach-spares next bs b e .flags ∙ ap (λ (k : ℕ). getD (set (c .public .flags) k 0) b 0) same ∙ getD-set-same (c .public .flags) b 0 0 l)
+    freeEach-spares next bs b e .flags ∙ ap (λ (k : ℕ). getD (set (c .public .flags) k freedFlags) b 0) same ∙ getD-set-same (c .public .flags) b freedFlags 0 l)
     (not-cases (contains b bs))
 
 -- The same of the whole: the pointers from the set dropped, then its blocks freed.
@@ -296,6 +296,10 @@ module _ (c : Card) (bs : List ℕ) where
   pub severed-contents : (b : ℕ) → block severed b ≡ block c b
   unfolding changes change changePublic changeContents
   severed-contents b = ap₂ (λ (i : Info) (xs : List ℕ). part (i .bytes) xs b) (severed-alone .info) (severed-alone .contents)
+
+  pub severed-waits : (b : ℕ) → b < c .public .info .blocks → b < length (c .public .flags) → contains b bs ≡ true → waiting (severed .public) b ≡ true
+  unfolding changes change changePublic
+  severed-waits b l m h = flag-waiting (severed .public) b (subst (λ (n : ℕ). b < n) (sym severed-blocks) l) (freeEach-frees (change c (dropFrom bs)) bs b m h)
 
   pub severed-frees : (b : ℕ) → b < length (c .public .flags) → contains b bs ≡ true → allocated (severed .public) b ≡ false
   unfolding changes change changePublic allocated
@@ -333,6 +337,12 @@ module _ (c : Card) (a b : ℕ) where
   unfolding changes change changePublic
   deleted-frees x same h =
       severed-frees (change c (dropPointer a b)) freed x (omega (arith, allocated-below (c .public) x (freed-allocated x h))) h
+
+  pub deleted-waits : (x : ℕ) → length (c .public .flags) ≡ c .public .info .blocks → contains x freed ≡ true → waiting (treeDeleted .public) x ≡ true
+  unfolding changes change changePublic
+  deleted-waits x same h =
+      let below = allocated-below (c .public) x (freed-allocated x h) in
+      severed-waits (change c (dropPointer a b)) freed x below (omega (arith, below)) h
 
   pub deleted-spares : (x : ℕ) → contains x freed ≡ false → Spared c treeDeleted x
   unfolding changes change changePublic changeKeys changeContents

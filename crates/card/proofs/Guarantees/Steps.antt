@@ -2,22 +2,22 @@
 use Prim.Native.Nat.{ℕ, _+_, _*_, _≤_, _<_}
 use mathlib.Core.Path.{_≡_, refl, sym, ap, _∙_, subst}
 use mathlib.Core.Logic.{⊎-elim}
-use mathlib.Core.Bool.{true, false, _&&_}
+use mathlib.Core.Bool.{true, false, _&&_, _||_}
 use mathlib.Core.List.{List}
 use native.Mathlib.Omega.{arith}
 use lib.Dec.{ltb}
-use lib.ListN.{length, set, length-set}
-use lib.Seq.{getD-set-other}
+use lib.ListN.{length, set, length-set, length-replicate}
+use lib.Seq.{getD-set-same, getD-set-other}
 use Rattle.card.specs.Lists.{all}
-use Rattle.card.specs.ListsLaws.{absurd-test, false-unless, all-map}
+use Rattle.card.specs.ListsLaws.{absurd-test, false-unless, and-false-right, all-map}
 use Rattle.card.specs.Pointers.{source, destination}
-use Rattle.card.specs.Contents.{fill}
+use Rattle.card.specs.Contents.{fill, zeros}
 use Rattle.card.specs.ContentsLaws.{fill-length, block-fits}
-use Rattle.card.specs.Card.{Public, Card, card, flag, allocatedFlag, keyFlag, allocated, windowAt, windowEnd, longestInterval, count, inUse, keyHigh, keyLow}
+use Rattle.card.specs.Card.{Public, Card, card, flag, allocatedFlag, keyFlag, waitingFlag, freeFlag, allocated, waiting, free, windowAt, windowEnd, longestInterval, count, inUse, keyHigh, keyLow}
 use Rattle.card.specs.Soundness.{timeLimit, mostBlocks, pointerRight}
 use Rattle.card.specs.SoundCard.{Shaped, KeyZero, Empty, RightPointer, SoundCard}
-use Rattle.card.specs.SoundnessLaws.{pointerRight-true, true-pointerRight, allocated-below, allocated-flag, flag-allocated}
-use Rattle.card.specs.Plan.{setWindow, setBlock, setKey, setTime, isPresent, otherMode, keyedFlags, withFlags, changePublic, changeKeys, changeContents, change}
+use Rattle.card.specs.SoundnessLaws.{pointerRight-true, true-pointerRight, allocated-below, allocated-flag, flag-allocated, waiting-below, waiting-flag, waiting-unallocated}
+use Rattle.card.specs.Plan.{setWindow, setBlock, setKey, sweepBlock, setTime, isPresent, otherMode, keyedFlags, withFlags, changePublic, changeKeys, changeContents, change}
 use Rattle.card.specs.declared.Mode.{Mode}
 use Rattle.card.specs.declared.NewKey.{NewKey}
 use Rattle.card.specs.ChangesLaws.{getD-set-either, getD-set-cases, windowAt-block, other-mode, mode-or-other, keyed-low, keyed-allocated, keyed-own, keyed-other, absent-high, absent-low, replaceKey-length, replaced-high, replaced-low, kept-high, kept-low}
@@ -76,7 +76,7 @@ pub empty-from : {c d : Card} {x : ℕ}
     → ((mode : Mode) → windowEnd (d .public) mode x ≡ windowEnd (c .public) mode x)
     → Empty c x → Empty d x
 empty-from f high low n w h = record {
-  flagZero = f ∙ h .flagZero;
+  freeOrWaiting = subst (λ (n : ℕ). freeFlag n || waitingFlag n ≡ true) (sym f) (h .freeOrWaiting);
   keysZero = λ m. keyZero-from (high m) (low m) (h .keysZero m);
   countZero = n ∙ h .countZero;
   windowZero = λ m. w m ∙ h .windowZero m;
@@ -179,6 +179,21 @@ pub allocated-other : (p : Public) (b v x : ℕ) → (x ≡ b → ⊥) → alloc
 unfolding allocated
 allocated-other p b v x other = ap (λ (f : ℕ). ltb x (p .info .blocks) && allocatedFlag f) (getD-set-other (p .flags) b x v 0 other)
 
+-- No other block becomes allocated where a block loses its flags.
+pub unallocated-set : (p : Public) (b x : ℕ) → allocated p x ≡ false → allocated (withFlags p (set (p .flags) b 0)) x ≡ false
+unfolding allocated
+unallocated-set p b x e =
+    getD-set-either (λ (f : ℕ). ltb x (p .info .blocks) && allocatedFlag f ≡ false) (p .flags) b 0 x (and-false-right (ltb x (p .info .blocks)) _ refl) e
+
+-- So with waiting and free.
+pub waiting-other : (p : Public) (b v x : ℕ) → (x ≡ b → ⊥) → waiting (withFlags p (set (p .flags) b v)) x ≡ waiting p x
+unfolding waiting
+waiting-other p b v x other = ap (λ (f : ℕ). ltb x (p .info .blocks) && waitingFlag f) (getD-set-other (p .flags) b x v 0 other)
+
+pub free-other : (p : Public) (b v x : ℕ) → (x ≡ b → ⊥) → free (withFlags p (set (p .flags) b v)) x ≡ free p x
+unfolding free
+free-other p b v x other = ap (λ (f : ℕ). ltb x (p .info .blocks) && freeFlag f) (getD-set-other (p .flags) b x v 0 other)
+
 -- A pointer stays right where its ends stay allocated.
 pub right-kept : (p : Public) (flags : List ℕ) (w : ℕ) → pointerRight p w ≡ true
     → (allocated p (source w) ≡ true → allocated (withFlags p flags) (source w) ≡ true)
@@ -226,7 +241,7 @@ setKey-sound {c} mode b key s a =
     record {
       shaped = shaped-with (s .shaped) (length-set (p .flags) b v) (replaceKey-length (c .keys) mode b key) refl refl refl refl refl (s .shaped .usedHigh) (s .shaped .timeHigh);
       isSound = record {
-        flagsLow = λ x l. getD-set-either (λ (f : ℕ). f < 8) (p .flags) b v x (keyed-low f mode key) (s .isSound .flagsLow x l);
+        flagsLow = λ x l. getD-set-either (λ (f : ℕ). f ≤ 8) (p .flags) b v x (omega (arith, keyed-low f mode key)) (s .isSound .flagsLow x l);
         rootsAllocated = λ x l r. getD-set-either (λ (f : ℕ). allocatedFlag f ≡ true) (p .flags) b v x odd (s .isSound .rootsAllocated x l r);
         unallocated = λ x l.
             getD-set-cases (λ (x f : ℕ). allocatedFlag f ≡ false → Empty d x) (p .flags) b v x inFlags
@@ -254,6 +269,63 @@ setKey-sound {c} mode b key s a =
         pointed = λ x l.
             getD-set-cases (λ (x f : ℕ). p .info .roots ≤ x → allocatedFlag f ≡ true → 1 ≤ count p x) (p .flags) b v x inFlags
             (λ r e. s .isSound .pointed b below r (allocated-flag p b a))
+            (λ other. s .isSound .pointed x l);
+        windowsLow = s .isSound .windowsLow;
+        totalLow = s .isSound .totalLow;
+      };
+    }
+
+-- ---- a waiting block swept
+
+-- It has neither keys nor windows, nor pointers to it or of its own, so it can become free.
+pub sweepBlock-sound : {c : Card} (b : ℕ) → SoundCard c → waiting (c .public) b ≡ true → SoundCard (change c (sweepBlock b))
+unfolding change changePublic changeKeys changeContents pointerRight allocated
+sweepBlock-sound {c} b s w =
+    let p : Public = c .public in
+    let d : Card = change c (sweepBlock b) in
+    let below : b < p .info .blocks = waiting-below p b w in
+    let inFlags : b < length (p .flags) = omega (arith, s .shaped .hasLengths .flags) in
+    let idle : allocatedFlag (flag p b) ≡ false = ap allocatedFlag (waiting-flag p b w) in
+    let empty : Empty c b = s .isSound .unallocated b below idle in
+    let kept : (x : ℕ) → allocated p x ≡ true → allocated (withFlags p (set (p .flags) b 0)) x ≡ true = λ x a.
+    allocated-other p b 0 x (λ q. absurd-test a (subst (λ (n : ℕ). allocated p n ≡ false) (sym q) (waiting-unallocated p b w))) ∙ a in
+    record {
+      shaped = shaped-with (s .shaped) (length-set (p .flags) b 0) refl refl refl refl refl
+          (filled-length b (zeros (p .info .bytes)) (s .shaped) below (length-replicate (p .info .bytes) 0))
+          (s .shaped .usedHigh)
+          (s .shaped .timeHigh);
+      isSound = record {
+        flagsLow = λ x l. getD-set-either (λ (f : ℕ). f ≤ 8) (p .flags) b 0 x (omega arith) (s .isSound .flagsLow x l);
+        rootsAllocated = λ x l.
+            getD-set-cases (λ (x f : ℕ). x < p .info .roots → allocatedFlag f ≡ true) (p .flags) b 0 x inFlags
+            (λ r. absurd-test (s .isSound .rootsAllocated b below r) idle)
+            (λ other. s .isSound .rootsAllocated x l);
+        unallocated = λ x l.
+            getD-set-cases (λ (x f : ℕ). allocatedFlag f ≡ false → Empty d x) (p .flags) b 0 x inFlags
+            (λ e. record {
+              freeOrWaiting = ap (λ (f : ℕ). freeFlag f || waitingFlag f) (getD-set-same (p .flags) b 0 0 inFlags);
+              keysZero = λ m. keyZero-from refl refl (empty .keysZero m);
+              countZero = empty .countZero;
+              windowZero = empty .windowZero;
+            })
+            (λ other e. empty-from (getD-set-other (p .flags) b x 0 0 other) (λ m. refl) (λ m. refl) refl (λ m. refl) (s .isSound .unallocated x l e));
+        absentKey = λ m x l.
+            getD-set-cases (λ (x f : ℕ). keyFlag m f ≡ false → KeyZero d m x) (p .flags) b 0 x inFlags
+            (λ e. keyZero-from refl refl (empty .keysZero m))
+            (λ other e. keyZero-from refl refl (s .isSound .absentKey m x l e));
+        ascends = s .isSound .ascends;
+        restZero = s .isSound .restZero;
+        timesRight = s .isSound .timesRight;
+        restTimesZero = s .isSound .restTimesZero;
+        pointersRight =
+            all-map (λ w. pointerRight p w) (λ w. pointerRight (withFlags p (set (p .flags) b 0)) w)
+            (λ w e. right-kept p (set (p .flags) b 0) w e (kept (source w)) (kept (destination w)))
+            (inUse p)
+            (s .isSound .pointersRight);
+        counts = s .isSound .counts;
+        pointed = λ x l.
+            getD-set-cases (λ (x f : ℕ). p .info .roots ≤ x → allocatedFlag f ≡ true → 1 ≤ count p x) (p .flags) b 0 x inFlags
+            (λ r e. absurd-test {t = allocatedFlag 0} e refl)
             (λ other. s .isSound .pointed x l);
         windowsLow = s .isSound .windowsLow;
         totalLow = s .isSound .totalLow;

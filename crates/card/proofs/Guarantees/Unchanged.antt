@@ -6,13 +6,13 @@ use Rattle.card.specs.ListsLaws.{absurd-test}
 use Rattle.card.specs.Card.{Card}
 use Rattle.card.specs.Soundness.{ranges, lengths}
 use Rattle.card.specs.Plan.{Buffers, Result, settle}
-use Rattle.card.specs.Calls.{isDone, formatResult, format, readPlan, writePlan, allocPlan, allocContigPlan, createPlan, deletePlan, deleteTreePlan, keyPlan, renewPlan, forcePlan, freePlan, tickPlan, auditPlan, rentPlan}
+use Rattle.card.specs.Calls.{isDone, formatResult, format, readPlan, writePlan, allocPlan, allocContigPlan, createPlan, deletePlan, deleteTreePlan, keyPlan, renewPlan, forcePlan, freePlan, tickPlan, auditPlan, rentPlan, sweepPlan}
 use Rattle.card.specs.Session.{Request, plan, perform}
 use Rattle.card.specs.declared.Port.{Port}
 use Rattle.card.specs.declared.Refusal.{Refusal}
 use Rattle.card.specs.declared.Answer.the-variants.{Refused, Done}
 use Rattle.card.specs.declared.Call.{Call}
-use Rattle.card.specs.declared.Call.the-variants.{Read, Write, Alloc, AllocContig, Create, Delete, DeleteTree, KeyRead, KeyWrite, Renew, Force, Free, Tick, Audit, Rent}
+use Rattle.card.specs.declared.Call.the-variants.{Read, Write, Alloc, AllocContig, Create, Delete, DeleteTree, KeyRead, KeyWrite, Renew, Force, Free, Tick, Audit, Rent, Sweep}
 use Rattle.card.proofs.Guarantees.Judged.{judge-cases}
 
 -- A result that leaves the card and the lent buffers as they were.
@@ -23,7 +23,7 @@ pub record Unchanged (c : Card) (lent : Buffers) (result : Result) : Type 0 wher
 
 -- What a plan answers is never a refusal.
 pub plan-done : (port : Port) (c : Card) (call : Call) (lent : Buffers) → isDone (plan port c call lent .answer) ≡ true
-unfolding plan readPlan writePlan allocPlan allocContigPlan createPlan deletePlan deleteTreePlan keyPlan renewPlan forcePlan freePlan tickPlan auditPlan rentPlan
+unfolding plan readPlan writePlan allocPlan allocContigPlan createPlan deletePlan deleteTreePlan keyPlan renewPlan forcePlan freePlan tickPlan auditPlan rentPlan sweepPlan
 plan-done port c (Read o) lent = refl
 plan-done port c (Write o) lent = refl
 plan-done port c (Alloc o) lent = refl
@@ -39,6 +39,7 @@ plan-done port c Free lent = refl
 plan-done port c (Tick o) lent = refl
 plan-done port c Audit lent = refl
 plan-done port c (Rent o) lent = refl
+plan-done port c (Sweep o) lent = refl
 
 -- Document 01, "A refusal returns its number and changes no table, record or buffer."
 pub refusal-unchanged : (port : Port) (c : Card) (q : Request) (r : Refusal) → perform port c q .answer ≡ Refused r → Unchanged c (q .lent) (perform port c q)

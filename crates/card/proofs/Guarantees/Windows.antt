@@ -16,9 +16,9 @@ use Rattle.card.specs.Pointers.{contains}
 use Rattle.card.specs.Card.{Public, Card, allocatedFlag, allocated, freeBlocks, longestInterval, windowAt, windowEnd, count, multiplicity, pointsTo}
 use Rattle.card.specs.SoundCard.{SoundCard}
 use Rattle.card.specs.SoundnessLaws.{allocated-below}
-use Rattle.card.specs.Plan.{NoneHolds, setWindow, setBlock, takeBlock, freeBlock, addPointer, raisePointer, lowerPointer, dropPointer, changePublic, change, changes, Buffers, Result, done, settle}
+use Rattle.card.specs.Plan.{NoneHolds, freedFlags, setWindow, setBlock, takeBlock, freeBlock, sweepBlock, addPointer, raisePointer, lowerPointer, dropPointer, changePublic, change, changes, Buffers, Result, done, settle}
 use Rattle.card.specs.ChangesLaws.{getD-set-raised, getD-set-changed, windowAt-block, windowAt-mode, windowAt-within}
-use Rattle.card.specs.Calls.{isDone, windowAfter, opensWindow, wanted, picks, takeAll, freedWith, modeOf, readPlan, writePlan, allocPlan, runStarts, nearestRun, allocContigPlan, createPlan, deletePlan, deleteTreePlan, keyPlan, renewPlan, forcePlan, freePlan, tickPlan, auditPlan, rentPlan}
+use Rattle.card.specs.Calls.{isDone, windowAfter, opensWindow, wanted, picks, takeAll, freedWith, modeOf, readPlan, writePlan, allocPlan, runStarts, nearestRun, allocContigPlan, createPlan, deletePlan, deleteTreePlan, keyPlan, renewPlan, forcePlan, freePlan, tickPlan, auditPlan, rentPlan, lowestWaiting, sweepEach, sweepPlan}
 use Rattle.card.specs.Session.{Request, plan, portOf, perform}
 use Rattle.card.specs.declared.Port.{Port}
 use Rattle.card.specs.declared.Port.the-variants.{Host, Service}
@@ -31,7 +31,7 @@ use Rattle.card.specs.declared.RenewOperands.{RenewOperands}
 use Rattle.card.specs.declared.ForceOperands.{ForceOperands}
 use Rattle.card.specs.declared.Answer.the-variants.{Done}
 use Rattle.card.specs.declared.Call.{Call}
-use Rattle.card.specs.declared.Call.the-variants.{Read, Write, Alloc, AllocContig, Create, Delete, DeleteTree, KeyRead, KeyWrite, Renew, Force, Free, Tick, Audit, Rent}
+use Rattle.card.specs.declared.Call.the-variants.{Read, Write, Alloc, AllocContig, Create, Delete, DeleteTree, KeyRead, KeyWrite, Renew, Force, Free, Tick, Audit, Rent, Sweep}
 use Rattle.card.proofs.Guarantees.Steps.{unallocated-flag}
 use Rattle.card.proofs.Guarantees.Severing.{treeDeleted, freed-allocated, deleted-frees, deleted-spares, deleted-blocks, deleted-sound}
 use Rattle.card.proofs.Guarantees.KeepsSound.{not-missing}
@@ -90,9 +90,14 @@ unfolding takeAll changes change changePublic
 takes-left c reference [] = refl
 takes-left c reference (b ∷ bs) = takes-left (change (change c (takeBlock b)) (addPointer reference b)) reference bs
 
--- A block whose flags become 0 is not allocated any more.
-freed : (c : Card) (flags : List ℕ) (b : ℕ) → b < length flags → ltb b (c .public .info .blocks) && allocatedFlag (getD (set flags b 0) b 0) ≡ false
-freed c flags b l = and-false-right (ltb b (c .public .info .blocks)) _ (ap allocatedFlag (getD-set-same flags b 0 0 l))
+sweeps-left : (c : Card) (bs : List ℕ) → changes c (sweepEach bs) .public .windows ≡ c .public .windows
+unfolding sweepEach changes change changePublic
+sweeps-left c [] = refl
+sweeps-left c (b ∷ bs) = sweeps-left (change c (sweepBlock b)) bs
+
+-- A block that is freed is not allocated any more.
+freed : (c : Card) (flags : List ℕ) (b : ℕ) → b < length flags → ltb b (c .public .info .blocks) && allocatedFlag (getD (set flags b freedFlags) b 0) ≡ false
+freed c flags b l = and-false-right (ltb b (c .public .info .blocks)) _ (ap allocatedFlag (getD-set-same flags b freedFlags 0 l))
 
 -- A block that a DELETE_TREE frees is unallocated then, so its windows are closed; another's stay.
 tree-closed : (c : Card) (a b : ℕ) → SoundCard c → allocated (c .public) b ≡ true → pointsTo (c .public) a b ≡ true → (call : Call) (m : Mode) (x : ℕ)
@@ -110,7 +115,7 @@ tree-closed c a b s held there call m x =
 
 plan-left : (port : Port) (c : Card) (call : Call) (lent : Buffers) → SoundCard c → NoneHolds (plan port c call lent .checks)
     → WindowsLeft port c (changes c (plan port c call lent .steps)) call
-unfolding plan portOf readPlan writePlan allocPlan allocContigPlan createPlan deletePlan deleteTreePlan keyPlan renewPlan forcePlan freePlan tickPlan auditPlan rentPlan changes change changePublic allocated
+unfolding plan portOf readPlan writePlan allocPlan allocContigPlan createPlan deletePlan deleteTreePlan keyPlan renewPlan forcePlan freePlan tickPlan auditPlan rentPlan sweepPlan changes change changePublic allocated
 plan-left port c (Read o) lent s h =
     ⊎-elim (λ e. same e) (λ r. oneSet (r .0) (byRead o) (r .1)) (opens-left port c (c .public) Reading (o .block) (o .interval))
 plan-left port c (Write o) lent s h =
@@ -129,7 +134,7 @@ plan-left port c (Delete o) lent s h = go (eqb (multiplicity (c .public) (o .sou
     held : allocated (c .public) (o .destination) ≡ true
     held = not-missing (c .public) (o .destination) (h .1 .0)
 
-    gone : ltb (o .destination) (c .public .info .blocks) && allocatedFlag (getD (set (c .public .flags) (o .destination) 0) (o .destination) 0) ≡ false
+    gone : ltb (o .destination) (c .public .info .blocks) && allocatedFlag (getD (set (c .public .flags) (o .destination) freedFlags) (o .destination) 0) ≡ false
     gone = freed c (c .public .flags) (o .destination) (omega (arith, allocated-below (c .public) (o .destination) held, s .shaped .hasLengths .flags))
 
     go : (once last : Bool)
@@ -149,6 +154,7 @@ plan-left port c Free lent s h = same refl
 plan-left port c (Tick o) lent s h = same refl
 plan-left port c Audit lent s h = same refl
 plan-left port c (Rent o) lent s h = same refl
+plan-left port c (Sweep o) lent s h = same (sweeps-left c (lowestWaiting (c .public) (o .most)))
 
 -- ---- what sets a window
 

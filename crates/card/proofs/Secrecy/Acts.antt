@@ -11,7 +11,7 @@ use Rattle.card.specs.SoundCard.{SoundCard}
 use Rattle.card.specs.Session.{Request, replies, afterAll, sentByHost, hostSession}
 use Rattle.card.specs.SessionLaws.{drop-replies, afterAll-append, afterAll-bytes}
 use Rattle.card.specs.Reach.{presents, presented}
-use Rattle.card.proofs.Secrecy.Theorem.{EqualBut, HiddenOrFree, HasKeys, Secret, secrecy-by}
+use Rattle.card.proofs.Secrecy.Theorem.{EqualBut, HiddenOrUnallocated, HasKeys, Secret, secrecy-by}
 
 -- ---- acts
 
@@ -97,7 +97,7 @@ keys-made K (a ∷ acts) c k =
     keys-append K (calls c a) (madeBy (left c a) acts) (keys-take K (a .made c) (a .held) (keys-left K (a .held) (heldBy acts) k))
     (keys-made K acts (left c a) (keys-right K (a .held) (heldBy acts) k))
 
-module _ (K : ℕ → ℕ → Bool) (c d : Card) (sc : SoundCard c) (sd : SoundCard d) (same : EqualBut (HiddenOrFree K c) c d) where
+module _ (K : ℕ → ℕ → Bool) (c d : Card) (sc : SoundCard c) (sd : SoundCard d) (same : EqualBut (HiddenOrUnallocated K c) c d) where
   -- The replies to more calls are the same on the two cards that the same calls before them left.
   same-replies : (before held : List Request) → HasKeys K before → HasKeys K held
       → replies (afterAll c (hostSession before)) (hostSession held) ≡ replies (afterAll d (hostSession before)) (hostSession held)
@@ -134,7 +134,7 @@ module _ (K : ℕ → ℕ → Bool) (c d : Card) (sc : SoundCard c) (sd : SoundC
 -- Any acts, and any two sound cards that are equal but for the contents of hidden and unallocated blocks. Hidden is judged on the starting
 -- card, with any keys that have all those presented in the calls that the acts hold.
 pub acts-secret : {bytes : ℕ} {A : Type 0} (K : ℕ → ℕ → Bool) (acts : List (Act bytes A)) → HasKeys K (heldBy acts)
-    → (c d : Card) → SoundCard c → SoundCard d → c .public .info .bytes ≡ bytes → EqualBut (HiddenOrFree K c) c d → ActsSecret K acts c d
+    → (c d : Card) → SoundCard c → SoundCard d → c .public .info .bytes ≡ bytes → EqualBut (HiddenOrUnallocated K c) c d → ActsSecret K acts c d
 unfolding afterAll presented
 acts-secret K acts k c d sc sd sized same =
     let both = same-acts K c d sc sd same sized acts [] c d refl refl (λ high low h. absurd (false≢true h)) k in

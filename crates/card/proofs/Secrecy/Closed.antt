@@ -6,7 +6,7 @@ use mathlib.Core.Bool.{Bool, true, false, not, false≢true}
 use mathlib.Core.List.{List}
 use native.Mathlib.Omega.{arith}
 use lib.Dec.{eqb, ltb}
-use lib.ListN.{length, getD, set, length-set, length-append}
+use lib.ListN.{length, getD, set, length-set, length-append, length-replicate}
 use lib.Seq.{getD-set-same, getD-set-other, set-out}
 use borrow.Author.Tests.{lt-ltb, ltb-true, eq-eqb}
 use Rattle.card.specs.Lists.{all}
@@ -14,11 +14,11 @@ use Rattle.card.specs.ListsLaws.{and-right, absurd-test, same-or-other, 
 use Rattle.card.specs.Pointers.{pointer, source, destination, contains, insert, remove, notFrom}
 use Rattle.card.specs.PointersLaws.{source-pointer, destination-pointer, contains-insert, contains-remove, contains-all}
 use Rattle.card.specs.KeepLaws.{keep-contains}
-use Rattle.card.specs.Contents.{zeros}
+use Rattle.card.specs.Contents.{fill, zeros}
 use Rattle.card.specs.ContentsLaws.{fill-length, block-fits}
 use Rattle.card.specs.Card.{Public, Card, flag, allocated, hasKey, isRoot, windowAt, windowEnd, windowOpen, inUse, pointsTo, keyHigh, keyLow}
 use Rattle.card.specs.SoundnessLaws.{allocated-below}
-use Rattle.card.specs.Plan.{Change, setWindow, setBlock, setKey, takeBlock, freeBlock, addPointer, raisePointer, lowerPointer, dropPointer, dropFrom, setTime, changePublic, changeKeys, changeContents, change}
+use Rattle.card.specs.Plan.{Change, freedFlags, withFlags, setWindow, setBlock, setKey, takeBlock, freeBlock, sweepBlock, addPointer, raisePointer, lowerPointer, dropPointer, dropFrom, setTime, changePublic, changeKeys, changeContents, change}
 use Rattle.card.specs.ChangesLaws.{windowAt-block, kept-high, kept-low, uncleared-high, uncleared-low, inserted-long, inserted-take, removed-take, removed-length, inUse-kept}
 use Rattle.card.specs.Reach.{keyPresented, sealed, Reach, unsealedRoot, byKey, openWindow, pointed}
 use Rattle.card.specs.declared.Mode.{Mode}
@@ -48,13 +48,18 @@ pub record Regular (c : Card) : Type 0 where
   pub contents : length (c .contents) ≡ c .public .info .blocks * c .public .info .bytes
   pub usedHigh : c .public .info .used ≤ length (c .public .pointers)
 
+-- A block below N that is not allocated, with no pointer of its own.
+abbrev pub Idle : Public → ℕ → Type 0
+Idle p b = (b < p .info .blocks) × (allocated p b ≡ false) × (all (λ w. not (eqb (source w) b)) (inUse p) ≡ true)
+
 -- What a host's call must show of a change on a card's public part, for a set of blocks to stay closed and the others to keep their contents.
 abbrev pub Allowed : (ℕ → Type 0) → Public → Change → Type 0
 Allowed G p (setWindow mode b end) = G b ⊎ (end ≤ p .info .time)
 Allowed G p (setBlock b ys) = G b × (b < p .info .blocks) × (length ys ≡ p .info .bytes)
 Allowed G p (setKey mode b key) = G b
-Allowed G p (takeBlock b) = (b < p .info .blocks) × (allocated p b ≡ false) × (all (λ w. not (eqb (source w) b)) (inUse p) ≡ true)
+Allowed G p (takeBlock b) = Idle p b
 Allowed G p (freeBlock b) = b < p .info .blocks
+Allowed G p (sweepBlock b) = Idle p b
 Allowed G p (addPointer a b) = G b × (b < p .info .blocks)
 Allowed G p (raisePointer a b) = Unit {0}
 Allowed G p (lowerPointer a b) = Unit {0}
@@ -62,13 +67,14 @@ Allowed G p (dropPointer a b) = contains (pointer a b) (inUse p) ≡ true
 Allowed G p (dropFrom bs) = Unit {0}
 Allowed G p (setTime t total) = p .info .time ≤ t
 
--- A block that is taken joins the set.
+-- A block that is taken or swept joins the set: its contents are known, and no pointer leads on from it.
 abbrev pub TakenBy : Change → ℕ → Type 0
 TakenBy (setWindow mode b end) x = ⊥
 TakenBy (setBlock b ys) x = ⊥
 TakenBy (setKey mode b key) x = ⊥
 TakenBy (takeBlock b) x = x ≡ b
 TakenBy (freeBlock b) x = ⊥
+TakenBy (sweepBlock b) x = x ≡ b
 TakenBy (addPointer a b) x = ⊥
 TakenBy (raisePointer a b) x = ⊥
 TakenBy (lowerPointer a b) x = ⊥
@@ -105,6 +111,12 @@ used-kept p bs = simp length-append (omega arith)
 
 -- ---- lengths are kept
 
+zeroed-length : (c : Card) (b : ℕ) → Regular c → b < c .public .info .blocks
+    → length (fill (c .public .info .bytes) (c .contents) b (zeros (c .public .info .bytes))) ≡ c .public .info .blocks * c .public .info .bytes
+zeroed-length c b r l =
+    fill-length (c .public .info .bytes) (c .contents) b (zeros (c .public .info .bytes)) (omega (arith, r .contents, block-fits (c .public .info .bytes) l)) (length-replicate _ 0)
+    ∙ r .contents
+
 pub regular-change : (G : ℕ → Type 0) (c : Card) (step : Change) → Regular c → Allowed G (c .public) step → Regular (change c step)
 unfolding change changePublic changeKeys changeContents
 regular-change G c (setWindow mode b end) r h = record { blocksHigh = r .blocksHigh; flags = r .flags; contents = r .contents; usedHigh = r .usedHigh }
@@ -123,13 +135,19 @@ regular-change G c (setKey mode b key) r h = record {
 regular-change G c (takeBlock b) r h = record {
   blocksHigh = r .blocksHigh;
   flags = length-set (c .public .flags) b _ ∙ r .flags;
-  contents = fill-length (c .public .info .bytes) (c .contents) b (zeros (c .public .info .bytes)) (omega (arith, r .contents, block-fits (c .public .info .bytes) (h .0))) (lib.ListN.length-replicate _ 0) ∙ r .contents;
+  contents = zeroed-length c b r (h .0);
   usedHigh = r .usedHigh;
 }
 regular-change G c (freeBlock b) r h = record {
   blocksHigh = r .blocksHigh;
   flags = length-set (c .public .flags) b _ ∙ r .flags;
   contents = r .contents;
+  usedHigh = r .usedHigh;
+}
+regular-change G c (sweepBlock b) r h = record {
+  blocksHigh = r .blocksHigh;
+  flags = length-set (c .public .flags) b _ ∙ r .flags;
+  contents = zeroed-length c b r (h .0);
   usedHigh = r .usedHigh;
 }
 regular-change G c (addPointer a b) r h = record {
@@ -271,32 +289,36 @@ module _ (K : ℕ → ℕ → Bool) (G : ℕ → Type 0) (c : Card) (r : Regular
         wasPointed = λ y g p. (same-set G y g, p);
       }
 
-  closed-takeBlock : (b : ℕ) → Allowed G (c .public) (takeBlock b) → Closed K (Grown G (takeBlock b)) (change c (takeBlock b))
-  unfolding change changePublic changeKeys changeContents allocated windowOpen pointsTo
-  closed-takeBlock b h =
-      frame K G (Grown G (takeBlock b)) c (change c (takeBlock b)) closed refl (λ x g. inl g)
+  -- A block that is taken or swept: its flags are set, whatever they become and whatever the contents are.
+  closed-joined : (b v : ℕ) (contents : List ℕ) → Idle (c .public) b
+      → Closed K (λ x. G x ⊎ (x ≡ b)) (record { public = withFlags (c .public) (set (c .public .flags) b v); keys = c .keys; contents = contents })
+  unfolding allocated windowOpen pointsTo
+  closed-joined b v contents h =
+      frame K G (λ x. G x ⊎ (x ≡ b)) c joined closed refl (λ x g. inl g)
       (λ x a. ⊎-elim (λ (e : x ≡ b). inl (inr e)) (λ (n : x ≡ b → ⊥). inr (framed x a n)) (same-or-other x b))
     where
-      same : (x : ℕ) → (x ≡ b → ⊥) → SameKeys c (change c (takeBlock b)) x
+      joined : Card
+      joined = record { public = withFlags (c .public) (set (c .public .flags) b v); keys = c .keys; contents = contents }
+
+      same : (x : ℕ) → (x ≡ b → ⊥) → SameKeys c joined x
       same x n = record { sameFlag = getD-set-other (c .public .flags) b x _ 0 n; sameHigh = λ m. refl; sameLow = λ m. refl }
 
-      -- No pointer leaves the block that is taken.
+      -- No pointer leaves the block.
       unpointed : (x y : ℕ) → x < 65536 → y ≡ b → contains (pointer y x) (inUse (c .public)) ≡ true → ⊥
       unpointed x y l e p =
           let elsewhere = contains-all (λ w. not (eqb (source w) b)) (pointer y x) (inUse (c .public)) p (h .2) in
           absurd-test (eq-eqb (source (pointer y x)) b (source-pointer y x l ∙ e)) (borrow.Author.Tests.not-true _ elsewhere)
 
-      framed : (x : ℕ) → allocated (change c (takeBlock b) .public) x ≡ true → (x ≡ b → ⊥)
-          → Framed K G (Grown G (takeBlock b)) c (change c (takeBlock b)) x
+      framed : (x : ℕ) → allocated (joined .public) x ≡ true → (x ≡ b → ⊥) → Framed K G (λ x. G x ⊎ (x ≡ b)) c joined x
       framed x a n = record {
-        wasAllocated = rw (getD-set-other (c .public .flags) b x 1 0 n) at a;
+        wasAllocated = rw (getD-set-other (c .public .flags) b x v 0 n) at a;
         wasUnsealed = λ s. sym (sealed-same K c _ x (same x n)) ∙ s;
         wasPresented = λ m k. sym (presented-same K c _ x (same x n) m) ∙ k;
         wasOpen = λ m o. o;
         wasPointed = λ y g p.
             ⊎-elim (λ (k : G y). (k, p))
             (λ (e : y ≡ b).
-            absurd (unpointed x y (omega (arith, r .blocksHigh, allocated-below (change c (takeBlock b) .public) x a)) e p))
+            absurd (unpointed x y (omega (arith, r .blocksHigh, allocated-below (joined .public) x a)) e p))
             g;
       }
 
@@ -308,12 +330,12 @@ module _ (K : ℕ → ℕ → Bool) (G : ℕ → Type 0) (c : Card) (r : Regular
     where
       freed : (x : ℕ) → x ≡ b → allocated (change c (freeBlock b) .public) x ≡ true → ⊥
       freed x e a =
-          let zero-flag : getD (set (c .public .flags) b 0) x 0 ≡ 0 = rw e (getD-set-same (c .public .flags) b 0 0 (omega (arith, r .flags))) in
-          false≢true (rw zero-flag at (and-right (ltb x (c .public .info .blocks)) _ a))
+          let waits : getD (set (c .public .flags) b freedFlags) x 0 ≡ freedFlags = rw e (getD-set-same (c .public .flags) b freedFlags 0 (omega (arith, r .flags))) in
+          false≢true (rw waits at (and-right (ltb x (c .public .info .blocks)) _ a))
 
       same : (x : ℕ) → (x ≡ b → ⊥) → SameKeys c (change c (freeBlock b)) x
       same x n = record {
-        sameFlag = getD-set-other (c .public .flags) b x 0 0 n;
+        sameFlag = getD-set-other (c .public .flags) b x freedFlags 0 n;
         sameHigh = λ m. uncleared-high (c .keys) b m x n;
         sameLow = λ m. uncleared-low (c .keys) b m x n;
       }
@@ -327,7 +349,7 @@ module _ (K : ℕ → ℕ → Bool) (G : ℕ → Type 0) (c : Card) (r : Regular
       framed : (x : ℕ) → allocated (change c (freeBlock b) .public) x ≡ true → (x ≡ b → ⊥)
           → Framed K G (Grown G (freeBlock b)) c (change c (freeBlock b)) x
       framed x a n = record {
-        wasAllocated = rw (getD-set-other (c .public .flags) b x 0 0 n) at a;
+        wasAllocated = rw (getD-set-other (c .public .flags) b x freedFlags 0 n) at a;
         wasUnsealed = λ s. sym (sealed-same K c _ x (same x n)) ∙ s;
         wasPresented = λ m k. sym (presented-same K c _ x (same x n) m) ∙ k;
         wasOpen = λ m o. opened m x o;
@@ -429,13 +451,15 @@ module _ (K : ℕ → ℕ → Bool) (G : ℕ → Type 0) (c : Card) (r : Regular
       still : (end : ℕ) → ltb t end ≡ true → ltb (c .public .info .time) end ≡ true
       still end o = lt-ltb (c .public .info .time) end (omega (arith, ltb-true t end o))
 
-  -- The set, with a block that is taken, stays closed under an allowed change.
+  -- The set, with a block that is taken or swept, stays closed under an allowed change.
   pub closed-change : (step : Change) → Allowed G (c .public) step → Closed K (Grown G step) (change c step)
+  unfolding change changePublic changeKeys changeContents
   closed-change (setWindow mode b end) h = closed-setWindow mode b end h
   closed-change (setBlock b ys) h = closed-setBlock b ys
   closed-change (setKey mode b key) h = closed-setKey mode b key h
-  closed-change (takeBlock b) h = closed-takeBlock b h
+  closed-change (takeBlock b) h = closed-joined b 1 _ h
   closed-change (freeBlock b) h = closed-freeBlock b h
+  closed-change (sweepBlock b) h = closed-joined b 0 _ h
   closed-change (addPointer a b) h = closed-addPointer a b h
   closed-change (raisePointer a b) h = closed-raisePointer a b
   closed-change (lowerPointer a b) h = closed-lowerPointer a b

@@ -5,21 +5,21 @@ use mathlib.Core.Logic.{inl, inr}
 use mathlib.Core.Bool.{Bool, true, false, not, cond}
 use mathlib.Core.List.{List, [], _∷_}
 use native.Mathlib.Omega.{arith}
-use lib.Dec.{eqb, ltb}
-use lib.ListN.{length}
+use lib.Dec.{eqb}
+use lib.ListN.{length, set}
 use lib.Seq.{getD-set-other}
-use borrow.Author.Tests.{eqb-true, eqb-false, ltb-true, not-false, not-true, ne-eqb}
+use borrow.Author.Tests.{eqb-true, eqb-false, not-false, not-true, ne-eqb}
 use Rattle.card.specs.Lists.{all}
 use Rattle.card.specs.ListsLaws.{or-right, or-false-left, all-head, all-tail, all-map, absurd-test}
 use Rattle.card.specs.Pointers.{pointer, source, contains}
-use Rattle.card.specs.PointersLaws.{all-insert, source-pointer}
-use Rattle.card.specs.Card.{Public, Card, allocated, inUse, pointsTo, hasKey, count, multiplicity}
+use Rattle.card.specs.PointersLaws.{all-insert, source-pointer, contains-all}
+use Rattle.card.specs.Card.{Public, Card, allocated, waiting, free, inUse, pointsTo, hasKey, count, multiplicity}
 use Rattle.card.specs.Soundness.{pointerRight}
 use Rattle.card.specs.SoundCard.{SoundCard}
-use Rattle.card.specs.SoundnessLaws.{pointerRight-true, allocated-below}
+use Rattle.card.specs.SoundnessLaws.{pointerRight-true, allocated-below, free-below, free-unallocated, waiting-below, waiting-unallocated}
 use Rattle.card.specs.Access.{admits}
-use Rattle.card.specs.Plan.{NoneHolds, setWindow, setBlock, setKey, takeBlock, freeBlock, addPointer, raisePointer, lowerPointer, dropPointer, changePublic, Shown, nothing, blockPart, numbers, Plan, Buffers}
-use Rattle.card.specs.Calls.{windowAfter, opensWindow, closeWindows, modeOf, wanted, takeAll, readPlan, writePlan, allocPlan, allocContigPlan, createPlan, deletePlan, freedWith, freeEach, deleteTreePlan, keyPlan, renewPlan, forcePlan, freePlan, tickPlan, auditPlan, rentPlan}
+use Rattle.card.specs.Plan.{NoneHolds, setWindow, setBlock, setKey, takeBlock, freeBlock, sweepBlock, addPointer, raisePointer, lowerPointer, dropPointer, withFlags, changePublic, Shown, nothing, blockPart, numbers, Plan, Buffers}
+use Rattle.card.specs.Calls.{windowAfter, opensWindow, closeWindows, modeOf, wanted, takeAll, readPlan, writePlan, allocPlan, allocContigPlan, createPlan, deletePlan, freedWith, freeEach, deleteTreePlan, keyPlan, renewPlan, forcePlan, freePlan, tickPlan, auditPlan, rentPlan, lowestWaiting, sweepEach, sweepPlan}
 use Rattle.card.specs.Session.{keyCall, plan, traits}
 use Rattle.card.specs.Reach.{shows, presents, someShows}
 use Rattle.card.specs.declared.Port.the-variants.{Host}
@@ -36,14 +36,17 @@ use Rattle.card.specs.declared.RenewOperands.{RenewOperands}
 use Rattle.card.specs.declared.ForceOperands.{ForceOperands}
 use Rattle.card.specs.declared.TickOperands.{TickOperands}
 use Rattle.card.specs.declared.RentOperands.{RentOperands}
+use Rattle.card.specs.declared.SweepOperands.{SweepOperands}
 use Rattle.card.specs.declared.Call.{Call}
-use Rattle.card.specs.declared.Call.the-variants.{Read, Write, Alloc, AllocContig, Create, Delete, DeleteTree, KeyRead, KeyWrite, Renew, Force, Free, Tick, Audit, Rent}
+use Rattle.card.specs.declared.Call.the-variants.{Read, Write, Alloc, AllocContig, Create, Delete, DeleteTree, KeyRead, KeyWrite, Renew, Force, Free, Tick, Audit, Rent, Sweep}
 use Rattle.card.specs.NearestLaws.{contains-here, contains-there}
 use Rattle.card.specs.TreeLaws.{ordinary-below, orphans-ordinary}
 use Rattle.card.specs.Takeable.{Without, Distinct, none, more, Takeable}
 use Rattle.card.specs.PicksLaws.{picks-takeable}
 use Rattle.card.specs.RunsLaws.{run-takeable}
-use Rattle.card.proofs.Secrecy.Closed.{Closed, Regular, Grown, inUse-added, used-added}
+use Rattle.card.specs.SweepLaws.{lowest-sweepable}
+use Rattle.card.proofs.Guarantees.Steps.{unallocated-set}
+use Rattle.card.proofs.Secrecy.Closed.{Closed, Regular, Idle, Grown, inUse-added, used-added}
 use Rattle.card.proofs.Secrecy.StepsAlike.{AllowedAll}
 use Rattle.card.proofs.Secrecy.Opened.{AllPresented, opened-within}
 
@@ -147,19 +150,31 @@ sound-unpointing {c} s b a =
     (inUse (c .public)) (s .isSound .pointersRight)
 
 ready : {c : Card} → SoundCard c → (reference : ℕ) → allocated (c .public) reference ≡ true → (bs : List ℕ)
-    → all (λ b. ltb b (c .public .info .blocks)) bs ≡ true → all (λ b. not (allocated (c .public) b)) bs ≡ true → Distinct bs → Ready (c .public) reference bs
-ready s reference a [] l u none = tt
-ready {c} s reference a (b ∷ bs) l u (more w d) =
-    let free : allocated (c .public) b ≡ false = not-true _ (all-head (λ x. not (allocated (c .public) x)) b bs u) in (
+    → all (λ b. free (c .public) b) bs ≡ true → Distinct bs → Ready (c .public) reference bs
+ready s reference a [] u none = tt
+ready {c} s reference a (b ∷ bs) u (more w d) =
+    let isFree : free (c .public) b ≡ true = all-head (λ x. free (c .public) x) b bs u in
+    let unallocated : allocated (c .public) b ≡ false = free-unallocated (c .public) b isFree in (
       record {
-        below = ltb-true _ _ (all-head (λ x. ltb x (c .public .info .blocks)) b bs l);
-        unallocated = free;
-        unpointing = sound-unpointing s b free;
-        other = λ e. absurd-test a (subst (λ (n : ℕ). allocated (c .public) n ≡ false) (sym e) free);
+        below = free-below (c .public) b isFree;
+        unallocated = unallocated;
+        unpointing = sound-unpointing s b unallocated;
+        other = λ e. absurd-test a (subst (λ (n : ℕ). allocated (c .public) n ≡ false) (sym e) unallocated);
       },
       w,
-      ready s reference a bs (all-tail (λ x. ltb x (c .public .info .blocks)) b bs l) (all-tail (λ x. not (allocated (c .public) x)) b bs u) d,
+      ready s reference a bs (all-tail (λ x. free (c .public) x) b bs u) d,
     )
+
+-- ---- SWEEP sweeps blocks that no pointer leaves
+
+sweepEach-allowed : (G : ℕ → Type 0) (p : Public) (bs : List ℕ) → ((b : ℕ) → contains b bs ≡ true → Idle p b) → AllowedAll G p (sweepEach bs)
+unfolding sweepEach changePublic
+sweepEach-allowed G p [] idle = tt
+sweepEach-allowed G p (b ∷ bs) idle =
+    (idle b (contains-here b bs), sweepEach-allowed _ (changePublic (sweepBlock b) p) bs (λ x h. still-idle p b x (idle x (contains-there x b bs h))))
+  where
+    still-idle : (p : Public) (b x : ℕ) → Idle p x → Idle (withFlags p (set (p .flags) b 0)) x
+    still-idle p b x i = (i .0, unallocated-set p b x (i .1), i .2)
 
 -- ---- DELETE_TREE frees blocks below N
 
@@ -202,7 +217,7 @@ module _ (K : ℕ → ℕ → Bool) (G : ℕ → Type 0) (c : Card) (s : SoundCa
   allotted : (reference : ℕ) → not (allocated (c .public) reference) ≡ false → {bs : List ℕ} → Takeable (c .public) bs → AllowedAll G (c .public) (takeAll reference bs)
   allotted reference a {bs} t =
       takeAll-allowed G (c .public) reference bs (s .shaped .inRanges .blocksHigh) (s .shaped .usedHigh)
-      (ready s reference (not-false _ a) bs (t .below) (t .free) (t .distinct))
+      (ready s reference (not-false _ a) bs (t .free) (t .distinct))
 
   safe-alloc : (o : AllocOperands) (lent : Buffers) → NoneHolds (plan Host c (Alloc o) lent .checks) → Safe G c (plan Host c (Alloc o) lent)
   unfolding plan allocPlan
@@ -292,6 +307,19 @@ module _ (K : ℕ → ℕ → Bool) (G : ℕ → Type 0) (c : Card) (s : SoundCa
   unfolding plan rentPlan
   safe-rent o lent = record { shownIn = tt; allowed = tt }
 
+  safe-sweep : (o : SweepOperands) (lent : Buffers) → Safe G c (plan Host c (Sweep o) lent)
+  unfolding plan sweepPlan
+  safe-sweep o lent =
+      let bs : List ℕ = lowestWaiting (c .public) (o .most) in
+      record {
+        shownIn = tt;
+        allowed = sweepEach-allowed G (c .public) bs
+            (λ b h.
+            let waits : waiting (c .public) b ≡ true = contains-all (λ x. waiting (c .public) x) b bs h (lowest-sweepable (c .public) (o .most) .waiting) in
+            let unallocated : allocated (c .public) b ≡ false = waiting-unallocated (c .public) b waits in
+            (waiting-below (c .public) b waits, unallocated, sound-unpointing s b unallocated));
+      }
+
   -- A host's call that no check refuses is safe.
   pub safe : (call : Call) (lent : Buffers) → CallPresents K call → NoneHolds (plan Host c call lent .checks) → Safe G c (plan Host c call lent)
   safe (Read o) lent k n = safe-read o lent k n
@@ -309,3 +337,4 @@ module _ (K : ℕ → ℕ → Bool) (G : ℕ → Type 0) (c : Card) (s : SoundCa
   safe (Tick o) lent k n = safe-tick o lent
   safe Audit lent k n = safe-audit lent
   safe (Rent o) lent k n = safe-rent o lent
+  safe (Sweep o) lent k n = safe-sweep o lent

@@ -15,7 +15,7 @@ use Rattle.card.specs.declared.Refusal.{Refusal}
 use Rattle.card.specs.declared.Answer.{Answer}
 use Rattle.card.proofs.Guarantees.Ledger.{after-sound}
 use Rattle.card.proofs.Guarantees.Rent.{renting}
-use Rattle.card.proofs.Secrecy.Theorem.{EqualBut, HiddenOrFree, secrecy}
+use Rattle.card.proofs.Secrecy.Theorem.{EqualBut, HiddenOrUnallocated, secrecy}
 
 -- What RENT answers at a price.
 abbrev pub asked : Port → Card → RentOperands → Buffers → Answer
@@ -42,7 +42,7 @@ asked-alike {c} {d} s t same port o lent =
     ∙ sym (ap (λ (r : Result). r .answer) (judge-sound d lent p t))
 
 -- "The total depends on no block's contents, so two sessions alike in all but hidden contents pay alike."
-pub rent-alike : (session : List Request) (c d : Card) → SoundCard c → SoundCard d → EqualBut (HiddenOrFree (presented session) c) c d
+pub rent-alike : (session : List Request) (c d : Card) → SoundCard c → SoundCard d → EqualBut (HiddenOrUnallocated (presented session) c) c d
     → PayAlike (afterAll c (hostSession session)) (afterAll d (hostSession session))
 rent-alike session c d s t same =
     let public = secrecy session c d s t same .cards .samePublic in

@@ -9,12 +9,12 @@ use lib.Dec.{eqb}
 use lib.ListN.{length}
 use borrow.Author.Tests.{eq-eqb}
 use Rattle.card.specs.ListsLaws.{and-true, or-left, or-right, or-false-left, or-false-right, absurd-test}
-use Rattle.card.specs.Card.{Public, Card, allocated, freeBlocks, block, count, multiplicity, pointsTo}
+use Rattle.card.specs.Card.{Public, Card, allocatedFlag, freeFlag, allocated, free, freeBlocks, block, count, multiplicity, pointsTo}
 use Rattle.card.specs.SoundCard.{SoundCard}
 use Rattle.card.specs.Access.{opens, admits}
 use Rattle.card.specs.Plan.{setWindow, freeBlock, addPointer, raisePointer, lowerPointer, dropPointer, NoneHolds, first, Shown, nothing, blockPart, numbers, Plan, Buffers, Result, refused, done, outAfter, settle, judgeSound}
 use Rattle.card.specs.PlanLaws.{first-none, judge-sound}
-use Rattle.card.specs.Calls.{opensWindow, windowAfter, modeOf, wanted, picks, takeAll, readPlan, writePlan, allocPlan, runStarts, nearestRun, allocContigPlan, createPlan, deletePlan, deleteTreePlan, keyPlan, renewPlan, forcePlan, freePlan, tickPlan, auditPlan, rentPlan}
+use Rattle.card.specs.Calls.{opensWindow, windowAfter, modeOf, wanted, picks, takeAll, readPlan, writePlan, allocPlan, runStarts, nearestRun, allocContigPlan, createPlan, deletePlan, deleteTreePlan, keyPlan, renewPlan, forcePlan, freePlan, tickPlan, auditPlan, rentPlan, lowestWaiting, sweepEach, sweepPlan}
 use Rattle.card.specs.Session.{Request, plan, perform, reply, replies, afterAll, hostSession, traits}
 use Rattle.card.specs.Reach.{shows, presents, someShows, takesLast, isOne, lastTaken}
 use Rattle.card.specs.declared.Port.the-variants.{Host}
@@ -24,7 +24,7 @@ use Rattle.card.specs.declared.Credential.{Credential}
 use Rattle.card.specs.declared.Credential.the-variants.{Key as KeyCredential}
 use Rattle.card.specs.declared.Refusal.{Refusal}
 use Rattle.card.specs.declared.Call.{Call}
-use Rattle.card.specs.declared.Call.the-variants.{Read, Write, Alloc, AllocContig, Create, Delete, DeleteTree, KeyRead, KeyWrite, Renew, Force, Free, Tick, Audit, Rent}
+use Rattle.card.specs.declared.Call.the-variants.{Read, Write, Alloc, AllocContig, Create, Delete, DeleteTree, KeyRead, KeyWrite, Renew, Force, Free, Tick, Audit, Rent, Sweep}
 use Rattle.card.proofs.Secrecy.Closed.{Closed}
 use Rattle.card.proofs.Secrecy.StepsAlike.{Alike, Kept, GrownAll, grows, closed-changes, alike-changes, covered, Frees, FreesNone, KeptApart, apart-changes}
 use Rattle.card.proofs.Secrecy.Opened.{AllPresented}
@@ -48,6 +48,7 @@ pub record BothNext (K : ℕ → ℕ → Bool) (L : Public → List ℕ → List
   pub closed : Closed K G′ c′
   pub alike : Alike L G′ c′ d′
   pub new : (x : ℕ) → allocated (c′ .public) x ≡ true → G′ x ⊎ (allocated (c .public) x ≡ true)
+  pub newFree : (x : ℕ) → free (c′ .public) x ≡ true → G′ x ⊎ (free (c .public) x ≡ true)
 
 module _ (K : ℕ → ℕ → Bool) (L : Public → List ℕ → List ℕ → Type 0) (link : KeyLink K L) (G : ℕ → Type 0) (c d : Card) (alike : Alike L G c d) where
   same-opens : (mode : Mode) (b : ℕ) (credential : Credential) → AllPresented K credential → opens c mode b credential ≡ opens d mode b credential
@@ -81,6 +82,7 @@ module _ (K : ℕ → ℕ → Bool) (L : Public → List ℕ → List ℕ → Ty
   plan-same (Tick o) lent k = ap (λ (p : Public). tickPlan p o) (alike .samePublic)
   plan-same Audit lent k = refl
   plan-same (Rent o) lent k = ap (λ (p : Public). rentPlan p o) (alike .samePublic)
+  plan-same (Sweep o) lent k = ap (λ (p : Public). sweepPlan p o) (alike .samePublic)
 
   -- What is shown is the same.
   same-shown : (shown : Shown) (out : List ℕ) → ShownIn G shown → outAfter c shown out ≡ outAfter d shown out
@@ -104,10 +106,11 @@ module _ (K : ℕ → ℕ → Bool) (L : Public → List ℕ → List ℕ → Ty
   both-refused : (lent : Buffers) (r : Refusal) → Both K L G c (refused c lent r) (refused d lent r)
   both-refused lent r = record {
     sameReply = refl;
-    next = record { G′ = G; larger = λ x g. g; closed = closed; alike = alike; new = λ x a. inr a };
+    next = record { G′ = G; larger = λ x g. g; closed = closed; alike = alike; new = λ x a. inr a; newFree = λ x a. inr a };
   }
 
   both-done : (lent : Buffers) (p : Plan) → Safe G c p → Both K L G c (done c lent p) (done d lent p)
+  unfolding allocated free
   both-done lent p s = record {
     sameReply =
         ap (λ (out : List ℕ). reply (record { answer = p .answer; after = c; out = out; places = done c lent p .places }))
@@ -117,7 +120,8 @@ module _ (K : ℕ → ℕ → Bool) (L : Public → List ℕ → List ℕ → Ty
       larger = grows G (p .steps);
       closed = closed-changes K G c (p .steps) (sound-regular sc) (s .allowed) closed;
       alike = alike-changes L (link .kept) G c d (p .steps) (sound-regular sc) (sound-regular sd) (s .allowed) alike;
-      new = covered G c (p .steps) (sound-regular sc) (s .allowed);
+      new = covered allocatedFlag refl G c (p .steps) (sound-regular sc) (s .allowed);
+      newFree = covered freeFlag refl G c (p .steps) (sound-regular sc) (s .allowed);
     };
   }
 
@@ -150,7 +154,7 @@ module _ (K : ℕ → ℕ → Bool) (L : Public → List ℕ → List ℕ → Ty
   unfolding replies afterAll
   both-run [] G c d sc sd closed alike k = record {
     sameReplies = refl;
-    next = record { G′ = G; larger = λ x g. g; closed = closed; alike = alike; new = λ x a. inr a };
+    next = record { G′ = G; larger = λ x g. g; closed = closed; alike = alike; new = λ x a. inr a; newFree = λ x a. inr a };
   }
   both-run (q ∷ qs) G c d sc sd closed alike k =
       let one = both K L link G c d sc sd closed alike q (k .0) in
@@ -163,6 +167,7 @@ module _ (K : ℕ → ℕ → Bool) (L : Public → List ℕ → List ℕ → Ty
           closed = rest .next .closed;
           alike = rest .next .alike;
           new = λ x a. ⊎-elim (λ g. inl g) (λ b. ⊎-elim (λ g. inl (rest .next .larger x g)) (λ h. inr h) (one .next .new x b)) (rest .next .new x a);
+          newFree = λ x a. ⊎-elim (λ g. inl g) (λ b. ⊎-elim (λ g. inl (rest .next .larger x g)) (λ h. inr h) (one .next .newFree x b)) (rest .next .newFree x a);
         };
       }
 
@@ -172,6 +177,11 @@ takes-free-none : (reference : ℕ) (bs : List ℕ) (x : ℕ) → FreesNone (tak
 unfolding takeAll
 takes-free-none reference [] x = tt
 takes-free-none reference (b ∷ bs) x = (λ f. f, (λ f. f, takes-free-none reference bs x))
+
+sweeps-free-none : (bs : List ℕ) (x : ℕ) → FreesNone (sweepEach bs) x
+unfolding sweepEach
+sweeps-free-none [] x = tt
+sweeps-free-none (b ∷ bs) x = (λ f. f, sweeps-free-none bs x)
 
 -- A set closed on the card that a call leaves, and an allocated block outside the set before, as the call leaves it.
 pub record OneNext (K : ℕ → ℕ → Bool) (G : ℕ → Type 0) (c c′ : Card) (x : ℕ) : Type 1 where
@@ -183,7 +193,7 @@ module _ (K : ℕ → ℕ → Bool) (G : ℕ → Type 0) (c : Card) (s : SoundCa
   -- A done call that does not take the last pointer of a block outside the set away frees that block by no change.
   frees-none : (call : Call) (lent : Buffers) → CallPresents K call → NoneHolds (plan Host c call lent .checks) → takesLast call (plan Host c call lent .answer) x ≡ false
       → FreesNone (plan Host c call lent .steps) x
-  unfolding plan takesLast isOne readPlan writePlan allocPlan allocContigPlan createPlan deletePlan keyPlan renewPlan forcePlan freePlan tickPlan auditPlan rentPlan opensWindow traits
+  unfolding plan takesLast isOne readPlan writePlan allocPlan allocContigPlan createPlan deletePlan keyPlan renewPlan forcePlan freePlan tickPlan auditPlan rentPlan sweepPlan opensWindow traits
   frees-none (Read o) lent k n e = go (eqb (o .interval) 0)
     where
       go : (t : Bool) → FreesNone (cond t [] (setWindow Reading (o .block) (windowAfter (c .public) Reading (o .block) (o .interval)) ∷ [])) x
@@ -220,6 +230,7 @@ module _ (K : ℕ → ℕ → Bool) (G : ℕ → Type 0) (c : Card) (s : SoundCa
   frees-none (Tick o) lent k n e = (λ f. f, tt)
   frees-none Audit lent k n e = tt
   frees-none (Rent o) lent k n e = tt
+  frees-none (Sweep o) lent k n e = sweeps-free-none (lowestWaiting (c .public) (o .most)) x
 
   one-settled : (q : Request) → CallPresents K (q .call) → (o : Option Refusal) → first (plan Host c (q .call) (q .lent) .checks) ≡ o
       → takesLast (q .call) (settle c (q .lent) (plan Host c (q .call) (q .lent)) o .answer) x ≡ false

@@ -2,18 +2,18 @@
 use Prim.Native.Nat.{ℕ, _+_, _*_, _≤_, _<_}
 use mathlib.Core.Path.{_≡_, refl, sym, ap, _∙_, subst}
 use mathlib.Core.Logic.{_⊎_, inl, inr, ⊎-elim}
-use mathlib.Core.Bool.{Bool, true, false}
+use mathlib.Core.Bool.{Bool, true, false, _&&_}
 use mathlib.Core.List.{List, [], _∷_}
 use native.Mathlib.Omega.{arith}
 use lib.Dec.{ltb}
-use lib.ListN.{length, getD, set, length-replicate}
+use lib.ListN.{length, set, length-replicate}
 use lib.Seq.{getD-set-same, getD-set-other}
 use Rattle.card.specs.ListsLaws.{and-right, absurd-test, same-or-other}
-use Rattle.card.specs.Contents.{zeros}
+use Rattle.card.specs.Contents.{part, fill, zeros}
 use Rattle.card.specs.ContentsLaws.{part-fill-same, part-fill-other, block-fits}
-use Rattle.card.specs.Card.{Public, Card, allocated, block}
-use Rattle.card.specs.Plan.{Change, setWindow, setBlock, setKey, takeBlock, freeBlock, addPointer, raisePointer, lowerPointer, dropPointer, dropFrom, setTime, changePublic, changeKeys, changeContents, change, changes}
-use Rattle.card.proofs.Secrecy.Closed.{Closed, Regular, Allowed, Grown, regular-change, closed-change}
+use Rattle.card.specs.Card.{Public, Card, flag, allocated, block}
+use Rattle.card.specs.Plan.{Change, freedFlags, withFlags, setWindow, setBlock, setKey, takeBlock, freeBlock, sweepBlock, addPointer, raisePointer, lowerPointer, dropPointer, dropFrom, setTime, changePublic, changeKeys, changeContents, change, changes}
+use Rattle.card.proofs.Secrecy.Closed.{Closed, Regular, Idle, Allowed, Grown, regular-change, closed-change}
 
 -- ---- the contents of a block after one change
 
@@ -24,6 +24,7 @@ WrittenBy (setBlock b ys) x = x ≡ b
 WrittenBy (setKey mode b key) x = ⊥
 WrittenBy (takeBlock b) x = x ≡ b
 WrittenBy (freeBlock b) x = ⊥
+WrittenBy (sweepBlock b) x = x ≡ b
 WrittenBy (addPointer a b) x = ⊥
 WrittenBy (raisePointer a b) x = ⊥
 WrittenBy (lowerPointer a b) x = ⊥
@@ -35,15 +36,24 @@ WrittenBy (setTime t total) x = ⊥
 fits : (c : Card) (b : ℕ) → Regular c → b < c .public .info .blocks → b * c .public .info .bytes + c .public .info .bytes ≤ length (c .contents)
 fits c b r h = omega (arith, r .contents, block-fits (c .public .info .bytes) h)
 
+-- A block filled with zeros, and another.
+zeroed : (c : Card) (b : ℕ) → Regular c → b < c .public .info .blocks
+    → part (c .public .info .bytes) (fill (c .public .info .bytes) (c .contents) b (zeros (c .public .info .bytes))) b ≡ zeros (c .public .info .bytes)
+zeroed c b r l = part-fill-same (c .public .info .bytes) (c .contents) b (zeros (c .public .info .bytes)) (fits c b r l) (length-replicate _ 0)
+
+zeroed-other : (c : Card) (b : ℕ) → Regular c → b < c .public .info .blocks → (x : ℕ) → (x ≡ b → ⊥)
+    → part (c .public .info .bytes) (fill (c .public .info .bytes) (c .contents) b (zeros (c .public .info .bytes))) x ≡ block c x
+zeroed-other c b r l x n = part-fill-other (c .public .info .bytes) (c .contents) b (zeros (c .public .info .bytes)) (fits c b r l) (length-replicate _ 0) x n
+
 block-kept : (G : ℕ → Type 0) (c : Card) (step : Change) → Regular c → Allowed G (c .public) step → (x : ℕ) → (WrittenBy step x → ⊥)
     → block (change c step) x ≡ block c x
 unfolding change changePublic changeContents
 block-kept G c (setWindow mode b end) r h x n = refl
 block-kept G c (setBlock b ys) r h x n = part-fill-other (c .public .info .bytes) (c .contents) b ys (fits c b r (h .1)) (h .2) x n
 block-kept G c (setKey mode b key) r h x n = refl
-block-kept G c (takeBlock b) r h x n =
-    part-fill-other (c .public .info .bytes) (c .contents) b (zeros (c .public .info .bytes)) (fits c b r (h .0)) (length-replicate _ 0) x n
+block-kept G c (takeBlock b) r h x n = zeroed-other c b r (h .0) x n
 block-kept G c (freeBlock b) r h x n = refl
+block-kept G c (sweepBlock b) r h x n = zeroed-other c b r (h .0) x n
 block-kept G c (addPointer a b) r h x n = refl
 block-kept G c (raisePointer a b) r h x n = refl
 block-kept G c (lowerPointer a b) r h x n = refl
@@ -64,6 +74,14 @@ abbrev pub Kept : (Public → List ℕ → List ℕ → Type 0) → Type 0
 Kept L = (p : Public) (ks ls : List ℕ) (step : Change) → L p ks ls → L (changePublic step p) (changeKeys step ks) (changeKeys step ls)
 
 module _ (L : Public → List ℕ → List ℕ → Type 0) (kept : Kept L) (G : ℕ → Type 0) (c d : Card) (rc : Regular c) (rd : Regular d) (alike : Alike L G c d) where
+  same-zeroed : (b : ℕ) → Idle (c .public) b
+      → part (c .public .info .bytes) (fill (c .public .info .bytes) (c .contents) b (zeros (c .public .info .bytes))) b
+      ≡ part (d .public .info .bytes) (fill (d .public .info .bytes) (d .contents) b (zeros (d .public .info .bytes))) b
+  same-zeroed b h =
+      zeroed c b rc (h .0)
+      ∙ ap (λ (p : Public). zeros (p .info .bytes)) (alike .samePublic)
+      ∙ sym (zeroed d b rd (subst (λ (p : Public). b < p .info .blocks) (alike .samePublic) (h .0)))
+
   -- A block that both cards have written alike.
   same-written : (step : Change) → Allowed G (c .public) step → (x : ℕ) → WrittenBy step x → block (change c step) x ≡ block (change d step) x
   unfolding change changePublic changeContents
@@ -74,13 +92,9 @@ module _ (L : Public → List ℕ → List ℕ → Type 0) (kept : Kept L) (G : 
       (part-fill-same (c .public .info .bytes) (c .contents) b ys (fits c b rc (h .1)) (h .2)
       ∙ sym (part-fill-same (d .public .info .bytes) (d .contents) b ys (fits d b rd (h′ .1)) (h′ .2)))
   same-written (setKey mode b key) h x w = absurd w
-  same-written (takeBlock b) h x w =
-      let h′ = subst (λ (p : Public). Allowed G p (takeBlock b)) (alike .samePublic) h in
-      rw w
-      (part-fill-same (c .public .info .bytes) (c .contents) b (zeros (c .public .info .bytes)) (fits c b rc (h .0)) (length-replicate _ 0)
-      ∙ ap (λ (p : Public). zeros (p .info .bytes)) (alike .samePublic)
-      ∙ sym (part-fill-same (d .public .info .bytes) (d .contents) b (zeros (d .public .info .bytes)) (fits d b rd (h′ .0)) (length-replicate _ 0)))
+  same-written (takeBlock b) h x w = rw w (same-zeroed b h)
   same-written (freeBlock b) h x w = absurd w
+  same-written (sweepBlock b) h x w = rw w (same-zeroed b h)
   same-written (addPointer a b) h x w = absurd w
   same-written (raisePointer a b) h x w = absurd w
   same-written (lowerPointer a b) h x w = absurd w
@@ -95,6 +109,7 @@ module _ (L : Public → List ℕ → List ℕ → Type 0) (kept : Kept L) (G : 
   joins (setKey mode b key) x g = g
   joins (takeBlock b) x g = g
   joins (freeBlock b) x g = g
+  joins (sweepBlock b) x g = g
   joins (addPointer a b) x g = g
   joins (raisePointer a b) x g = g
   joins (lowerPointer a b) x g = g
@@ -108,6 +123,7 @@ module _ (L : Public → List ℕ → List ℕ → Type 0) (kept : Kept L) (G : 
   written-or-not (setKey mode b key) x = inr (λ w. w)
   written-or-not (takeBlock b) x = same-or-other x b
   written-or-not (freeBlock b) x = inr (λ w. w)
+  written-or-not (sweepBlock b) x = same-or-other x b
   written-or-not (addPointer a b) x = inr (λ w. w)
   written-or-not (raisePointer a b) x = inr (λ w. w)
   written-or-not (lowerPointer a b) x = inr (λ w. w)
@@ -166,54 +182,92 @@ alike-changes L kept G c d (step ∷ steps) rc rd h alike =
     alike-changes L kept (Grown G step) (change c step) (change d step) steps (regular-change G c step rc (h .0)) (regular-change G d step rd h′) (h .1)
     (alike-change L kept G c d rc rd alike step (h .0))
 
--- ---- a block that is allocated after changes was taken, or was allocated before
+-- ---- a block that is allocated, or free, after changes joined the set or was so before
 
-allocated-before : (c : Card) (step : Change) (G : ℕ → Type 0) → Regular c → Allowed G (c .public) step → (x : ℕ)
-    → allocated (changePublic step (c .public)) x ≡ true → Grown G step x ⊎ (allocated (c .public) x ≡ true)
-unfolding changePublic allocated
-allocated-before c (setWindow mode b end) G r h x a = inr a
-allocated-before c (setBlock b ys) G r h x a = inr a
-allocated-before c (setKey mode b key) G r h x a =
-    ⊎-elim (λ (e : x ≡ b). inl (inl (subst G (sym e) h))) (λ (n : x ≡ b → ⊥). inr (rw (getD-set-other (c .public .flags) b x _ 0 n) at a)) (same-or-other x b)
-allocated-before c (takeBlock b) G r h x a =
-    ⊎-elim (λ (e : x ≡ b). inl (inr e)) (λ (n : x ≡ b → ⊥). inr (rw (getD-set-other (c .public .flags) b x 1 0 n) at a)) (same-or-other x b)
-allocated-before c (freeBlock b) G r h x a =
-    ⊎-elim
-    (λ (e : x ≡ b).
-    let zero-flag : getD (set (c .public .flags) b 0) x 0 ≡ 0 = rw e (getD-set-same (c .public .flags) b 0 0 (omega (arith, r .flags))) in
-    absurd (mathlib.Core.Bool.false≢true (rw zero-flag at (and-right (ltb x (c .public .info .blocks)) _ a))))
-    (λ (n : x ≡ b → ⊥). inr (rw (getD-set-other (c .public .flags) b x 0 0 n) at a))
-    (same-or-other x b)
-allocated-before c (addPointer y b) G r h x a = inr a
-allocated-before c (raisePointer y b) G r h x a = inr a
-allocated-before c (lowerPointer y b) G r h x a = inr a
-allocated-before c (dropPointer y b) G r h x a = inr a
-allocated-before c (dropFrom bs) G r h x a = inr a
-allocated-before c (setTime t total) G r h x a = inr a
-
-pub covered : (G : ℕ → Type 0) (c : Card) (steps : List Change) → Regular c → AllowedAll G (c .public) steps → (x : ℕ)
-    → allocated (changes c steps .public) x ≡ true → GrownAll G steps x ⊎ (allocated (c .public) x ≡ true)
-unfolding changes change
-covered G c [] r h x a = inr a
-covered G c (step ∷ steps) r h x a =
-    ⊎-elim (λ g. inl g)
-    (λ b. ⊎-elim (λ g. inl (grows (Grown G step) steps x g)) (λ k. inr k) (allocated-before c step G r (h .0) x b))
-    (covered (Grown G step) (change c step) steps (regular-change G c step r (h .0)) (h .1) x a)
-
--- ---- a block outside the set
-
+-- The change frees the block.
 abbrev pub Frees : Change → ℕ → Type 0
 Frees (setWindow mode b end) x = ⊥
 Frees (setBlock b ys) x = ⊥
 Frees (setKey mode b key) x = ⊥
 Frees (takeBlock b) x = ⊥
 Frees (freeBlock b) x = x ≡ b
+Frees (sweepBlock b) x = ⊥
 Frees (addPointer a b) x = ⊥
 Frees (raisePointer a b) x = ⊥
 Frees (lowerPointer a b) x = ⊥
 Frees (dropPointer a b) x = ⊥
 Frees (dropFrom bs) x = ⊥
 Frees (setTime t total) x = ⊥
+
+-- The block is below N, and the test holds of its flags.
+abbrev InState : (ℕ → Bool) → Public → ℕ → Bool
+InState test p x = ltb x (p .info .blocks) && test (flag p x)
+
+other-state : (test : ℕ → Bool) (p : Public) (b v x : ℕ) → (x ≡ b → ⊥) → InState test (withFlags p (set (p .flags) b v)) x ≡ InState test p x
+other-state test p b v x n = ap (λ (f : ℕ). ltb x (p .info .blocks) && test f) (getD-set-other (p .flags) b x v 0 n)
+
+-- Flags stay, but those of a block that joins the set or is freed.
+state-kept : (test : ℕ → Bool) (p : Public) (step : Change) (G : ℕ → Type 0) → Allowed G p step → (x : ℕ)
+    → Grown G step x ⊎ (Frees step x ⊎ (InState test (changePublic step p) x ≡ InState test p x))
+unfolding changePublic
+state-kept test p (setWindow mode b end) G h x = inr (inr refl)
+state-kept test p (setBlock b ys) G h x = inr (inr refl)
+state-kept test p (setKey mode b key) G h x =
+    ⊎-elim (λ (e : x ≡ b). inl (inl (subst G (sym e) h))) (λ (n : x ≡ b → ⊥). inr (inr (other-state test p b _ x n))) (same-or-other x b)
+state-kept test p (takeBlock b) G h x =
+    ⊎-elim (λ (e : x ≡ b). inl (inr e)) (λ (n : x ≡ b → ⊥). inr (inr (other-state test p b 1 x n))) (same-or-other x b)
+state-kept test p (freeBlock b) G h x =
+    ⊎-elim (λ (e : x ≡ b). inr (inl e)) (λ (n : x ≡ b → ⊥). inr (inr (other-state test p b freedFlags x n))) (same-or-other x b)
+state-kept test p (sweepBlock b) G h x =
+    ⊎-elim (λ (e : x ≡ b). inl (inr e)) (λ (n : x ≡ b → ⊥). inr (inr (other-state test p b 0 x n))) (same-or-other x b)
+state-kept test p (addPointer y b) G h x = inr (inr refl)
+state-kept test p (raisePointer y b) G h x = inr (inr refl)
+state-kept test p (lowerPointer y b) G h x = inr (inr refl)
+state-kept test p (dropPointer y b) G h x = inr (inr refl)
+state-kept test p (dropFrom bs) G h x = inr (inr refl)
+state-kept test p (setTime t total) G h x = inr (inr refl)
+
+-- A freed block has the flags of a freed one.
+freed-flags : (c : Card) (step : Change) (G : ℕ → Type 0) → Regular c → Allowed G (c .public) step → (x : ℕ) → Frees step x
+    → flag (changePublic step (c .public)) x ≡ freedFlags
+unfolding changePublic
+freed-flags c (setWindow mode b end) G r h x f = absurd f
+freed-flags c (setBlock b ys) G r h x f = absurd f
+freed-flags c (setKey mode b key) G r h x f = absurd f
+freed-flags c (takeBlock b) G r h x f = absurd f
+freed-flags c (freeBlock b) G r h x f = rw f (getD-set-same (c .public .flags) b freedFlags 0 (omega (arith, r .flags)))
+freed-flags c (sweepBlock b) G r h x f = absurd f
+freed-flags c (addPointer y b) G r h x f = absurd f
+freed-flags c (raisePointer y b) G r h x f = absurd f
+freed-flags c (lowerPointer y b) G r h x f = absurd f
+freed-flags c (dropPointer y b) G r h x f = absurd f
+freed-flags c (dropFrom bs) G r h x f = absurd f
+freed-flags c (setTime t total) G r h x f = absurd f
+
+-- Of a test that fails of a freed block's flags: "allocated" and "free" are such tests.
+module _ (test : ℕ → Bool) (none : test freedFlags ≡ false) where
+  state-before : (c : Card) (step : Change) (G : ℕ → Type 0) → Regular c → Allowed G (c .public) step → (x : ℕ)
+      → InState test (changePublic step (c .public)) x ≡ true → Grown G step x ⊎ (InState test (c .public) x ≡ true)
+  state-before c step G r h x a =
+      ⊎-elim (λ g. inl g)
+      (λ k.
+      ⊎-elim
+      (λ (f : Frees step x).
+      absurd-test (and-right (ltb x (changePublic step (c .public) .info .blocks)) _ a) (ap test (freed-flags c step G r h x f) ∙ none))
+      (λ same. inr (sym same ∙ a))
+      k)
+      (state-kept test (c .public) step G h x)
+
+  pub covered : (G : ℕ → Type 0) (c : Card) (steps : List Change) → Regular c → AllowedAll G (c .public) steps → (x : ℕ)
+      → InState test (changes c steps .public) x ≡ true → GrownAll G steps x ⊎ (InState test (c .public) x ≡ true)
+  unfolding changes change
+  covered G c [] r h x a = inr a
+  covered G c (step ∷ steps) r h x a =
+      ⊎-elim (λ g. inl g)
+      (λ b. ⊎-elim (λ g. inl (grows (Grown G step) steps x g)) (λ k. inr k) (state-before c step G r (h .0) x b))
+      (covered (Grown G step) (change c step) steps (regular-change G c step r (h .0)) (h .1) x a)
+
+-- ---- a block outside the set
 
 abbrev pub FreesNone : List Change → ℕ → Type 0
 FreesNone [] x = Unit {0}
@@ -233,6 +287,7 @@ module _ (G : ℕ → Type 0) (c : Card) (r : Regular c) (x : ℕ) (a : allocate
   unwritten (setKey mode b key) h w = w
   unwritten (takeBlock b) h w = absurd-test a (subst (λ (k : ℕ). allocated (c .public) k ≡ false) (sym w) (h .1))
   unwritten (freeBlock b) h w = w
+  unwritten (sweepBlock b) h w = absurd-test a (subst (λ (k : ℕ). allocated (c .public) k ≡ false) (sym w) (h .1))
   unwritten (addPointer y b) h w = w
   unwritten (raisePointer y b) h w = w
   unwritten (lowerPointer y b) h w = w
@@ -246,6 +301,7 @@ module _ (G : ℕ → Type 0) (c : Card) (r : Regular c) (x : ℕ) (a : allocate
   still-outside (setKey mode b key) h g = ⊎-elim out (λ k. k) g
   still-outside (takeBlock b) h g = ⊎-elim out (λ k. unwritten (takeBlock b) h k) g
   still-outside (freeBlock b) h g = ⊎-elim out (λ k. k) g
+  still-outside (sweepBlock b) h g = ⊎-elim out (λ k. unwritten (sweepBlock b) h k) g
   still-outside (addPointer y b) h g = ⊎-elim out (λ k. k) g
   still-outside (raisePointer y b) h g = ⊎-elim out (λ k. k) g
   still-outside (lowerPointer y b) h g = ⊎-elim out (λ k. k) g
@@ -259,7 +315,8 @@ module _ (G : ℕ → Type 0) (c : Card) (r : Regular c) (x : ℕ) (a : allocate
   still-allocated (setBlock b ys) h n = a
   still-allocated (setKey mode b key) h n = rw (getD-set-other (c .public .flags) b x _ 0 (λ e. out (subst G (sym e) h))) a
   still-allocated (takeBlock b) h n = rw (getD-set-other (c .public .flags) b x 1 0 (λ e. unwritten (takeBlock b) h e)) a
-  still-allocated (freeBlock b) h n = rw (getD-set-other (c .public .flags) b x 0 0 n) a
+  still-allocated (freeBlock b) h n = rw (getD-set-other (c .public .flags) b x freedFlags 0 n) a
+  still-allocated (sweepBlock b) h n = rw (getD-set-other (c .public .flags) b x 0 0 (λ e. unwritten (sweepBlock b) h e)) a
   still-allocated (addPointer y b) h n = a
   still-allocated (raisePointer y b) h n = a
   still-allocated (lowerPointer y b) h n = a

@@ -1,4 +1,4 @@
--- Demand 3: what a host session shows, and what it leaves, depends on no hidden block and on no unallocated one.
+-- Demand 3: what a host session shows, and what it leaves, depends on no hidden block, on no waiting one and on no free one.
 use Prim.Native.Nat.{ℕ, _<_}
 use mathlib.Core.Path.{_≡_, refl, sym, ap, _∙_}
 use mathlib.Core.Logic.{_↔_, _⊎_, inl, inr, ⊎-elim, Dec·not-not}
@@ -6,7 +6,7 @@ use mathlib.Core.Bool.{Bool, true, false}
 use mathlib.Core.List.{List, [], _∷_, List-discrete}
 use native.Mathlib.Decide.{ℕ-discrete}
 use Rattle.card.specs.ListsLaws.{or-left, or-right, absurd-test}
-use Rattle.card.specs.Card.{Card, allocated, block}
+use Rattle.card.specs.Card.{Card, allocated, free, block}
 use Rattle.card.specs.SoundCard.{SoundCard}
 use Rattle.card.specs.SoundnessLaws.{allocated-below}
 use Rattle.card.specs.Access.{keyOpens, opensKeyed, opens}
@@ -31,13 +31,15 @@ pub record EqualBut (Differ : ℕ → Type 0) (c d : Card) : Type 0 where
   pub sameKeys : c .keys ≡ d .keys
   pub sameContents : (b : ℕ) → b < c .public .info .blocks → (Differ b → ⊥) → block c b ≡ block d b
 
--- The blocks whose contents may differ at the start: hidden and unallocated ones.
-abbrev pub HiddenOrFree : (ℕ → ℕ → Bool) → Card → ℕ → Type 0
-HiddenOrFree K c b = Hidden K c b ⊎ (allocated (c .public) b ≡ false)
+-- The blocks whose contents may differ at the start: hidden, waiting and free ones. 2026-09, "the same blocks wait on both": their flags are equal.
+abbrev pub HiddenOrUnallocated : (ℕ → ℕ → Bool) → Card → ℕ → Type 0
+HiddenOrUnallocated K c b = Hidden K c b ⊎ (allocated (c .public) b ≡ false)
 
--- And at the end: those that were hidden, and those that were unallocated and still are.
-abbrev pub HiddenOrStillFree : (ℕ → ℕ → Bool) → Card → Card → ℕ → Type 0
-HiddenOrStillFree K c after b = Hidden K c b ⊎ ((allocated (c .public) b ≡ false) × (allocated (after .public) b ≡ false))
+-- And at the end: those that were hidden, and those that were unallocated and still are; but none that was swept, so that is free and was not.
+abbrev pub StillDiffers : (ℕ → ℕ → Bool) → Card → Card → ℕ → Type 0
+StillDiffers K c after b =
+    (Hidden K c b ⊎ ((allocated (c .public) b ≡ false) × (allocated (after .public) b ≡ false)))
+    × (free (after .public) b ≡ true → free (c .public) b ≡ true)
 
 -- The keys have all that a list of calls presents.
 abbrev pub HasKeys : (ℕ → ℕ → Bool) → List Request → Type 0
@@ -47,7 +49,7 @@ pub record Secret (K : ℕ → ℕ → Bool) (calls : List Sent) (c d : Card) : 
   -- "the count of answers that differ is nought"
   pub answers : replies c calls ≡ replies d calls
   -- The cards are "still equal", but in blocks whose contents were free to differ.
-  pub cards : EqualBut (HiddenOrStillFree K c (afterAll c calls)) (afterAll c calls) (afterAll d calls)
+  pub cards : EqualBut (StillDiffers K c (afterAll c calls)) (afterAll c calls) (afterAll d calls)
   -- On both, a hidden block keeps its contents unless its last pointer was taken.
   pub kept : (b : ℕ) → Hidden K c b → lastTaken c calls b ≡ false → block (afterAll c calls) b ≡ block c b
   pub keptOnOther : (b : ℕ) → Hidden K c b → lastTaken d calls b ≡ false → block (afterAll d calls) b ≡ block d b
@@ -115,7 +117,7 @@ reach-allocated K c (openWindow mode a o) = a
 reach-allocated K c (pointed g a p s) = a
 
 -- Two such cards agree on the blocks within reach.
-start : (K : ℕ → ℕ → Bool) (c d : Card) → EqualBut (HiddenOrFree K c) c d → Alike (λ p ks ls. ks ≡ ls) (Reach K c) c d
+start : (K : ℕ → ℕ → Bool) (c d : Card) → EqualBut (HiddenOrUnallocated K c) c d → Alike (λ p ks ls. ks ≡ ls) (Reach K c) c d
 start K c d same = record {
   samePublic = same .samePublic;
   linked = same .sameKeys;
@@ -129,7 +131,7 @@ keepsSound c q s = done-sound Host c q s
 
 -- Any list of a host's calls, refused ones included, and any keys that have all that the list presents.
 module _ (K : ℕ → ℕ → Bool) (session : List Request) (all : HasKeys K session)
-    (c d : Card) (sc : SoundCard c) (sd : SoundCard d) (same : EqualBut (HiddenOrFree K c) c d) where
+    (c d : Card) (sc : SoundCard c) (sd : SoundCard d) (same : EqualBut (HiddenOrUnallocated K c) c d) where
   abbrev calls : List Sent
   calls = hostSession session
 
@@ -139,11 +141,21 @@ module _ (K : ℕ → ℕ → Bool) (session : List Request) (all : HasKeys K se
   run : BothRun K (λ p ks ls. ks ≡ ls) (Reach K c) c d session
   run = both-run K (λ p ks ls. ks ≡ ls) (equal-keys K) keepsSound session (Reach K c) c d sc sd (reach-closed K c) (start K c d same) shown
 
-  same-after : (b : ℕ) → (HiddenOrStillFree K c (afterAll c calls) b → ⊥) → (s e : Bool) → allocated (c .public) b ≡ s → allocated (afterAll c calls .public) b ≡ e
-      → block (afterAll c calls) b ≡ block (afterAll d calls) b
-  same-after b n true e p q = agree K c b _ _ p (λ h. n (inl h)) (λ g. run .next .alike .sameBlocks b (run .next .larger b g))
-  same-after b n false true p q = ⊎-elim (λ g. run .next .alike .sameBlocks b g) (λ a. absurd-test a p) (run .next .new b q)
-  same-after b n false false p q = absurd (n (inr (p, q)))
+  -- A block that is free at the end joined the set, and so is the same on both, or was free at the start.
+  not-swept : (b : ℕ) → (block (afterAll c calls) b ≡ block (afterAll d calls) b → ⊥) → free (afterAll c calls .public) b ≡ true → free (c .public) b ≡ true
+  not-swept b n f = ⊎-elim (λ g. absurd (n (run .next .alike .sameBlocks b g))) (λ h. h) (run .next .newFree b f)
+
+  same-unless : (b : ℕ) → (StillDiffers K c (afterAll c calls) b → ⊥) → (s e : Bool) → allocated (c .public) b ≡ s → allocated (afterAll c calls .public) b ≡ e
+      → (block (afterAll c calls) b ≡ block (afterAll d calls) b → ⊥) → ⊥
+  same-unless b n true e p q m =
+      m (agree K c b _ _ p (λ h. n (inl h, not-swept b m)) (λ g. run .next .alike .sameBlocks b (run .next .larger b g)))
+  same-unless b n false true p q m = m (⊎-elim (λ g. run .next .alike .sameBlocks b g) (λ a. absurd-test a p) (run .next .new b q))
+  same-unless b n false false p q m = n (inr (p, q), not-swept b m)
+
+  same-after : (b : ℕ) → (StillDiffers K c (afterAll c calls) b → ⊥) → block (afterAll c calls) b ≡ block (afterAll d calls) b
+  same-after b n =
+      Dec·not-not (List-discrete ℕ-discrete (block (afterAll c calls) b) (block (afterAll d calls) b)) .0
+      (same-unless b n (allocated (c .public) b) (allocated (afterAll c calls .public) b) refl refl)
 
   pub secrecy-by : Secret K (hostSession session) c d
   secrecy-by = record {
@@ -151,7 +163,7 @@ module _ (K : ℕ → ℕ → Bool) (session : List Request) (all : HasKeys K se
     cards = record {
       samePublic = run .next .alike .samePublic;
       sameKeys = run .next .alike .linked;
-      sameContents = λ b l n. same-after b n (allocated (c .public) b) (allocated (afterAll c calls .public) b) refl refl;
+      sameContents = λ b l n. same-after b n;
     };
     kept = λ b h f. hidden-kept K keepsSound b session (Reach K c) c sc (reach-closed K c) shown (h .isAllocated) (h .outOfReach) f;
     keptOnOther = λ b h f.
@@ -159,8 +171,8 @@ module _ (K : ℕ → ℕ → Bool) (session : List Request) (all : HasKeys K se
         hidden-kept K keepsSound b session (Reach K d) d sd (reach-closed K d) shown (hidden .isAllocated) (hidden .outOfReach) f;
   }
 
--- Demand 3: any list of a host's calls, refused ones included, and any two sound cards that are equal but for the contents of hidden and
--- unallocated blocks. Hidden is judged on the starting card, with the keys presented anywhere in the list.
-pub secrecy : (session : List Request) (c d : Card) → SoundCard c → SoundCard d → EqualBut (HiddenOrFree (presented session) c) c d
+-- Demand 3: any list of a host's calls, refused ones included, and any two sound cards that are equal but for the contents of hidden, waiting and
+-- free blocks. Hidden is judged on the starting card, with the keys presented anywhere in the list.
+pub secrecy : (session : List Request) (c d : Card) → SoundCard c → SoundCard d → EqualBut (HiddenOrUnallocated (presented session) c) c d
     → Secret (presented session) (hostSession session) c d
 secrecy session = secrecy-by (presented session) session (λ high low h. h)

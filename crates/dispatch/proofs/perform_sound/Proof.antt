@@ -1,5 +1,5 @@
 -- `dispatch::perform_sound` meets its contract: each arm by one law.
-use Rattle.card.specs.BuffersLaws.{with-read, with-write, with-alloc, with-alloc-contig, with-create, with-delete, with-delete-tree, with-key, with-renew, with-force, with-free, with-tick, with-audit, with-rent}
+use Rattle.card.specs.BuffersLaws.{with-read, with-write, with-alloc, with-alloc-contig, with-create, with-delete, with-delete-tree, with-key, with-renew, with-force, with-free, with-tick, with-audit, with-rent, with-sweep}
 use Rattle.card.specs.declared.Mode.the-variants.{Reading, Writing}
 use borrow.Author.Needs.{needs}
 use Rattle.dispatch.proofs.perform_sound.Statement.{statement}
@@ -96,6 +96,12 @@ enum-known-call-13 c = search needs
 
 rent-sound-requires : tie.Need-rent-sound-requires
 rent-sound-requires c κs = search needs
+
+enum-known-call-14 : tie.Need-enum-known-call-14
+enum-known-call-14 c = search needs
+
+sweep-sound-requires : tie.Need-sweep-sound-requires
+sweep-sound-requires c κs = search needs
 
 enum-told-2 : tie.Need-enum-told-2
 enum-told-2 c = search needs
@@ -475,8 +481,36 @@ returns-14 c =
     with-rent (start .args .port) _ (start .args .input .now) (start .args .out .now) (start .args .places .now) (start .args .call) (at-call13 .call13 .given .1)
     (c .rent-sound .ensures (start .args .port))
 
+same-length-102 : tie.Need-same-length-102
+same-length-102 c = search needs
+
+same-length-103 : tie.Need-same-length-103
+same-length-103 c = search needs
+
+same-length-104 : tie.Need-same-length-104
+same-length-104 c = search needs
+
+same-length-105 : tie.Need-same-length-105
+same-length-105 c = search needs
+
+same-length-106 : tie.Need-same-length-106
+same-length-106 c = search needs
+
+same-length-107 : tie.Need-same-length-107
+same-length-107 c = search needs
+
+same-length-108 : tie.Need-same-length-108
+same-length-108 c = search needs
+
 returns-15 : tie.Need-returns-15
-returns-15 c = search with-audit
+returns-15 c =
+    let at-call14 : tie.After-call14 = search in
+    let start : tie.Start = search in
+    with-sweep (start .args .port) _ (start .args .input .now) (start .args .out .now) (start .args .places .now) (start .args .call) (at-call14 .call14 .given .1)
+    (c .before .before .before .before .sweep-sound .ensures (start .args .port))
+
+returns-16 : tie.Need-returns-16
+returns-16 c = search with-audit
 
 pub perform-sound-spec : {M : Type 1} → statement M
 perform-sound-spec =
@@ -510,6 +544,8 @@ perform-sound-spec =
     tick-sound-requires
     enum-known-call-13
     rent-sound-requires
+    enum-known-call-14
+    sweep-sound-requires
     enum-told-2
     same-length
     same-length-2
@@ -626,4 +662,12 @@ perform-sound-spec =
     same-length-100
     same-length-101
     returns-14
-    returns-15)
+    same-length-102
+    same-length-103
+    same-length-104
+    same-length-105
+    same-length-106
+    same-length-107
+    same-length-108
+    returns-15
+    returns-16)

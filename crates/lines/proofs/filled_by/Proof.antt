@@ -7,7 +7,7 @@ use denote.Enum.Declared.{tagOf}
 use borrow.Author.Needs.{needs}
 use Rattle.card.proofs.Call.{the-type}
 use Rattle.card.specs.declared.Call.{Call}
-use Rattle.card.specs.declared.Call.the-variants.{Read, Write, Alloc, AllocContig, Create, Delete, DeleteTree, KeyRead, KeyWrite, Renew, Force, Free, Tick, Audit, Rent}
+use Rattle.card.specs.declared.Call.the-variants.{Read, Write, Alloc, AllocContig, Create, Delete, DeleteTree, KeyRead, KeyWrite, Renew, Force, Free, Tick, Audit, Rent, Sweep}
 use Rattle.lines.specs.Replied.{filledBy}
 use Rattle.lines.specs.declared.Filled.the-variants.{Neither}
 use Rattle.lines.proofs.filled_by.Statement.{statement}
@@ -15,7 +15,7 @@ use Rattle.lines.proofs.filled_by.Tie as tie
 
 -- The places among the variants of the calls but READ, ALLOC and ALLOC_CONTIG.
 abbrev callsFillingNeither : List ℕ
-callsFillingNeither = 1 ∷ 4 ∷ 5 ∷ 6 ∷ 7 ∷ 8 ∷ 9 ∷ 10 ∷ 11 ∷ 12 ∷ 13 ∷ 14 ∷ []
+callsFillingNeither = 1 ∷ 4 ∷ 5 ∷ 6 ∷ 7 ∷ 8 ∷ 9 ∷ 10 ∷ 11 ∷ 12 ∷ 13 ∷ 14 ∷ 15 ∷ []
 
 fills-neither : (call : Call) → OneOf callsFillingNeither (tagOf the-type call) → Neither ≡ filledBy call
 fills-neither (Read o) h = absurd (miss callsFillingNeither 0 tt h)
@@ -33,6 +33,7 @@ fills-neither Free h = refl
 fills-neither (Tick o) h = refl
 fills-neither Audit h = refl
 fills-neither (Rent o) h = refl
+fills-neither (Sweep o) h = refl
 
 enum-told : tie.Need-enum-told
 enum-told c = search needs

@@ -4,13 +4,13 @@ use mathlib.Core.Logic.{⊎-elim}
 use native.Mathlib.Omega.{arith}
 use mathlib.Core.Bool.{true, false}
 use lib.ListN.{length}
-use Rattle.tables.specs.Free.{isUnallocated}
+use Rattle.tables.specs.Free.{isFree}
 use Rattle.tables.proofs.Counted.{Counted, free-start, free-more, free-whole}
 use Rattle.tables.proofs.count_free.Statement.{statement}
 use Rattle.tables.proofs.count_free.Tie as tie
 
 abbrev Inv-loop : tie.InvT-loop
-Inv-loop flags free₀ block₀ free block = Counted isUnallocated flags 0 free block
+Inv-loop flags free₀ block₀ free block = Counted isFree flags 0 free block
 
 abbrev μ-loop : tie.MeasureT-loop
 μ-loop flags free₀ block₀ free block = length flags - block
@@ -18,11 +18,11 @@ abbrev μ-loop : tie.MeasureT-loop
 loop-holds : tie.Need-loop-holds Inv-loop μ-loop
 loop-holds c = free-start _
 
-shared-slice-read-allocated : tie.Need-shared-slice-read-allocated Inv-loop μ-loop
-shared-slice-read-allocated c = omega arith
+shared-slice-read-free : tie.Need-shared-slice-read-free Inv-loop μ-loop
+shared-slice-read-free c = omega arith
 
-allocated-requires : tie.Need-allocated-requires Inv-loop μ-loop
-allocated-requires c κs = tt
+free-requires : tie.Need-free-requires Inv-loop μ-loop
+free-requires c κs = tt
 
 add-free : tie.Need-add-free Inv-loop μ-loop
 add-free c = omega arith
@@ -38,7 +38,7 @@ loop-again c =
     let at-loop : tie.At-loop Inv-loop μ-loop = search in
     let inv = at-loop .loop .inv in
     let inside = c .before .before .before .loop-test .taken in
-    let told = c .before .allocated .ensures in
+    let told = c .before .free .ensures in
     ⊎-elim
     (λ w. free-more inv inside told true (w .0 .taken) (w .1))
     (λ w. free-more inv inside told false (w .0 .left) (w .1))
@@ -54,8 +54,8 @@ count-free-spec =
     Inv-loop
     μ-loop
     loop-holds
-    shared-slice-read-allocated
-    allocated-requires
+    shared-slice-read-free
+    free-requires
     add-free
     add-block
     loop-less
