@@ -15,8 +15,9 @@
  * -----------------------
  *
  * `rt staticlib interface` makes the archive, for x86-64 Linux alone,
- * since that is what it compiles for. Whoever links it supplies memset(),
- * as any C library does, and nothing else; `nm -u` of the archive says so.
+ * since that is what it compiles for. Whoever links it supplies memcpy()
+ * and memset(), as any C library does, and nothing else; `nm -u` of the
+ * archive says so.
  * The deepest call, negvask_unlocking(), takes 58,240 bytes of stack below
  * its caller, as `tests/run.sh --benchmark` prints; what a host's bytes
  * lead to takes 38,992.

@@ -52,6 +52,15 @@ else
 	failed=1
 fi
 
+# What firmware has to supply, as README.md and the header say.
+asked=$(nm -u "$archive" | awk '$1 == "U" { print $2 }' | sort -u | xargs)
+if [ "$asked" = "memcpy memset" ]; then
+	echo "functions that the archive asks for: $asked"
+else
+	echo "functions that the archive asks for: '$asked', where they are to be memcpy and memset: FAILED"
+	failed=1
+fi
+
 if ! python3 tests/read_only.py "$archive"; then
 	echo "read-only data: FAILED"
 	failed=1
