@@ -56,7 +56,7 @@ module _ (p : Public) where
   abbrev pub flag : ℕ → ℕ
   flag b = getD (p .flags) b 0
 
-  -- Of a sound card each block below N is allocated, waiting or free.
+  -- A block below N that is allocated, that waits, or that is free: on a sound card one of the three.
   unfoldable pub allocated : ℕ → Bool
   allocated b = ltb b (p .info .blocks) && allocatedFlag (flag b)
 

@@ -11,7 +11,7 @@ use lib.ListN.{length, take, drop, getD, set, length-set, length-append, length-
 use lib.Seq.{take-at, take-all, getD-set-other}
 use borrow.Author.Tests.{lt-ltb, ltb-true, ltb-false}
 use Rattle.card.specs.Lists.{numbersBelow}
-use Rattle.card.specs.ListsLaws.{numbersBelow-same, and-left, and-right, below-or-not, same-or-other}
+use Rattle.card.specs.ListsLaws.{and-left, and-right, below-or-not, same-or-other}
 use Rattle.card.specs.Contents.{fill, zeros}
 use Rattle.card.specs.ContentsLaws.{block-fits, fill-length}
 use Rattle.card.specs.Card.{Card, Public, card, waiting, waitingBlocks, waitingFlag}
@@ -26,6 +26,7 @@ use Rattle.card.specs.declared.SweepOperands.{SweepOperands}
 use Rattle.card.specs.declared.Call.the-variants.{Sweep}
 use Rattle.card.specs.declared.Answer.the-variants.{Value}
 use Rattle.tables.specs.Cleared.{part-cleared}
+use Rattle.tables.specs.FreeLaws.{flags-state}
 use Rattle.sweeping.specs.Sweeping.{CanSweep, BlockSwept, sweptFlags, sweptContents, isWaiting, waitingBelow, lowestIn, LowestSwept}
 
 -- ---- one block
@@ -195,11 +196,7 @@ swept-card info flags keys counts pointers multiplicities windows contents (b �
 -- On a card of the right shape the lowest of the table are those of the rule.
 lowest-waiting : (p : Public) (most : ℕ) → length (p .flags) ≡ p .info .blocks → lowestIn (p .flags) most ≡ lowestWaiting p most
 unfolding lowestIn lowestWaiting waitingBelow waitingBlocks waiting
-lowest-waiting p most e =
-    rw e
-    (ap (take most)
-    (numbersBelow-same (isWaiting (p .flags)) (waiting p) (p .info .blocks)
-    (λ b l. rw (lt-ltb b (p .info .blocks) l))))
+lowest-waiting p most e = ap (take most) (flags-state waitingFlag p e)
 
 module _ {c : Card} (s : SoundCard c) where
   pub contents-long : length (c .contents) ≡ length (c .public .flags) * c .public .info .bytes

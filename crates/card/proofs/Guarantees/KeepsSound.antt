@@ -11,7 +11,7 @@ use borrow.Author.Tests.{eqb-true, eqb-false, ltb-false, leb-false, not-true, no
 use Rattle.card.specs.Lists.{all}
 use Rattle.card.specs.ListsLaws.{or-false-left, or-false-right, all-head, all-tail, all-both}
 use Rattle.card.specs.Pointers.{pointer, source, destination, ascending, pointersTo}
-use Rattle.card.specs.Card.{Public, Card, flag, allocatedFlag, allocated, free, isRoot, freeBlocks, longestInterval, count, inUse, timesInUse, multiplicity, pointsTo, hasPointers}
+use Rattle.card.specs.Card.{Public, Card, flag, allocatedFlag, freeFlag, allocated, free, isRoot, freeBlocks, longestInterval, count, inUse, timesInUse, multiplicity, pointsTo, hasPointers}
 use Rattle.card.specs.Soundness.{timeLimit}
 use Rattle.card.specs.SoundCard.{SoundCard}
 use Rattle.card.specs.SoundnessLaws.{multiplicityRight-low, allocated-below, free-below, free-unallocated}
@@ -36,7 +36,7 @@ use Rattle.card.specs.declared.Refusal.{Refusal}
 use Rattle.card.specs.declared.Answer.the-variants.{Refused}
 use Rattle.card.specs.declared.Call.{Call}
 use Rattle.card.specs.declared.Call.the-variants.{Read, Write, Alloc, AllocContig, Create, Delete, DeleteTree, KeyRead, KeyWrite, Renew, Force, Free, Tick, Audit, Rent, Sweep}
-use Rattle.card.proofs.Guarantees.Steps.{allocated-set, free-other, unallocated-flag, setWindow-sound, setBlock-sound, setKey-sound, setTime-sound}
+use Rattle.card.proofs.Guarantees.Steps.{allocated-set, state-other, unallocated-flag, setWindow-sound, setBlock-sound, setKey-sound, setTime-sound}
 use Rattle.card.specs.ChangesLaws.{keyed-allocated, inserted-length}
 use Rattle.card.proofs.Guarantees.PointerSteps.{sound-but, addPointer-sound, takeAdd-sound, raise-sound, lower-sound, times-right, times-counted, dropOne-sound, dropLast-sound}
 use Rattle.card.proofs.Guarantees.Severing.{deleted-sound}
@@ -222,7 +222,7 @@ module _ {c : Card} (reference : ℕ) {b : ℕ} {bs : List ℕ} (s : SoundCard c
       record {
         free =
             all-both (λ x. free p x) (λ x. not (eqb x b)) (λ x. free (withFlags p (set (p .flags) b 1)) x)
-            (λ x e f. free-other p b 1 x (eqb-false _ _ (not-true _ f)) ∙ e)
+            (λ x e f. state-other freeFlag p b 1 x (eqb-false _ _ (not-true _ f)) ∙ e)
             bs
             (all-tail (λ x. free p x) b bs (t .free))
             without;

@@ -2,7 +2,7 @@
 use Prim.Native.Nat.{ℕ, _+_, _*_, _≤_, _<_}
 use mathlib.Core.Path.{_≡_, refl, sym, ap, _∙_, subst}
 use mathlib.Core.Logic.{⊎-elim}
-use mathlib.Core.Bool.{true, false, _&&_, _||_}
+use mathlib.Core.Bool.{Bool, true, false, _&&_, _||_}
 use mathlib.Core.List.{List}
 use native.Mathlib.Omega.{arith}
 use lib.Dec.{ltb}
@@ -13,7 +13,7 @@ use Rattle.card.specs.ListsLaws.{absurd-test, false-unless, and-false-ri
 use Rattle.card.specs.Pointers.{source, destination}
 use Rattle.card.specs.Contents.{fill, zeros}
 use Rattle.card.specs.ContentsLaws.{fill-length, block-fits}
-use Rattle.card.specs.Card.{Public, Card, card, flag, allocatedFlag, keyFlag, waitingFlag, freeFlag, allocated, waiting, free, windowAt, windowEnd, longestInterval, count, inUse, keyHigh, keyLow}
+use Rattle.card.specs.Card.{Public, Card, card, flag, allocatedFlag, keyFlag, waitingFlag, freeFlag, allocated, waiting, windowAt, windowEnd, longestInterval, count, inUse, keyHigh, keyLow}
 use Rattle.card.specs.Soundness.{timeLimit, mostBlocks, pointerRight}
 use Rattle.card.specs.SoundCard.{Shaped, KeyZero, Empty, RightPointer, SoundCard}
 use Rattle.card.specs.SoundnessLaws.{pointerRight-true, true-pointerRight, allocated-below, allocated-flag, flag-allocated, waiting-below, waiting-flag, waiting-unallocated}
@@ -174,25 +174,20 @@ allocated-set p b v x odd a =
     flag-allocated (withFlags p (set (p .flags) b v)) x (allocated-below p x a)
     (getD-set-either (λ (f : ℕ). allocatedFlag f ≡ true) (p .flags) b v x odd (allocated-flag p x a))
 
--- Where a block's flags are set, another is allocated or not as before.
+-- Where a block's flags are set, another passes a test of its flags or not as before; so it is allocated, waits or is free as before.
+pub state-other : (test : ℕ → Bool) (p : Public) (b v x : ℕ) → (x ≡ b → ⊥)
+    → ltb x (p .info .blocks) && test (flag (withFlags p (set (p .flags) b v)) x) ≡ ltb x (p .info .blocks) && test (flag p x)
+state-other test p b v x other = ap (λ (f : ℕ). ltb x (p .info .blocks) && test f) (getD-set-other (p .flags) b x v 0 other)
+
 pub allocated-other : (p : Public) (b v x : ℕ) → (x ≡ b → ⊥) → allocated (withFlags p (set (p .flags) b v)) x ≡ allocated p x
 unfolding allocated
-allocated-other p b v x other = ap (λ (f : ℕ). ltb x (p .info .blocks) && allocatedFlag f) (getD-set-other (p .flags) b x v 0 other)
+allocated-other p b v x other = state-other allocatedFlag p b v x other
 
 -- No other block becomes allocated where a block loses its flags.
 pub unallocated-set : (p : Public) (b x : ℕ) → allocated p x ≡ false → allocated (withFlags p (set (p .flags) b 0)) x ≡ false
 unfolding allocated
 unallocated-set p b x e =
     getD-set-either (λ (f : ℕ). ltb x (p .info .blocks) && allocatedFlag f ≡ false) (p .flags) b 0 x (and-false-right (ltb x (p .info .blocks)) _ refl) e
-
--- So with waiting and free.
-pub waiting-other : (p : Public) (b v x : ℕ) → (x ≡ b → ⊥) → waiting (withFlags p (set (p .flags) b v)) x ≡ waiting p x
-unfolding waiting
-waiting-other p b v x other = ap (λ (f : ℕ). ltb x (p .info .blocks) && waitingFlag f) (getD-set-other (p .flags) b x v 0 other)
-
-pub free-other : (p : Public) (b v x : ℕ) → (x ≡ b → ⊥) → free (withFlags p (set (p .flags) b v)) x ≡ free p x
-unfolding free
-free-other p b v x other = ap (λ (f : ℕ). ltb x (p .info .blocks) && freeFlag f) (getD-set-other (p .flags) b x v 0 other)
 
 -- A pointer stays right where its ends stay allocated.
 pub right-kept : (p : Public) (flags : List ℕ) (w : ℕ) → pointerRight p w ≡ true

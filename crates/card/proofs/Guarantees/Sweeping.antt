@@ -14,14 +14,14 @@ use Rattle.card.specs.ListsLaws.{or-cases, or-false-left, or-false-right
 use Rattle.card.specs.Pointers.{contains}
 use Rattle.card.specs.Contents.{zeros}
 use Rattle.card.specs.ContentsLaws.{part-fill-same, part-fill-other}
-use Rattle.card.specs.Card.{Public, Card, flag, allocatedFlag, allocated, waiting, block}
+use Rattle.card.specs.Card.{Public, Card, flag, allocatedFlag, waitingFlag, allocated, waiting, block}
 use Rattle.card.specs.SoundCard.{SoundCard}
 use Rattle.card.specs.SoundnessLaws.{waiting-below}
 use Rattle.card.specs.Plan.{sweepBlock, withFlags, changePublic, changeKeys, changeContents, change, changes}
 use Rattle.card.specs.Calls.{sweepEach}
 use Rattle.card.specs.Takeable.{Sweepable}
 use Rattle.card.specs.PicksLaws.{distinct-head, distinct-tail}
-use Rattle.card.proofs.Guarantees.Steps.{block-within, waiting-other, sweepBlock-sound}
+use Rattle.card.proofs.Guarantees.Steps.{block-within, state-other, sweepBlock-sound}
 
 -- The first of them waits; once it is swept, the others still do.
 module _ {p : Public} {b : ℕ} {bs : List ℕ} (t : Sweepable p (b ∷ bs)) where
@@ -29,11 +29,11 @@ module _ {p : Public} {b : ℕ} {bs : List ℕ} (t : Sweepable p (b ∷ bs)) whe
   first-waits = all-head (λ x. waiting p x) b bs (t .waiting)
 
   rest-waits : Sweepable (changePublic (sweepBlock b) p) bs
-  unfolding changePublic
+  unfolding changePublic waiting
   rest-waits = record {
     waiting =
         all-both (λ x. waiting p x) (λ x. not (eqb x b)) (λ x. waiting (withFlags p (set (p .flags) b 0)) x)
-        (λ x e f. waiting-other p b 0 x (eqb-false _ _ (not-true _ f)) ∙ e)
+        (λ x e f. state-other waitingFlag p b 0 x (eqb-false _ _ (not-true _ f)) ∙ e)
         bs
         (all-tail (λ x. waiting p x) b bs (t .waiting))
         (distinct-head (t .distinct));

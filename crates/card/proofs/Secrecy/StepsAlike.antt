@@ -6,13 +6,14 @@ use mathlib.Core.Bool.{Bool, true, false, _&&_}
 use mathlib.Core.List.{List, [], _∷_}
 use native.Mathlib.Omega.{arith}
 use lib.Dec.{ltb}
-use lib.ListN.{length, set, length-replicate}
+use lib.ListN.{length, length-replicate}
 use lib.Seq.{getD-set-same, getD-set-other}
 use Rattle.card.specs.ListsLaws.{and-right, absurd-test, same-or-other}
 use Rattle.card.specs.Contents.{part, fill, zeros}
 use Rattle.card.specs.ContentsLaws.{part-fill-same, part-fill-other, block-fits}
 use Rattle.card.specs.Card.{Public, Card, flag, allocated, block}
-use Rattle.card.specs.Plan.{Change, freedFlags, withFlags, setWindow, setBlock, setKey, takeBlock, freeBlock, sweepBlock, addPointer, raisePointer, lowerPointer, dropPointer, dropFrom, setTime, changePublic, changeKeys, changeContents, change, changes}
+use Rattle.card.specs.Plan.{Change, freedFlags, setWindow, setBlock, setKey, takeBlock, freeBlock, sweepBlock, addPointer, raisePointer, lowerPointer, dropPointer, dropFrom, setTime, changePublic, changeKeys, changeContents, change, changes}
+use Rattle.card.proofs.Guarantees.Steps.{state-other}
 use Rattle.card.proofs.Secrecy.Closed.{Closed, Regular, Idle, Allowed, Grown, regular-change, closed-change}
 
 -- ---- the contents of a block after one change
@@ -203,9 +204,6 @@ Frees (setTime t total) x = ⊥
 abbrev InState : (ℕ → Bool) → Public → ℕ → Bool
 InState test p x = ltb x (p .info .blocks) && test (flag p x)
 
-other-state : (test : ℕ → Bool) (p : Public) (b v x : ℕ) → (x ≡ b → ⊥) → InState test (withFlags p (set (p .flags) b v)) x ≡ InState test p x
-other-state test p b v x n = ap (λ (f : ℕ). ltb x (p .info .blocks) && test f) (getD-set-other (p .flags) b x v 0 n)
-
 -- Flags stay, but those of a block that joins the set or is freed.
 state-kept : (test : ℕ → Bool) (p : Public) (step : Change) (G : ℕ → Type 0) → Allowed G p step → (x : ℕ)
     → Grown G step x ⊎ (Frees step x ⊎ (InState test (changePublic step p) x ≡ InState test p x))
@@ -213,13 +211,13 @@ unfolding changePublic
 state-kept test p (setWindow mode b end) G h x = inr (inr refl)
 state-kept test p (setBlock b ys) G h x = inr (inr refl)
 state-kept test p (setKey mode b key) G h x =
-    ⊎-elim (λ (e : x ≡ b). inl (inl (subst G (sym e) h))) (λ (n : x ≡ b → ⊥). inr (inr (other-state test p b _ x n))) (same-or-other x b)
+    ⊎-elim (λ (e : x ≡ b). inl (inl (subst G (sym e) h))) (λ (n : x ≡ b → ⊥). inr (inr (state-other test p b _ x n))) (same-or-other x b)
 state-kept test p (takeBlock b) G h x =
-    ⊎-elim (λ (e : x ≡ b). inl (inr e)) (λ (n : x ≡ b → ⊥). inr (inr (other-state test p b 1 x n))) (same-or-other x b)
+    ⊎-elim (λ (e : x ≡ b). inl (inr e)) (λ (n : x ≡ b → ⊥). inr (inr (state-other test p b 1 x n))) (same-or-other x b)
 state-kept test p (freeBlock b) G h x =
-    ⊎-elim (λ (e : x ≡ b). inr (inl e)) (λ (n : x ≡ b → ⊥). inr (inr (other-state test p b freedFlags x n))) (same-or-other x b)
+    ⊎-elim (λ (e : x ≡ b). inr (inl e)) (λ (n : x ≡ b → ⊥). inr (inr (state-other test p b freedFlags x n))) (same-or-other x b)
 state-kept test p (sweepBlock b) G h x =
-    ⊎-elim (λ (e : x ≡ b). inl (inr e)) (λ (n : x ≡ b → ⊥). inr (inr (other-state test p b 0 x n))) (same-or-other x b)
+    ⊎-elim (λ (e : x ≡ b). inl (inr e)) (λ (n : x ≡ b → ⊥). inr (inr (state-other test p b 0 x n))) (same-or-other x b)
 state-kept test p (addPointer y b) G h x = inr (inr refl)
 state-kept test p (raisePointer y b) G h x = inr (inr refl)
 state-kept test p (lowerPointer y b) G h x = inr (inr refl)

@@ -35,7 +35,7 @@ pub record EqualBut (Differ : ℕ → Type 0) (c d : Card) : Type 0 where
 abbrev pub HiddenOrUnallocated : (ℕ → ℕ → Bool) → Card → ℕ → Type 0
 HiddenOrUnallocated K c b = Hidden K c b ⊎ (allocated (c .public) b ≡ false)
 
--- And at the end: those that were hidden, and those that were unallocated and still are; but none that was swept, so that is free and was not.
+-- And at the end: those that were hidden, and those that were unallocated and still are; but none that is free and was not, so was swept.
 abbrev pub StillDiffers : (ℕ → ℕ → Bool) → Card → Card → ℕ → Type 0
 StillDiffers K c after b =
     (Hidden K c b ⊎ ((allocated (c .public) b ≡ false) × (allocated (after .public) b ≡ false)))

@@ -32,7 +32,7 @@ same-length-2 : tie.Need-same-length-2
 same-length-2 c = search needs
 
 returns : tie.Need-returns
-returns c = search block-swept
+returns c = block-swept (c .before .before .before .before .before .before .pre) (c .before .before .clear .ensures)
 
 pub sweep-block-spec : {M : Type 1} → statement M
 sweep-block-spec =
