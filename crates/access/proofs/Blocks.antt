@@ -7,85 +7,85 @@ use native.Mathlib.Omega.{arith}
 use lib.ListN.{length, get_or}
 use lib.Dec.{ltb}
 use borrow.Author.Tests.{lt-ltb, le-ltb, not-false}
-use Rattle.card.specs.Card.{Public, Card, card, allocated, allocatedFlag}
-use Rattle.card.specs.Soundness.{timeLimit}
+use Rattle.card.specs.Card.{Public, Card, card, allocated, allocated_flag}
+use Rattle.card.specs.Soundness.{time_limit}
 use Rattle.card.specs.SoundCard.{SoundCard}
-use Rattle.laws.specs.SoundnessLaws.{allocated-below}
+use Rattle.laws.specs.SoundnessLaws.{allocated_below}
 use Rattle.card.specs.Access.{admits}
-use Rattle.card.specs.Calls.{rootAtHost}
+use Rattle.card.specs.Calls.{root_at_host}
 use Rattle.card.specs.declared.Info.{Info}
 use Rattle.card.specs.declared.Port.{Port}
 use Rattle.card.specs.declared.Port.TheVariants.{Host, Service}
 use Rattle.card.specs.declared.Mode.{Mode}
 use Rattle.card.specs.declared.Credential.{Credential}
 use Rattle.access.specs.Accessible.{Accessible, bare}
-use Rattle.access.specs.AccessibleLaws.{sound-accessible, admits-bare}
+use Rattle.access.specs.AccessibleLaws.{sound_accessible, admits_bare}
 
 -- The public part by its record and flags alone.
 abbrev pub flagged : Public → Public
 flagged p = (card p.info p.flags [] [] [] [] [] []).public
 
-pub missing-above : (p : Public) (b : ℕ) → p.info.blocks ≤ b → true ≡ not (allocated p b)
+pub missing_above : (p : Public) (b : ℕ) → p.info.blocks ≤ b → true ≡ not (allocated p b)
 unfolding allocated
-missing-above p b h = rw (le-ltb b p.info.blocks h)
+missing_above p b h = rw (le-ltb b p.info.blocks h)
 
-pub missing-below : (p : Public) (b : ℕ) {t : Bool} → b < p.info.blocks → t ≡ allocatedFlag (get_or p.flags b 0) → not t ≡ not (allocated p b)
+pub missing_below : (p : Public) (b : ℕ) {t : Bool} → b < p.info.blocks → t ≡ allocated_flag (get_or p.flags b 0) → not t ≡ not (allocated p b)
 unfolding allocated
-missing-below p b h told = rw (lt-ltb b p.info.blocks h, told)
+missing_below p b h told = rw (lt-ltb b p.info.blocks h, told)
 
 module _ (p : Public) (b : ℕ) {t : Bool} (told : t ≡ not (allocated (flagged p) b)) where
   -- The test on the card, whichever way it came out.
-  pub missing-told : {s : Bool} → t ≡ s → not (allocated p b) ≡ s
+  pub missing_told : {s : Bool} → t ≡ s → not (allocated p b) ≡ s
   unfolding allocated
-  missing-told e = sym told ∙ e
+  missing_told e = sym told ∙ e
 
   pub there : t ≡ false → b < p.info.blocks
-  there e = allocated-below p b (not-false (allocated p b) (missing-told e))
+  there e = allocated_below p b (not-false (allocated p b) (missing_told e))
 
 -- A block that is there has both windows.
-pub windows-there : {c : Card} (b : ℕ) {t : Bool} → SoundCard c → t ≡ not (allocated (flagged c.public) b) → t ≡ false
+pub windows_there : {c : Card} (b : ℕ) {t : Bool} → SoundCard c → t ≡ not (allocated (flagged c.public) b) → t ≡ false
     → 2 * b + 2 ≤ length c.public.windows
-windows-there {c} b s told e = omega (arith, s.shaped.hasLengths.windows, there c.public b told e)
+windows_there {c} b s told e = omega (arith, s.shaped.has_lengths.windows, there c.public b told e)
 
 -- A block that is there has a flags byte and four key words.
-pub flag-there : {c : Card} (b : ℕ) {t : Bool} → SoundCard c → t ≡ not (allocated (flagged c.public) b) → t ≡ false → b < length c.public.flags
-flag-there {c} b s told e = omega (arith, s.shaped.hasLengths.flags, there c.public b told e)
+pub flag_there : {c : Card} (b : ℕ) {t : Bool} → SoundCard c → t ≡ not (allocated (flagged c.public) b) → t ≡ false → b < length c.public.flags
+flag_there {c} b s told e = omega (arith, s.shaped.has_lengths.flags, there c.public b told e)
 
-pub keys-there : {c : Card} (b : ℕ) {t : Bool} → SoundCard c → t ≡ not (allocated (flagged c.public) b) → t ≡ false → 4 * b + 4 ≤ length c.keys
-keys-there {c} b s told e = omega (arith, s.shaped.hasLengths.keys, there c.public b told e)
+pub keys_there : {c : Card} (b : ℕ) {t : Bool} → SoundCard c → t ≡ not (allocated (flagged c.public) b) → t ≡ false → 4 * b + 4 ≤ length c.keys
+keys_there {c} b s told e = omega (arith, s.shaped.has_lengths.keys, there c.public b told e)
 
 -- What a window of a block that is there is set by.
-pub windows-low : {c : Card} (b : ℕ) {t : Bool} → SoundCard c → t ≡ not (allocated (flagged c.public) b) → t ≡ false
-    → (c.public.info.time < timeLimit) × ((b < 65536) × (2 * b + 2 ≤ length c.public.windows))
-windows-low {c} b s told e =
+pub windows_low : {c : Card} (b : ℕ) {t : Bool} → SoundCard c → t ≡ not (allocated (flagged c.public) b) → t ≡ false
+    → (c.public.info.time < time_limit) × ((b < 65536) × (2 * b + 2 ≤ length c.public.windows))
+windows_low {c} b s told e =
     let below : b < c.public.info.blocks = there c.public b told e in
-    let blocks : c.public.info.blocks ≤ 4096 = s.shaped.inRanges.blocksHigh in
-    (s.shaped.timeHigh, (omega arith, windows-there b s told e))
+    let blocks : c.public.info.blocks ≤ 4096 = s.shaped.in_ranges.blocks_high in
+    (s.shaped.time_high, (omega arith, windows_there b s told e))
 
 -- ---- the access test
 
-pub access-there : {c : Card} (b : ℕ) {t : Bool} → SoundCard c → t ≡ not (allocated (flagged c.public) b) → t ≡ false → Accessible (bare c) b
-access-there {c} b s told e = sound-accessible s (there c.public b told e)
+pub access_there : {c : Card} (b : ℕ) {t : Bool} → SoundCard c → t ≡ not (allocated (flagged c.public) b) → t ≡ false → Accessible (bare c) b
+access_there {c} b s told e = sound_accessible s (there c.public b told e)
 
 module _ (port : Port) (c : Card) (mode : Mode) (b : ℕ) (credential : Credential) {a : Bool} (told : a ≡ admits port (bare c) mode b credential) where
-  pub closed-told : {s : Bool} → not a ≡ s → not (admits port c mode b credential) ≡ s
-  closed-told e = sym (ap not (told ∙ admits-bare port c mode b credential)) ∙ e
+  pub closed_told : {s : Bool} → not a ≡ s → not (admits port c mode b credential) ≡ s
+  closed_told e = sym (ap not (told ∙ admits_bare port c mode b credential)) ∙ e
 
 -- ---- roots
 
-pub root-host : (info : Info) (b : ℕ) {port : Port} → port ≡ Host → ltb b info.roots ≡ rootAtHost port (card info [] [] [] [] [] [] []).public b
-unfolding rootAtHost
-root-host info b e = rw e
+pub root_host : (info : Info) (b : ℕ) {port : Port} → port ≡ Host → ltb b info.roots ≡ root_at_host port (card info [] [] [] [] [] [] []).public b
+unfolding root_at_host
+root_host info b e = rw e
 
-pub root-service : (info : Info) (b : ℕ) {port : Port} → port ≡ Service → false ≡ rootAtHost port (card info [] [] [] [] [] [] []).public b
-unfolding rootAtHost
-root-service info b e = rw e
+pub root_service : (info : Info) (b : ℕ) {port : Port} → port ≡ Service → false ≡ root_at_host port (card info [] [] [] [] [] [] []).public b
+unfolding root_at_host
+root_service info b e = rw e
 
-same-root : (port : Port) (p : Public) (b : ℕ) → rootAtHost port (card p.info [] [] [] [] [] [] []).public b ≡ rootAtHost port p b
-unfolding rootAtHost
-same-root Host p b = refl
-same-root Service p b = refl
+same_root : (port : Port) (p : Public) (b : ℕ) → root_at_host port (card p.info [] [] [] [] [] [] []).public b ≡ root_at_host port p b
+unfolding root_at_host
+same_root Host p b = refl
+same_root Service p b = refl
 
 -- A test of a root, whichever way it came out.
-pub root_told : (port : Port) (p : Public) (b : ℕ) {t s : Bool} → t ≡ rootAtHost port (card p.info [] [] [] [] [] [] []).public b → t ≡ s → rootAtHost port p b ≡ s
-root_told port p b told e = sym (told ∙ same-root port p b) ∙ e
+pub root_told : (port : Port) (p : Public) (b : ℕ) {t s : Bool} → t ≡ root_at_host port (card p.info [] [] [] [] [] [] []).public b → t ≡ s → root_at_host port p b ≡ s
+root_told port p b told e = sym (told ∙ same_root port p b) ∙ e

@@ -5,7 +5,7 @@ use Rattle.tables.specs.InUse.{Sorted}
 
 -- What following a reference to the block asks.
 pub record Referable (p : Public) (b : ℕ) : Type 0 where
-  pub blocksHigh : p.info.blocks ≤ 4096
+  pub blocks_high : p.info.blocks ≤ 4096
   pub flags : length p.flags ≡ p.info.blocks
   pub windows : length p.windows ≡ 2 * p.info.blocks
   pub sorted : Sorted p.pointers p.info.used

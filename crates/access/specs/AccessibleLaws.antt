@@ -1,37 +1,37 @@
 -- From the whole card to the one with empty counts and contents: it is accessible, and it opens alike.
 use Rattle.std.specs.Prelude.{ℕ, ◌<◌, ◌≡◌, refl}
-use Rattle.card.specs.Card.{Card, allocated, has_key, windowOpen, pointsTo}
+use Rattle.card.specs.Card.{Card, allocated, has_key, window_open, points_to}
 use Rattle.card.specs.SoundCard.{SoundCard}
-use Rattle.card.specs.Access.{keyOpens, opensKeyed, opensPointed, opens, admits}
+use Rattle.card.specs.Access.{key_opens, opens_keyed, opens_pointed, opens, admits}
 use Rattle.card.specs.declared.Mode.{Mode}
 use Rattle.card.specs.declared.Mode.TheVariants.{Reading, Writing}
 use Rattle.card.specs.declared.Port.{Port}
 use Rattle.card.specs.declared.Port.TheVariants.{Host, Service}
 use Rattle.card.specs.declared.Credential.{Credential}
 use Rattle.card.specs.declared.Credential.TheVariants.{Nothing, Reference, Key}
-use Rattle.tables.specs.InUseLaws.{sound-sorted}
+use Rattle.tables.specs.InUseLaws.{sound_sorted}
 use Rattle.access.specs.Accessible.{Accessible, bare}
 
-pub sound-accessible : {c : Card} {b : ℕ} → SoundCard c → b < c.public.info.blocks → Accessible (bare c) b
-sound-accessible s l = record {
+pub sound_accessible : {c : Card} {b : ℕ} → SoundCard c → b < c.public.info.blocks → Accessible (bare c) b
+sound_accessible s l = record {
   referable = record {
-    blocksHigh = s.shaped.inRanges.blocksHigh;
-    flags = s.shaped.hasLengths.flags;
-    windows = s.shaped.hasLengths.windows;
-    sorted = sound-sorted s;
+    blocks_high = s.shaped.in_ranges.blocks_high;
+    flags = s.shaped.has_lengths.flags;
+    windows = s.shaped.has_lengths.windows;
+    sorted = sound_sorted s;
     below = l;
   };
-  keys = s.shaped.hasLengths.keys;
+  keys = s.shaped.has_lengths.keys;
 }
 
-pub opens-bare : (c : Card) (mode : Mode) (b : ℕ) (credential : Credential) → opens (bare c) mode b credential ≡ opens c mode b credential
-unfolding opens opensKeyed opensPointed keyOpens allocated has_key windowOpen pointsTo
-opens-bare c mode b Nothing = refl
-opens-bare c mode b (Reference r) = refl
-opens-bare c Reading b (Key high low) = refl
-opens-bare c Writing b (Key high low) = refl
+pub opens_bare : (c : Card) (mode : Mode) (b : ℕ) (credential : Credential) → opens (bare c) mode b credential ≡ opens c mode b credential
+unfolding opens opens_keyed opens_pointed key_opens allocated has_key window_open points_to
+opens_bare c mode b Nothing = refl
+opens_bare c mode b (Reference r) = refl
+opens_bare c Reading b (Key high low) = refl
+opens_bare c Writing b (Key high low) = refl
 
-pub admits-bare : (port : Port) (c : Card) (mode : Mode) (b : ℕ) (credential : Credential) → admits port (bare c) mode b credential ≡ admits port c mode b credential
+pub admits_bare : (port : Port) (c : Card) (mode : Mode) (b : ℕ) (credential : Credential) → admits port (bare c) mode b credential ≡ admits port c mode b credential
 unfolding admits
-admits-bare Host c mode b credential = opens-bare c mode b credential
-admits-bare Service c mode b credential = refl
+admits_bare Host c mode b credential = opens_bare c mode b credential
+admits_bare Service c mode b credential = refl

@@ -2,9 +2,9 @@
 // reading or writing.
 ghost use Rattle.std.specs.Prelude.{◌≡◌, ◌&&◌, [], ◌+◌, ◌*◌, ◌<◌, ◌≤◌, eqb, length, get_or};
 ghost use Rattle.card.specs.declared.Credential.TheVariants.{Reference};
-ghost use Rattle.card.specs.Card.{Card, card, windowOpen};
-ghost use Rattle.card.specs.Access.{keyIs, keyOpens, opensPointed, opens, admits};
-ghost use Rattle.card.specs.Calls.{missing, rootAtHost};
+ghost use Rattle.card.specs.Card.{Card, card, window_open};
+ghost use Rattle.card.specs.Access.{key_is, key_opens, opens_pointed, opens, admits};
+ghost use Rattle.card.specs.Calls.{missing, root_at_host};
 ghost use Rattle.access.specs.Accessible.{Referable, Accessible};
 
 use card::{Credential, Info, Mode, Port};
@@ -24,7 +24,7 @@ pub fn missing(info: Info, flags: &[u8], block: usize) -> bool
 
 // "6": the block is a root and the call is a host's.
 pub fn root_at_host(port: Port, info: Info, block: usize) -> bool
-    ensures { result ≡ rootAtHost port (card info [] [] [] [] [] [] []).public block }
+    ensures { result ≡ root_at_host port (card info [] [] [] [] [] [] []).public block }
 {
     match port {
         Port::Host => block < info.roots,
@@ -47,7 +47,7 @@ fn same_words(keys: &[u64], at: usize, high: u64, low: u64) -> bool
 // The words are those of the block's key for the mode.
 pub fn key_is(keys: &[u64], mode: Mode, block: usize, high: u64, low: u64) -> bool
     requires { 4 * block + 4 ≤ length keys.now }
-    ensures { result ≡ keyIs keys.now mode block high low }
+    ensures { result ≡ key_is keys.now mode block high low }
 {
     match mode {
         Mode::Reading => same_words(keys, 4 * block, high, low),
@@ -58,7 +58,7 @@ pub fn key_is(keys: &[u64], mode: Mode, block: usize, high: u64, low: u64) -> bo
 // The key opens the block, which has a key for the mode: so it is on each card with these keys and this flags byte.
 fn key_opens(flag: u8, keys: &[u64], mode: Mode, block: usize, high: u64, low: u64) -> bool
     requires { 4 * block + 4 ≤ length keys.now }
-    ensures { (c : Card) → c.keys ≡ keys.now → get_or c.public.flags block 0 ≡ flag → result ≡ keyOpens c mode block high low }
+    ensures { (c : Card) → c.keys ≡ keys.now → get_or c.public.flags block 0 ≡ flag → result ≡ key_opens c mode block high low }
 {
     match mode {
         Mode::Reading => {
@@ -75,7 +75,7 @@ fn key_opens(flag: u8, keys: &[u64], mode: Mode, block: usize, high: u64, low: u
 // The block's window for the mode is open: the time is below its end.
 pub fn window_open(info: Info, windows: &[u64], mode: Mode, block: usize) -> bool
     requires { 2 * block + 2 ≤ length windows.now }
-    ensures { result ≡ windowOpen (card info [] [] [] [] [] windows.now []).public mode block }
+    ensures { result ≡ window_open (card info [] [] [] [] [] windows.now []).public mode block }
 {
     let at = 2 * block;
     let read = windows[at];
@@ -97,7 +97,7 @@ fn reference_opens(
     reference: u16,
 ) -> bool
     requires { Referable (card info flags.now [] [] pointers.now [] windows.now []).public block }
-    ensures { result ≡ opensPointed (card info flags.now [] [] pointers.now [] windows.now []).public mode block (Reference reference) }
+    ensures { result ≡ opens_pointed (card info flags.now [] [] pointers.now [] windows.now []).public mode block (Reference reference) }
 {
     let source = reference as usize;
     if info.blocks <= source {

@@ -3,15 +3,15 @@ use Rattle.std.specs.Prelude.{ℕ, ◌≡◌, cond, List, [], eqb, length}
 use Rattle.card.specs.Card.{Card}
 use Rattle.card.specs.Lent.{Lent, LentNumber, at_entry, at_exit}
 use Rattle.card.specs.Plan.{Result}
-use Rattle.card.specs.Calls.{answerNumber, format}
+use Rattle.card.specs.Calls.{answer_number, format}
 use Rattle.card.specs.Session.{request, perform}
 use Rattle.card.specs.declared.Answer.{Answer}
 use Rattle.card.specs.declared.Answer.TheVariants.{Refused, Done, Value}
-use Rattle.report.specs.Report.{reachReport, unlockingReport}
+use Rattle.report.specs.Report.{reach_report, unlocking_report}
 use Rattle.decoding.specs.Decode.{data_of}
 use Rattle.decoding.specs.declared.Decoding.{Decoding}
 use Rattle.decoding.specs.declared.Decoding.TheVariants.{Decoded, Bad}
-use Rattle.parameters.specs.Numbers.{recordLength, recordOf, numbersOf}
+use Rattle.parameters.specs.Numbers.{record_length, record_of, numbers_of}
 
 pub record Effect : Type 0 where
   pub number : ℕ
@@ -22,55 +22,55 @@ pub record Effect : Type 0 where
   pub places : List ℕ
 
 -- A call with a result puts it in the place that the caller lends for it.
-abbrev pub valueAfter : Answer → ℕ → ℕ
-valueAfter (Refused r) value = value
-valueAfter Done value = value
-valueAfter (Value v) value = v
+abbrev pub value_after : Answer → ℕ → ℕ
+value_after (Refused r) value = value
+value_after Done value = value
+value_after (Value v) value = v
 
 -- What the result of a rule comes to.
 abbrev pub effect_of : Result → ℕ → Effect
 effect_of r value = record {
-  number = answerNumber r.answer;
-  value = valueAfter r.answer value;
-  info = numbersOf r.after.public.info;
+  number = answer_number r.answer;
+  value = value_after r.answer value;
+  info = numbers_of r.after.public.info;
   after = r.after;
   out = r.out;
   places = r.places;
 }
 
 -- A refusal changes nothing.
-abbrev pub refusedEffect : ℕ → List ℕ → List ℕ → ℕ → List ℕ → Card → Effect
-refusedEffect number out places value info c = record { number = number; value = value; info = info; after = c; out = out; places = places }
+abbrev pub refused_effect : ℕ → List ℕ → List ℕ → ℕ → List ℕ → Card → Effect
+refused_effect number out places value info c = record { number = number; value = value; info = info; after = c; out = out; places = places }
 
 -- A call, if the operands or the bytes hold one, else 13; and 1 where the record has not its numbers.
 unfoldable pub effect : Decoding → List ℕ → List ℕ → List ℕ → ℕ → List ℕ → Card → Effect
 effect (Decoded port call) input out places value info c =
-    cond (eqb (length info) recordLength) (effect_of (perform port c (request call input out places)) value) (refusedEffect 1 out places value info c)
-effect Bad input out places value info c = refusedEffect 13 out places value info c
+    cond (eqb (length info) record_length) (effect_of (perform port c (request call input out places)) value) (refused_effect 1 out places value info c)
+effect Bad input out places value info c = refused_effect 13 out places value info c
 
 -- ---- what no record carries
 
 -- A rule of its own: 1 where the record has not its numbers.
-unfoldable pub ruleEffect : (Card → Result) → List ℕ → ℕ → List ℕ → Card → Effect
-ruleEffect rule places value info c = cond (eqb (length info) recordLength) (effect_of (rule c) value) (refusedEffect 1 [] places value info c)
+unfoldable pub rule_effect : (Card → Result) → List ℕ → ℕ → List ℕ → Card → Effect
+rule_effect rule places value info c = cond (eqb (length info) record_length) (effect_of (rule c) value) (refused_effect 1 [] places value info c)
 
 -- FORMAT, which has no record to be sound.
-abbrev pub formatEffect : ℕ → ℕ → ℕ → List ℕ → Card → Effect
-formatEffect blocks roots bytes info c = ruleEffect (format blocks roots bytes) [] 0 info c
+abbrev pub format_effect : ℕ → ℕ → ℕ → List ℕ → Card → Effect
+format_effect blocks roots bytes info c = rule_effect (format blocks roots bytes) [] 0 info c
 
 -- 2026-03: the two lists of the reach report.
-abbrev pub reachEffect : List ℕ → List ℕ → ℕ → List ℕ → Card → Effect
-reachEffect words places value info c = ruleEffect (reachReport words places) places value info c
+abbrev pub reach_effect : List ℕ → List ℕ → ℕ → List ℕ → Card → Effect
+reach_effect words places value info c = rule_effect (reach_report words places) places value info c
 
-abbrev pub unlockingEffect : List ℕ → ℕ → List ℕ → ℕ → List ℕ → Card → Effect
-unlockingEffect words chosen places value info c = ruleEffect (unlockingReport words chosen places) places value info c
+abbrev pub unlocking_effect : List ℕ → ℕ → List ℕ → ℕ → List ℕ → Card → Effect
+unlocking_effect words chosen places value info c = rule_effect (unlocking_report words chosen places) places value info c
 
 -- ---- a call record
 
 -- The bytes that a record has beside its operands.
-unfoldable pub dataIn : Decoding → List ℕ → List ℕ
-dataIn (Decoded port call) body = data_of call body
-dataIn Bad body = []
+unfoldable pub data_in : Decoding → List ℕ → List ℕ
+data_in (Decoded port call) body = data_of call body
+data_in Bad body = []
 
 -- ---- what the contracts cite
 
@@ -79,8 +79,8 @@ pub record Does (want : Effect) (number : ℕ) (info : List ℕ) (after : Card) 
   pub answers : number ≡ want.number
   pub records : info ≡ want.info
   pub leaves : after ≡ want.after
-  pub fillsOut : out ≡ want.out
-  pub fillsPlaces : places ≡ want.places
+  pub fills_out : out ≡ want.out
+  pub fills_places : places ≡ want.places
 
 -- The same of a function that may have a result.
 pub record Gives (want : Effect) (number value : ℕ) (info : List ℕ) (after : Card) (out places : List ℕ) : Type 0 where
@@ -90,21 +90,21 @@ pub record Gives (want : Effect) (number value : ℕ) (info : List ℕ) (after :
 -- What a function returns and leaves is the effect of the rule on the record and the card at its entry.
 abbrev pub Effects : (List ℕ → Card → Effect) → Lent → Lent → Lent → Lent → Lent → Lent → Lent → Lent → ℕ → List ℕ → List ℕ → Type 0
 Effects rule info flags keys counts pointers multiplicities windows contents r out places =
-    Does (rule info.entry.now (at_entry (recordOf info.entry.now) flags keys counts pointers multiplicities windows contents))
+    Does (rule info.entry.now (at_entry (record_of info.entry.now) flags keys counts pointers multiplicities windows contents))
     r
     info.exit.now
-    (at_exit (recordOf info.exit.now) flags keys counts pointers multiplicities windows contents)
+    (at_exit (record_of info.exit.now) flags keys counts pointers multiplicities windows contents)
     out
     places
 
 -- The same of a function that may have a result.
 abbrev pub EffectsGiving : (ℕ → List ℕ → Card → Effect) → Lent → Lent → Lent → Lent → Lent → Lent → Lent → Lent → LentNumber → ℕ → Type 0
 EffectsGiving rule info flags keys counts pointers multiplicities windows contents value r =
-    Gives (rule value.entry.now info.entry.now (at_entry (recordOf info.entry.now) flags keys counts pointers multiplicities windows contents))
+    Gives (rule value.entry.now info.entry.now (at_entry (record_of info.entry.now) flags keys counts pointers multiplicities windows contents))
     r
     value.exit.now
     info.exit.now
-    (at_exit (recordOf info.exit.now) flags keys counts pointers multiplicities windows contents)
+    (at_exit (record_of info.exit.now) flags keys counts pointers multiplicities windows contents)
     []
     []
 
@@ -112,11 +112,11 @@ EffectsGiving rule info flags keys counts pointers multiplicities windows conten
 abbrev pub EffectsLent : (List ℕ → List ℕ → ℕ → List ℕ → Card → Effect) → Lent → Lent → Lent → Lent → Lent → Lent → Lent → Lent → Lent → Lent → LentNumber → ℕ → Type 0
 EffectsLent rule info flags keys counts pointers multiplicities windows contents out places value r =
     Gives
-    (rule out.entry.now places.entry.now value.entry.now info.entry.now (at_entry (recordOf info.entry.now) flags keys counts pointers multiplicities windows contents))
+    (rule out.entry.now places.entry.now value.entry.now info.entry.now (at_entry (record_of info.entry.now) flags keys counts pointers multiplicities windows contents))
     r
     value.exit.now
     info.exit.now
-    (at_exit (recordOf info.exit.now) flags keys counts pointers multiplicities windows contents)
+    (at_exit (record_of info.exit.now) flags keys counts pointers multiplicities windows contents)
     out.exit.now
     places.exit.now
 
@@ -124,10 +124,10 @@ EffectsLent rule info flags keys counts pointers multiplicities windows contents
 abbrev pub EffectsListing : (List ℕ → ℕ → List ℕ → Card → Effect) → Lent → Lent → Lent → Lent → Lent → Lent → Lent → Lent → Lent → LentNumber → ℕ → Type 0
 EffectsListing rule info flags keys counts pointers multiplicities windows contents places value r =
     Gives
-    (rule places.entry.now value.entry.now info.entry.now (at_entry (recordOf info.entry.now) flags keys counts pointers multiplicities windows contents))
+    (rule places.entry.now value.entry.now info.entry.now (at_entry (record_of info.entry.now) flags keys counts pointers multiplicities windows contents))
     r
     value.exit.now
     info.exit.now
-    (at_exit (recordOf info.exit.now) flags keys counts pointers multiplicities windows contents)
+    (at_exit (record_of info.exit.now) flags keys counts pointers multiplicities windows contents)
     []
     places.exit.now

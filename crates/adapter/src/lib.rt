@@ -1,16 +1,16 @@
 // A call performed on what C lends, and what C gets of it: a number, and a result where there is one.
 ghost use Rattle.std.specs.Prelude.{◌≡◌, [], length};
-ghost use Rattle.card.specs.Calls.{answerNumber};
-ghost use Rattle.parameters.specs.Numbers.{recordLength, numbersOf};
-ghost use Rattle.adapter.specs.Effects.{valueAfter, effect, EffectsGiving, EffectsLent};
+ghost use Rattle.card.specs.Calls.{answer_number};
+ghost use Rattle.parameters.specs.Numbers.{record_length, numbers_of};
+ghost use Rattle.adapter.specs.Effects.{value_after, effect, EffectsGiving, EffectsLent};
 
 use card::{Answer, Outcome};
 use decoding::Decoding;
 
 // The number of an answer; a result is put where the caller asks for it.
 pub fn report(answer: Answer, value: &mut u64) -> u32
-    ensures number { result ≡ answerNumber answer }
-    ensures result { value.new ≡ valueAfter answer value.old }
+    ensures number { result ≡ answer_number answer }
+    ensures result { value.new ≡ value_after answer value.old }
 {
     match answer {
         Answer::Refused(refusal) => lines::refusal_number(refusal) as u32,
@@ -24,10 +24,10 @@ pub fn report(answer: Answer, value: &mut u64) -> u32
 
 // What a call leaves of the record is stored, and its answer reported.
 pub fn settle(info: &mut [u64], outcome: Outcome, value: &mut u64) -> u32
-    requires { length info.old ≡ recordLength }
-    ensures stored { info.new ≡ numbersOf outcome.info }
-    ensures number { result ≡ answerNumber outcome.answer }
-    ensures result { value.new ≡ valueAfter outcome.answer value.old }
+    requires { length info.old ≡ record_length }
+    ensures stored { info.new ≡ numbers_of outcome.info }
+    ensures number { result ≡ answer_number outcome.answer }
+    ensures result { value.new ≡ value_after outcome.answer value.old }
 {
     let left = outcome.info;
     let answer = outcome.answer;

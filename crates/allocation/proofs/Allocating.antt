@@ -7,14 +7,14 @@ use lib.Dec.{ltb}
 use lib.ListN.{length, take}
 use borrow.Author.Tests.{lt-ltb, le-ltb, ltb-false}
 use Rattle.card.specs.Contents.{overwrite}
-use Rattle.card.specs.Card.{Card, card, freeBlocks}
+use Rattle.card.specs.Card.{Card, card, free_blocks}
 use Rattle.card.specs.SoundCard.{SoundCard}
-use Rattle.card.specs.Plan.{◌⇒◌, FirstHolds, here, NoneHolds, changes, outAfter, placesAfter}
-use Rattle.laws.specs.PlanLaws.{holds-front, holds-behind, none-append}
-use Rattle.card.specs.Calls.{wanted, picks, takeAll, allocPlan}
-use Rattle.laws.specs.PicksLaws.{picks-takeable, picks-length}
+use Rattle.card.specs.Plan.{◌⇒◌, FirstHolds, here, NoneHolds, changes, out_after, places_after}
+use Rattle.laws.specs.PlanLaws.{holds_front, holds_behind, none_append}
+use Rattle.card.specs.Calls.{wanted, picks, take_all, alloc_plan}
+use Rattle.laws.specs.PicksLaws.{picks_takeable, picks_length}
 use Rattle.card.specs.Promises.{Is}
-use Rattle.card.specs.Session.{Request, request, plan, performSound}
+use Rattle.card.specs.Session.{Request, request, plan, perform_sound}
 use Rattle.card.specs.declared.Info.{Info}
 use Rattle.card.specs.declared.Outcome.{Outcome}
 use Rattle.card.specs.declared.Port.{Port}
@@ -23,72 +23,72 @@ use Rattle.card.specs.declared.AllocOperands.{AllocOperands}
 use Rattle.card.specs.declared.Refusal.{Refusal}
 use Rattle.card.specs.declared.Refusal.TheVariants.{TooFewPlaces}
 use Rattle.card.specs.declared.Answer.TheVariants.{Done}
-use Rattle.tables.specs.Free.{freeBelow}
-use Rattle.tables.specs.FreeLaws.{flags-free}
+use Rattle.tables.specs.Free.{free_below}
+use Rattle.tables.specs.FreeLaws.{flags_free}
 use Rattle.outcomes.specs.Outcomes.{outcome}
 use Rattle.outcomes.proofs.Returned.{finishes}
 use Rattle.checks.specs.Checked.{Refuses, Passes}
 use Rattle.allocation.specs.Walk.{CanPick}
 use Rattle.allocation.specs.Taking.{CanTakeAll}
-use Rattle.allocation.specs.SharedChecks.{sharedChecks}
-use Rattle.allocation.proofs.Shared.{shared, wanted-there, count_fits, enough-free, Chosen, first-places, can-take-all}
+use Rattle.allocation.specs.SharedChecks.{shared_checks}
+use Rattle.allocation.proofs.Shared.{shared, wanted_there, count_fits, enough_free, Chosen, first_places, can_take_all}
 
 module _ (port : Port) (c : Card) (o : AllocOperands) (places : List ℕ) where
-  abbrev allocRequest : Request
-  allocRequest = request (Alloc o) [] [] places
+  abbrev alloc_request : Request
+  alloc_request = request (Alloc o) [] [] places
 
   -- Its checks are the shared ones, and then that of the places for pointers.
-  pub shared-refused : {r : Refusal} → FirstHolds (shared port c o places) r → Refuses port c allocRequest r
-  unfolding plan sharedChecks allocPlan
-  shared-refused h = holds-front _ h
+  pub shared_refused : {r : Refusal} → FirstHolds (shared port c o places) r → Refuses port c alloc_request r
+  unfolding plan shared_checks alloc_plan
+  shared_refused h = holds_front _ h
 
   module _ (n : NoneHolds (shared port c o places)) where
-    pub too-few-places : length c.public.pointers < c.public.info.used + o.count → Refuses port c allocRequest TooFewPlaces
-    unfolding plan sharedChecks allocPlan
-    too-few-places h = holds-behind (shared port c o places) n (here (lt-ltb _ _ h))
+    pub too_few_places : length c.public.pointers < c.public.info.used + o.count → Refuses port c alloc_request TooFewPlaces
+    unfolding plan shared_checks alloc_plan
+    too_few_places h = holds_behind (shared port c o places) n (here (lt-ltb _ _ h))
 
-    pub alloc-passes : c.public.info.used + o.count ≤ length c.public.pointers → Passes port c allocRequest
-    unfolding plan sharedChecks allocPlan
-    alloc-passes h = none-append (shared port c o places) ((ltb (length c.public.pointers) (c.public.info.used + o.count) ⇒ TooFewPlaces) ∷ []) n (le-ltb _ _ h, tt)
+    pub alloc_passes : c.public.info.used + o.count ≤ length c.public.pointers → Passes port c alloc_request
+    unfolding plan shared_checks alloc_plan
+    alloc_passes h = none_append (shared port c o places) ((ltb (length c.public.pointers) (c.public.info.used + o.count) ⇒ TooFewPlaces) ∷ []) n (le-ltb _ _ h, tt)
 
-  module _ (s : SoundCard c) (h : Passes port c allocRequest) where
-    shared-passed : NoneHolds (shared port c o places)
-    unfolding plan sharedChecks allocPlan
-    shared-passed = (h.0, (h.1.0, (h.1.1.0, (h.1.1.1.0, (h.1.1.1.1.0, tt)))))
+  module _ (s : SoundCard c) (h : Passes port c alloc_request) where
+    shared_passed : NoneHolds (shared port c o places)
+    unfolding plan shared_checks alloc_plan
+    shared_passed = (h.0, (h.1.0, (h.1.1.0, (h.1.1.1.0, (h.1.1.1.1.0, tt)))))
 
     room : c.public.info.used + o.count ≤ length c.public.pointers
-    unfolding plan allocPlan
+    unfolding plan alloc_plan
     room = ltb-false _ _ h.1.1.1.1.1.0
 
-    free-blocks : freeBelow c.public.flags (length c.public.flags) ≡ freeBlocks c.public
-    free-blocks = flags-free c.public s.shaped.hasLengths.flags
+    free_blocks_law : free_below c.public.flags (length c.public.flags) ≡ free_blocks c.public
+    free_blocks_law = flags_free c.public s.shaped.has_lengths.flags
 
     module _ {want : ℕ} (e : want ≡ wanted o.hint) where
       -- What picking the blocks asks.
-      pub can-pick : CanPick c.public.flags want o.count places
-      can-pick = rw e (record {
-        wantedBelow = omega (arith, wanted-there port c o places s shared-passed, s.shaped.hasLengths.flags);
-        blocksHigh = omega (arith, s.shaped.hasLengths.flags, s.shaped.inRanges.blocksHigh);
-        enough = rw free-blocks (enough-free port c o places s shared-passed);
-        fits = count_fits port c o places s shared-passed;
+      pub can_pick : CanPick c.public.flags want o.count places
+      can_pick = rw e (record {
+        wanted_below = omega (arith, wanted_there port c o places s shared_passed, s.shaped.has_lengths.flags);
+        blocks_high = omega (arith, s.shaped.has_lengths.flags, s.shaped.in_ranges.blocks_high);
+        enough = rw free_blocks_law (enough_free port c o places s shared_passed);
+        fits = count_fits port c o places s shared_passed;
       })
 
-      module _ {left : List ℕ} (shown : left ≡ overwrite places 0 (picks want o.count (freeBelow c.public.flags (length c.public.flags)))) where
+      module _ {left : List ℕ} (shown : left ≡ overwrite places 0 (picks want o.count (free_below c.public.flags (length c.public.flags)))) where
         -- They are picked.
-        pub picked : Chosen c o places (picks (wanted o.hint) o.count (freeBlocks c.public)) left
+        pub picked : Chosen c o places (picks (wanted o.hint) o.count (free_blocks c.public)) left
         picked = record {
-          takeable = picks-takeable c.public (wanted o.hint) o.count;
-          long = picks-length (wanted o.hint) o.count (freeBlocks c.public) (enough-free port c o places s shared-passed);
-          shown = rw (← e, ← free-blocks) shown;
+          takeable = picks_takeable c.public (wanted o.hint) o.count;
+          long = picks_length (wanted o.hint) o.count (free_blocks c.public) (enough_free port c o places s shared_passed);
+          shown = rw (← e, ← free_blocks_law) shown;
         }
 
-        pub can-take-picked : CanTakeAll c o.reference (take o.count left)
-        can-take-picked = can-take-all picked port s shared-passed room
+        pub can_take_picked : CanTakeAll c o.reference (take o.count left)
+        can_take_picked = can_take_all picked port s shared_passed room
 
-        pub alloc-done : {r : Outcome} {info : Info} {flags counts pointers multiplicities contents : List ℕ} → r ≡ outcome Done info
-            → card info flags c.keys counts pointers multiplicities c.public.windows contents ≡ changes c (takeAll o.reference (take o.count left))
-            → Is (performSound port c allocRequest) r.answer (card r.info flags c.keys counts pointers multiplicities c.public.windows contents) [] left
-        unfolding performSound plan allocPlan outAfter placesAfter
-        alloc-done f t =
-            finishes c allocRequest.lent (plan port c allocRequest.call allocRequest.lent) f h
-            (t ∙ ap (λ (xs : List ℕ). changes c (takeAll o.reference xs)) (first-places picked)) refl picked.shown
+        pub alloc_done : {r : Outcome} {info : Info} {flags counts pointers multiplicities contents : List ℕ} → r ≡ outcome Done info
+            → card info flags c.keys counts pointers multiplicities c.public.windows contents ≡ changes c (take_all o.reference (take o.count left))
+            → Is (perform_sound port c alloc_request) r.answer (card r.info flags c.keys counts pointers multiplicities c.public.windows contents) [] left
+        unfolding perform_sound plan alloc_plan out_after places_after
+        alloc_done f t =
+            finishes c alloc_request.lent (plan port c alloc_request.call alloc_request.lent) f h
+            (t ∙ ap (λ (xs : List ℕ). changes c (take_all o.reference xs)) (first_places picked)) refl picked.shown

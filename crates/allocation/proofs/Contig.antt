@@ -7,19 +7,19 @@ use native.Mathlib.Omega.{arith}
 use lib.Dec.{eqb, ltb}
 use lib.ListN.{length, take}
 use borrow.Author.Tests.{lt-ltb, le-ltb, ltb-false, eq-eqb, eqb-false}
-use Rattle.card.specs.Lists.{numbersFrom}
-use Rattle.laws.specs.ListsLaws.{absurd-test, all-at}
+use Rattle.card.specs.Lists.{numbers_from}
+use Rattle.laws.specs.ListsLaws.{absurd_test, all_at}
 use Rattle.card.specs.Contents.{overwrite}
 use Rattle.card.specs.Card.{Card, card, free}
 use Rattle.card.specs.SoundCard.{SoundCard}
-use Rattle.laws.specs.SoundnessLaws.{free-below}
-use Rattle.card.specs.Plan.{◌⇒◌, FirstHolds, here, later, NoneHolds, changes, outAfter, placesAfter}
-use Rattle.laws.specs.PlanLaws.{holds-front, holds-behind, none-append}
-use Rattle.card.specs.Calls.{wanted, takeAll, runStarts, nearestRun, allocPlan, allocContigPlan}
-use Rattle.laws.specs.RunsLaws.{numbersFrom-length, numbersFrom-at, run-takeable, run_length}
+use Rattle.laws.specs.SoundnessLaws.{free_below}
+use Rattle.card.specs.Plan.{◌⇒◌, FirstHolds, here, later, NoneHolds, changes, out_after, places_after}
+use Rattle.laws.specs.PlanLaws.{holds_front, holds_behind, none_append}
+use Rattle.card.specs.Calls.{wanted, take_all, run_starts, nearest_run, alloc_plan, alloc_contig_plan}
+use Rattle.laws.specs.RunsLaws.{numbers_from_length, numbers_from_at, run_takeable, run_length}
 use Rattle.laws.specs.Takeable.{Takeable}
 use Rattle.card.specs.Promises.{Is}
-use Rattle.card.specs.Session.{Request, request, plan, performSound}
+use Rattle.card.specs.Session.{Request, request, plan, perform_sound}
 use Rattle.card.specs.declared.Info.{Info}
 use Rattle.card.specs.declared.Outcome.{Outcome}
 use Rattle.card.specs.declared.Port.{Port}
@@ -33,150 +33,150 @@ use Rattle.outcomes.proofs.Returned.{finishes}
 use Rattle.checks.specs.declared.Checked.{Checked}
 use Rattle.checks.specs.declared.Checked.TheVariants.{Passed, Refused}
 use Rattle.checks.specs.Checked.{checked, Refuses, Passes}
-use Rattle.checks.specs.CheckedLaws.{check-refused, check-passed, refused-check, passed-check}
+use Rattle.checks.specs.CheckedLaws.{check_refused, check_passed, refused_check, passed_check}
 use Rattle.runs.specs.declared.NearestRun.{NearestRun}
 use Rattle.runs.specs.declared.NearestRun.TheVariants.{Absent, From}
-use Rattle.runs.specs.Runs.{startsIn, nearestOf}
-use Rattle.runs.specs.RunsLaws.{starts-in, nearest-absent, nearest-from}
+use Rattle.runs.specs.Runs.{starts_in, nearest_of}
+use Rattle.runs.specs.RunsLaws.{starts_in_law, nearest_absent, nearest_from}
 use Rattle.allocation.specs.declared.RunChecked.{RunChecked}
 use Rattle.allocation.specs.declared.RunChecked.TheVariants.{Refused as RunRefused, From as RunFrom}
-use Rattle.allocation.specs.RunChecked.{runChecked}
+use Rattle.allocation.specs.RunChecked.{run_checked}
 use Rattle.allocation.specs.Taking.{CanTakeAll}
-use Rattle.allocation.specs.SharedChecks.{sharedChecks}
-use Rattle.allocation.proofs.Shared.{shared, count-some, count_fits, Chosen, first-places, can-take-all}
+use Rattle.allocation.specs.SharedChecks.{shared_checks}
+use Rattle.allocation.proofs.Shared.{shared, count_some, count_fits, Chosen, first_places, can_take_all}
 
 -- ---- a refusal or a run
 
-by-from : (v : Checked) (n : NearestRun) {first : ℕ} → runChecked v n ≡ RunFrom first → (v ≡ Passed) × (n ≡ From first)
-unfolding runChecked
-by-from (Refused why) n e = let z : ◌≡◌ {A = ℕ} 0 1 = cc in absurd (omega arith)
-by-from Passed Absent e = let z : ◌≡◌ {A = ℕ} 0 1 = cc in absurd (omega arith)
-by-from Passed (From first) e = (refl, cc)
+by_from : (v : Checked) (n : NearestRun) {first : ℕ} → run_checked v n ≡ RunFrom first → (v ≡ Passed) × (n ≡ From first)
+unfolding run_checked
+by_from (Refused why) n e = let z : ◌≡◌ {A = ℕ} 0 1 = cc in absurd (omega arith)
+by_from Passed Absent e = let z : ◌≡◌ {A = ℕ} 0 1 = cc in absurd (omega arith)
+by_from Passed (From first) e = (refl, cc)
 
-by-refused : (v : Checked) (n : NearestRun) {why : Refusal} → (v ≡ Passed → n ≡ Absent → ⊥) → runChecked v n ≡ RunRefused why → v ≡ Refused why
-unfolding runChecked
-by-refused (Refused w) n some e = cc
-by-refused Passed Absent some e = absurd (some refl refl)
-by-refused Passed (From first) some e = let z : ◌≡◌ {A = ℕ} 0 1 = cc in absurd (omega arith)
+by_refused : (v : Checked) (n : NearestRun) {why : Refusal} → (v ≡ Passed → n ≡ Absent → ⊥) → run_checked v n ≡ RunRefused why → v ≡ Refused why
+unfolding run_checked
+by_refused (Refused w) n some e = cc
+by_refused Passed Absent some e = absurd (some refl refl)
+by_refused Passed (From first) some e = let z : ◌≡◌ {A = ℕ} 0 1 = cc in absurd (omega arith)
 
 -- ---- the checks
 
 module _ (port : Port) (c : Card) (o : AllocOperands) (places : List ℕ) where
-  abbrev contigRequest : Request
-  contigRequest = request (AllocContig o) [] [] places
+  abbrev contig_request : Request
+  contig_request = request (AllocContig o) [] [] places
 
   -- The nearest run by the flags.
   abbrev pub found : NearestRun
-  found = nearestOf (wanted o.hint) (startsIn c.public.flags o.count)
+  found = nearest_of (wanted o.hint) (starts_in c.public.flags o.count)
 
   abbrev starts : List ℕ
-  starts = runStarts c.public o.count
+  starts = run_starts c.public o.count
 
   -- It is found by the block that is wanted.
-  pub found-by : {r : NearestRun} {want : ℕ} → r ≡ nearestOf want (startsIn c.public.flags o.count) → want ≡ wanted o.hint → r ≡ found
-  found-by e f = e ∙ ap (λ (n : ℕ). nearestOf n (startsIn c.public.flags o.count)) f
+  pub found_by : {r : NearestRun} {want : ℕ} → r ≡ nearest_of want (starts_in c.public.flags o.count) → want ≡ wanted o.hint → r ≡ found
+  found_by e f = e ∙ ap (λ (n : ℕ). nearest_of n (starts_in c.public.flags o.count)) f
 
-  starts-found : SoundCard c → found ≡ nearestOf (wanted o.hint) starts
-  starts-found s = ap (nearestOf (wanted o.hint)) (starts-in c.public s.shaped.hasLengths.flags o.count)
+  starts_found : SoundCard c → found ≡ nearest_of (wanted o.hint) starts
+  starts_found s = ap (nearest_of (wanted o.hint)) (starts_in_law c.public s.shaped.has_lengths.flags o.count)
 
   none_found : SoundCard c → found ≡ Absent → length starts ≡ 0
-  none_found s e = nearest-absent (wanted o.hint) starts (sym (starts-found s) ∙ e)
+  none_found s e = nearest_absent (wanted o.hint) starts (sym (starts_found s) ∙ e)
 
-  run-found : SoundCard c → {first : ℕ} → found ≡ From first → (nearestRun (wanted o.hint) o.count starts ≡ numbersFrom first o.count) × (eqb (length starts) 0 ≡ false)
-  run-found s e = nearest-from (wanted o.hint) o.count starts (sym (starts-found s) ∙ e)
+  run_found : SoundCard c → {first : ℕ} → found ≡ From first → (nearest_run (wanted o.hint) o.count starts ≡ numbers_from first o.count) × (eqb (length starts) 0 ≡ false)
+  run_found s e = nearest_from (wanted o.hint) o.count starts (sym (starts_found s) ∙ e)
 
   -- Its checks are the shared ones, and then those of the run and of the places for pointers.
-  pub shared-refused : {r : Refusal} → FirstHolds (shared port c o places) r → Refuses port c contigRequest r
-  unfolding plan sharedChecks allocPlan allocContigPlan
-  shared-refused h = holds-front _ h
+  pub shared_refused : {r : Refusal} → FirstHolds (shared port c o places) r → Refuses port c contig_request r
+  unfolding plan shared_checks alloc_plan alloc_contig_plan
+  shared_refused h = holds_front _ h
 
   module _ (s : SoundCard c) (n : NoneHolds (shared port c o places)) where
-    pub no_run : found ≡ Absent → Refuses port c contigRequest NoRun
-    unfolding plan sharedChecks allocPlan allocContigPlan
-    no_run e = holds-behind (shared port c o places) n (here (eq-eqb _ 0 (none_found s e)))
+    pub no_run : found ≡ Absent → Refuses port c contig_request NoRun
+    unfolding plan shared_checks alloc_plan alloc_contig_plan
+    no_run e = holds_behind (shared port c o places) n (here (eq-eqb _ 0 (none_found s e)))
 
     module _ {first : ℕ} (e : found ≡ From first) where
-      pub no-places : length c.public.pointers < c.public.info.used + o.count → Refuses port c contigRequest TooFewPlaces
-      unfolding plan sharedChecks allocPlan allocContigPlan
-      no-places h = holds-behind (shared port c o places) n (later (run-found s e).1 (here (lt-ltb _ _ h)))
+      pub no_places : length c.public.pointers < c.public.info.used + o.count → Refuses port c contig_request TooFewPlaces
+      unfolding plan shared_checks alloc_plan alloc_contig_plan
+      no_places h = holds_behind (shared port c o places) n (later (run_found s e).1 (here (lt-ltb _ _ h)))
 
-      pub contig-passes : c.public.info.used + o.count ≤ length c.public.pointers → Passes port c contigRequest
-      unfolding plan sharedChecks allocPlan allocContigPlan
-      contig-passes h =
-          none-append (shared port c o places)
+      pub contig_passes : c.public.info.used + o.count ≤ length c.public.pointers → Passes port c contig_request
+      unfolding plan shared_checks alloc_plan alloc_contig_plan
+      contig_passes h =
+          none_append (shared port c o places)
           ((eqb (length starts) 0 ⇒ NoRun) ∷ (ltb (length c.public.pointers) (c.public.info.used + o.count) ⇒ TooFewPlaces) ∷ [])
-          n ((run-found s e).1, (le-ltb _ _ h, tt))
+          n ((run_found s e).1, (le-ltb _ _ h, tt))
 
   -- What the check gives, by what holds.
-  pub run-refused : {r : Refusal} → Refuses port c contigRequest r → RunRefused r ≡ runChecked (checked port c contigRequest) found
-  unfolding runChecked
-  run-refused h = rw (← check-refused port c contigRequest h)
+  pub run_refused : {r : Refusal} → Refuses port c contig_request r → RunRefused r ≡ run_checked (checked port c contig_request) found
+  unfolding run_checked
+  run_refused h = rw (← check_refused port c contig_request h)
 
-  pub run-passed : Passes port c contigRequest → {first : ℕ} → found ≡ From first → RunFrom first ≡ runChecked (checked port c contigRequest) found
-  unfolding runChecked
-  run-passed h e = rw (← check-passed port c contigRequest h, e)
+  pub run_passed : Passes port c contig_request → {first : ℕ} → found ≡ From first → RunFrom first ≡ run_checked (checked port c contig_request) found
+  unfolding run_checked
+  run_passed h e = rw (← check_passed port c contig_request h, e)
 
   -- And what holds, by what it gives.
-  module _ (s : SoundCard c) {v : RunChecked} (told : v ≡ runChecked (checked port c contigRequest) found) where
-    run-there : Passes port c contigRequest → found ≡ Absent → ⊥
-    unfolding plan allocContigPlan
-    run-there h e = absurd-test (eq-eqb (length starts) 0 (none_found s e)) h.1.1.1.1.1.0
+  module _ (s : SoundCard c) {v : RunChecked} (told : v ≡ run_checked (checked port c contig_request) found) where
+    run_there : Passes port c contig_request → found ≡ Absent → ⊥
+    unfolding plan alloc_contig_plan
+    run_there h e = absurd_test (eq-eqb (length starts) 0 (none_found s e)) h.1.1.1.1.1.0
 
-    pub refused-run : {r : Refusal} → v ≡ RunRefused r → Refuses port c contigRequest r
-    refused-run e =
-        refused-check port c contigRequest refl
-        (by-refused (checked port c contigRequest) found (λ p. run-there (passed-check port c contigRequest refl p)) (sym told ∙ e))
+    pub refused_run : {r : Refusal} → v ≡ RunRefused r → Refuses port c contig_request r
+    refused_run e =
+        refused_check port c contig_request refl
+        (by_refused (checked port c contig_request) found (λ p. run_there (passed_check port c contig_request refl p)) (sym told ∙ e))
 
-    pub passed-run : {first : ℕ} → v ≡ RunFrom first → Passes port c contigRequest × (found ≡ From first)
-    passed-run e = let r = by-from (checked port c contigRequest) found (sym told ∙ e) in (passed-check port c contigRequest refl r.0, r.1)
+    pub passed_run : {first : ℕ} → v ≡ RunFrom first → Passes port c contig_request × (found ≡ From first)
+    passed_run e = let r = by_from (checked port c contig_request) found (sym told ∙ e) in (passed_check port c contig_request refl r.0, r.1)
 
   -- ---- the run taken
 
-  module _ (s : SoundCard c) (h : Passes port c contigRequest) {first : ℕ} (e : found ≡ From first) where
-    shared-passed : NoneHolds (shared port c o places)
-    unfolding plan sharedChecks allocPlan allocContigPlan
-    shared-passed = (h.0, (h.1.0, (h.1.1.0, (h.1.1.1.0, (h.1.1.1.1.0, tt)))))
+  module _ (s : SoundCard c) (h : Passes port c contig_request) {first : ℕ} (e : found ≡ From first) where
+    shared_passed : NoneHolds (shared port c o places)
+    unfolding plan shared_checks alloc_plan alloc_contig_plan
+    shared_passed = (h.0, (h.1.0, (h.1.1.0, (h.1.1.1.0, (h.1.1.1.1.0, tt)))))
 
     room : c.public.info.used + o.count ≤ length c.public.pointers
-    unfolding plan allocContigPlan
+    unfolding plan alloc_contig_plan
     room = ltb-false _ _ h.1.1.1.1.1.1.0
 
     some : length starts ≡ 0 → ⊥
-    some = eqb-false _ _ (run-found s e).1
+    some = eqb-false _ _ (run_found s e).1
 
-    takes : Takeable c.public (numbersFrom first o.count)
-    takes = subst (Takeable c.public) (run-found s e).0 (run-takeable c.public o.count (wanted o.hint))
+    takes : Takeable c.public (numbers_from first o.count)
+    takes = subst (Takeable c.public) (run_found s e).0 (run_takeable c.public o.count (wanted o.hint))
 
     -- The last of the run is below N.
-    pub run-narrow : first + o.count ≤ 65536
-    run-narrow =
+    pub run_narrow : first + o.count ≤ 65536
+    run_narrow =
         let n : ℕ = o.count - 1 in
-        let counted : 1 ≤ o.count = count-some port c o places s shared-passed in
+        let counted : 1 ≤ o.count = count_some port c o places s shared_passed in
         let below : first + n < c.public.info.blocks =
-        subst (λ (b : ℕ). b < c.public.info.blocks) (numbersFrom-at first o.count n (omega arith))
-        (free-below c.public _
-        (all-at (free c.public) (numbersFrom first o.count) takes.free n (omega (arith, numbersFrom-length first o.count)))) in
-        omega (arith, s.shaped.inRanges.blocksHigh)
+        subst (λ (b : ℕ). b < c.public.info.blocks) (numbers_from_at first o.count n (omega arith))
+        (free_below c.public _
+        (all_at (free c.public) (numbers_from first o.count) takes.free n (omega (arith, numbers_from_length first o.count)))) in
+        omega (arith, s.shaped.in_ranges.blocks_high)
 
     pub run_fits : o.count ≤ length places
-    run_fits = count_fits port c o places s shared-passed
+    run_fits = count_fits port c o places s shared_passed
 
-    module _ {left : List ℕ} (shown : left ≡ overwrite places 0 (numbersFrom first o.count)) where
+    module _ {left : List ℕ} (shown : left ≡ overwrite places 0 (numbers_from first o.count)) where
       -- The run is chosen.
-      pub chosen : Chosen c o places (nearestRun (wanted o.hint) o.count starts) left
+      pub chosen : Chosen c o places (nearest_run (wanted o.hint) o.count starts) left
       chosen = record {
-        takeable = run-takeable c.public o.count (wanted o.hint);
+        takeable = run_takeable c.public o.count (wanted o.hint);
         long = run_length c.public o.count (wanted o.hint) some;
-        shown = shown ∙ ap (overwrite places 0) (sym (run-found s e).0);
+        shown = shown ∙ ap (overwrite places 0) (sym (run_found s e).0);
       }
 
-      pub can-take-run : CanTakeAll c o.reference (take o.count left)
-      can-take-run = can-take-all chosen port s shared-passed room
+      pub can_take_run : CanTakeAll c o.reference (take o.count left)
+      can_take_run = can_take_all chosen port s shared_passed room
 
-      pub contig-done : {r : Outcome} {info : Info} {flags counts pointers multiplicities contents : List ℕ} → r ≡ outcome Done info
-          → card info flags c.keys counts pointers multiplicities c.public.windows contents ≡ changes c (takeAll o.reference (take o.count left))
-          → Is (performSound port c contigRequest) r.answer (card r.info flags c.keys counts pointers multiplicities c.public.windows contents) [] left
-      unfolding performSound plan allocContigPlan outAfter placesAfter
-      contig-done f t =
-          finishes c contigRequest.lent (plan port c contigRequest.call contigRequest.lent) f h
-          (t ∙ ap (λ (xs : List ℕ). changes c (takeAll o.reference xs)) (first-places chosen)) refl chosen.shown
+      pub contig_done : {r : Outcome} {info : Info} {flags counts pointers multiplicities contents : List ℕ} → r ≡ outcome Done info
+          → card info flags c.keys counts pointers multiplicities c.public.windows contents ≡ changes c (take_all o.reference (take o.count left))
+          → Is (perform_sound port c contig_request) r.answer (card r.info flags c.keys counts pointers multiplicities c.public.windows contents) [] left
+      unfolding perform_sound plan alloc_contig_plan out_after places_after
+      contig_done f t =
+          finishes c contig_request.lent (plan port c contig_request.call contig_request.lent) f h
+          (t ∙ ap (λ (xs : List ℕ). changes c (take_all o.reference xs)) (first_places chosen)) refl chosen.shown

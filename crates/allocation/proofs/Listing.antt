@@ -4,27 +4,27 @@ use mathlib.Core.Path.{◌≡◌, refl, sym, ap, ◌∙◌}
 use mathlib.Core.List.{List, ◌∷◌}
 use native.Mathlib.Omega.{arith}
 use lib.ListN.{length, set, length-set}
-use Rattle.card.specs.Lists.{numbersFrom}
+use Rattle.card.specs.Lists.{numbers_from}
 use Rattle.card.specs.Contents.{overwrite}
-use Rattle.allocation.proofs.Outward.{overwrite-none, overwrite-next}
+use Rattle.allocation.proofs.Outward.{overwrite_none, overwrite_next}
 
 -- After `listed` of them: with the others written behind these, the places are those of all.
 pub record Listed (first count : ℕ) (places₀ places : List ℕ) (listed : ℕ) : Type 0 where
   pub narrow : first + count ≤ 65536
   pub fits : count ≤ length places₀
   pub most : listed ≤ count
-  pub whole : overwrite places listed (numbersFrom (first + listed) (count - listed)) ≡ overwrite places₀ 0 (numbersFrom first count)
-  pub samePlaces : length places ≡ length places₀
+  pub whole : overwrite places listed (numbers_from (first + listed) (count - listed)) ≡ overwrite places₀ 0 (numbers_from first count)
+  pub same_places : length places ≡ length places₀
 
 pub listed_start : (first count : ℕ) (places₀ : List ℕ) → first + count ≤ 65536 → count ≤ length places₀ → Listed first count places₀ places₀ 0
 listed_start first count places₀ narrow fits =
     let here : first + 0 ≡ first = omega arith in
     let all : count - 0 ≡ count = omega arith in
-    record { narrow = narrow; fits = fits; most = omega arith; whole = rw (here, all); samePlaces = refl }
+    record { narrow = narrow; fits = fits; most = omega arith; whole = rw (here, all); same_places = refl }
 
 module _ {first count : ℕ} {places₀ places : List ℕ} {listed : ℕ} (w : Listed first count places₀ places listed) where
   pub listed_more : listed < count → Listed first count places₀ (set places listed (first + listed)) (listed + 1)
-  unfolding numbersFrom
+  unfolding numbers_from
   listed_more more =
       let one : count - listed ≡ suc (count - (listed + 1)) = omega arith in
       let next : first + (listed + 1) ≡ suc (first + listed) = omega arith in
@@ -33,14 +33,14 @@ module _ {first count : ℕ} {places₀ places : List ℕ} {listed : ℕ} (w : L
         fits = w.fits;
         most = omega arith;
         whole =
-            rw next (overwrite-next places listed (first + listed) _ (omega (arith, w.fits, w.samePlaces)))
-            ∙ ap (λ (k : ℕ). overwrite places listed (numbersFrom (first + listed) k)) (sym one)
+            rw next (overwrite_next places listed (first + listed) _ (omega (arith, w.fits, w.same_places)))
+            ∙ ap (λ (k : ℕ). overwrite places listed (numbers_from (first + listed) k)) (sym one)
             ∙ w.whole;
-        samePlaces = length-set places listed (first + listed) ∙ w.samePlaces;
+        same_places = length-set places listed (first + listed) ∙ w.same_places;
       }
 
-  pub listed-whole : count ≤ listed → places ≡ overwrite places₀ 0 (numbersFrom first count)
-  unfolding numbersFrom
-  listed-whole l =
+  pub listed_whole : count ≤ listed → places ≡ overwrite places₀ 0 (numbers_from first count)
+  unfolding numbers_from
+  listed_whole l =
       let none : count - listed ≡ 0 = omega arith in
-      sym (overwrite-none places listed) ∙ (rw none at w.whole)
+      sym (overwrite_none places listed) ∙ (rw none at w.whole)

@@ -8,7 +8,7 @@ use Rattle.allocation.specs.declared.RunChecked.{RunChecked}
 use Rattle.allocation.specs.declared.RunChecked.TheVariants.{Refused as RunRefused, From as RunFrom}
 
 -- The call's refusal, or the first block of the nearest run; where there is no run, the checks do not pass.
-unfoldable pub runChecked : Checked → NearestRun → RunChecked
-runChecked (Refused why) run = RunRefused why
-runChecked Passed Absent = RunRefused NoRun
-runChecked Passed (From first) = RunFrom first
+unfoldable pub run_checked : Checked → NearestRun → RunChecked
+run_checked (Refused why) run = RunRefused why
+run_checked Passed Absent = RunRefused NoRun
+run_checked Passed (From first) = RunFrom first

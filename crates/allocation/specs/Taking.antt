@@ -7,10 +7,10 @@ use Rattle.laws.specs.Takeable.{Takeable}
 
 -- One block lies within the tables, and can be counted once more.
 pub record CanTake (bytes : ℕ) (flags counts contents : List ℕ) (b : ℕ) : Type 0 where
-  pub inFlags : b < length flags
-  pub inCounts : b < length counts
-  pub countLow : get_or counts b 0 < 4294967295
-  pub inContents : b * bytes + bytes ≤ length contents
+  pub in_flags : b < length flags
+  pub in_counts : b < length counts
+  pub count_low : get_or counts b 0 < 4294967295
+  pub in_contents : b * bytes + bytes ≤ length contents
 
 -- What taking it leaves of these tables.
 pub record BlockTaken (bytes b : ℕ) (flags counts contents flagsAfter countsAfter contentsAfter : List ℕ) : Type 0 where
@@ -21,7 +21,7 @@ pub record BlockTaken (bytes b : ℕ) (flags counts contents flagsAfter countsAf
 -- The blocks can be taken one after the other, and the reference can point to each.
 pub record CanTakeAll (c : Card) (reference : ℕ) (numbers : List ℕ) : Type 0 where
   pub sound : SoundCard c
-  pub referenceAllocated : allocated c.public reference ≡ true
+  pub reference_allocated : allocated c.public reference ≡ true
   pub takeable : Takeable c.public numbers
   pub few : length numbers ≤ 64
   pub room : c.public.info.used + length numbers ≤ length c.public.pointers

@@ -1,7 +1,7 @@
 -- What the functions of ALLOC's outward walk ask and give.
 use Rattle.std.specs.Prelude.{ℕ, ◌+◌, ◌≤◌, ◌<◌, ◌≡◌, ◌⊎◌, List, length}
 use Rattle.card.specs.Calls.{distance}
-use Rattle.tables.specs.Free.{freeBelow}
+use Rattle.tables.specs.Free.{free_below}
 
 -- ---- one block: those from `low` on and below `high` are passed
 
@@ -22,7 +22,7 @@ pub record NextBlock (want blocks low high b : ℕ) : Type 0 where
 
 -- So many blocks can be picked from the wanted one outward, and there is a place for each.
 pub record CanPick (flags : List ℕ) (want count : ℕ) (places : List ℕ) : Type 0 where
-  pub wantedBelow : want < length flags
-  pub blocksHigh : length flags ≤ 4096
-  pub enough : count ≤ length (freeBelow flags (length flags))
+  pub wanted_below : want < length flags
+  pub blocks_high : length flags ≤ 4096
+  pub enough : count ≤ length (free_below flags (length flags))
   pub fits : count ≤ length places

@@ -1,20 +1,20 @@
 // ALLOC and ALLOC_CONTIG: blocks are picked on one walk outward from the wanted one, or a run of them is found, then taken and pointed to.
 ghost use Rattle.std.specs.Prelude.{◌≡◌, [], length, ◌+◌, ◌≤◌};
-ghost use Rattle.card.specs.Lists.{numbersFrom};
+ghost use Rattle.card.specs.Lists.{numbers_from};
 ghost use Rattle.card.specs.Contents.{overwrite};
 ghost use Rattle.card.specs.Lent.{Performs, lent, at_entry, at_exit};
 ghost use Rattle.card.specs.SoundCard.{SoundCard};
 ghost use Rattle.card.specs.Plan.{first, changes};
-ghost use Rattle.card.specs.Calls.{wanted, picks, takeAll};
-ghost use Rattle.card.specs.Session.{request, performSound};
+ghost use Rattle.card.specs.Calls.{wanted, picks, take_all};
+ghost use Rattle.card.specs.Session.{request, perform_sound};
 ghost use Rattle.card.specs.declared.Call.TheVariants.{Alloc, AllocContig};
-ghost use Rattle.tables.specs.Free.{freeBelow};
-ghost use Rattle.checks.specs.Checked.{byRefusal, checked};
-ghost use Rattle.runs.specs.Runs.{startsIn, nearestOf};
+ghost use Rattle.tables.specs.Free.{free_below};
+ghost use Rattle.checks.specs.Checked.{by_refusal, checked};
+ghost use Rattle.runs.specs.Runs.{starts_in, nearest_of};
 ghost use Rattle.allocation.specs.Walk.{Spread, NextBlock, CanPick};
 ghost use Rattle.allocation.specs.Taking.{CanTake, BlockTaken, CanTakeAll};
-ghost use Rattle.allocation.specs.SharedChecks.{badOperands, sharedChecks};
-ghost use Rattle.allocation.specs.RunChecked.{runChecked};
+ghost use Rattle.allocation.specs.SharedChecks.{bad_operands, shared_checks};
+ghost use Rattle.allocation.specs.RunChecked.{run_checked};
 
 use card::{AllocOperands, Info, MOST_BLOCKS, Mode, NO_HINT, Outcome, Port, Refusal};
 use checks::Checked;
@@ -49,7 +49,7 @@ fn next(want: usize, blocks: usize, low: usize, high: usize) -> usize
 // The numbers of the `count` blocks that ALLOC picks, on one walk outward from the wanted one, go into the first places.
 fn pick_all(flags: &[u8], want: usize, count: usize, places: &mut [u16])
     requires { CanPick flags.now want count places.old }
-    ensures { places.new ≡ overwrite places.old 0 (picks want count (freeBelow flags.now (length flags.now))) }
+    ensures { places.new ≡ overwrite places.old 0 (picks want count (free_below flags.now (length flags.now))) }
 {
     let blocks = flags.len();
     let mut low = want;
@@ -73,7 +73,7 @@ fn pick_all(flags: &[u8], want: usize, count: usize, places: &mut [u16])
 fn list_run(first: usize, count: usize, places: &mut [u16])
     requires count_bound { first + count ≤ 65536 }
     requires count_in_bounds { count ≤ length places.old }
-    ensures { places.new ≡ overwrite places.old 0 (numbersFrom first count) }
+    ensures { places.new ≡ overwrite places.old 0 (numbers_from first count) }
 {
     let mut listed = 0;
     while listed < count {
@@ -110,7 +110,7 @@ fn take_all(
     numbers: &[u16],
 ) -> Info
     requires { CanTakeAll (lent info flags keys counts pointers multiplicities windows contents) reference numbers.now }
-    ensures { at_exit result flags keys counts pointers multiplicities windows contents ≡ changes (at_entry info flags keys counts pointers multiplicities windows contents) (takeAll reference numbers.now) }
+    ensures { at_exit result flags keys counts pointers multiplicities windows contents ≡ changes (at_entry info flags keys counts pointers multiplicities windows contents) (take_all reference numbers.now) }
 {
     let bytes = info.bytes;
     let count = numbers.len();
@@ -132,7 +132,7 @@ fn take_all(
 
 // The operands are out of range, or there are fewer places than blocks asked for.
 fn bad_operands(info: Info, hint: u16, count: u8, places: usize) -> bool
-    ensures { result ≡ badOperands info.blocks hint count places }
+    ensures { result ≡ bad_operands info.blocks hint count places }
 {
     let near = hint as usize;
     let number = count as usize;
@@ -164,7 +164,7 @@ fn shared_check(
     places: &[u16],
 ) -> Checked
     requires { SoundCard (lent info flags keys counts pointers multiplicities windows contents) }
-    ensures { result ≡ byRefusal (first (sharedChecks port (at_entry info flags keys counts pointers multiplicities windows contents) o (length places.now))) }
+    ensures { result ≡ by_refusal (first (shared_checks port (at_entry info flags keys counts pointers multiplicities windows contents) o (length places.now))) }
 {
     let credential = o.credential;
     let from = o.reference as usize;
@@ -252,7 +252,7 @@ pub fn alloc_sound(
     places: &mut [u16],
 ) -> Outcome
     requires { SoundCard (lent info flags keys counts pointers multiplicities windows contents) }
-    ensures { Performs (λ c. performSound port c (request (Alloc o) [] [] places.old)) info flags keys counts pointers multiplicities windows contents result [] places.new }
+    ensures { Performs (λ c. perform_sound port c (request (Alloc o) [] [] places.old)) info flags keys counts pointers multiplicities windows contents result [] places.new }
 {
     match alloc_check(
         info,
@@ -303,7 +303,7 @@ fn alloc_contig_check(
     places: &[u16],
 ) -> RunChecked
     requires { SoundCard (lent info flags keys counts pointers multiplicities windows contents) }
-    ensures { result ≡ runChecked (checked port (at_entry info flags keys counts pointers multiplicities windows contents) (request (AllocContig o) [] [] places.now)) (nearestOf (wanted o.hint) (startsIn flags.now o.count)) }
+    ensures { result ≡ run_checked (checked port (at_entry info flags keys counts pointers multiplicities windows contents) (request (AllocContig o) [] [] places.now)) (nearest_of (wanted o.hint) (starts_in flags.now o.count)) }
 {
     let shared = shared_check(
         info,
@@ -346,7 +346,7 @@ pub fn alloc_contig_sound(
     places: &mut [u16],
 ) -> Outcome
     requires { SoundCard (lent info flags keys counts pointers multiplicities windows contents) }
-    ensures { Performs (λ c. performSound port c (request (AllocContig o) [] [] places.old)) info flags keys counts pointers multiplicities windows contents result [] places.new }
+    ensures { Performs (λ c. perform_sound port c (request (AllocContig o) [] [] places.old)) info flags keys counts pointers multiplicities windows contents result [] places.new }
 {
     match alloc_contig_check(
         info,

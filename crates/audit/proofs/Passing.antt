@@ -11,7 +11,7 @@ use lib.Seq.{drop-cons}
 use borrow.Author.Count.{below_none, below_more}
 use borrow.Author.Tests.{eq-eqb, ne_eqb}
 use Rattle.card.specs.Lists.{all, all_below}
-use Rattle.laws.specs.ListsLaws.{and-false-right, false-unless, absurd-test, allBelow-true, true-allBelow}
+use Rattle.laws.specs.ListsLaws.{and_false_right, false_unless, absurd_test, all_below_true, true_all_below}
 
 -- ---- over the numbers below a bound, to the first fault
 
@@ -23,15 +23,15 @@ pub record PassedBelow (p : ℕ → Bool) (n i : ℕ) : Type 0 where
 pub passed_none : (p : ℕ → Bool) (n : ℕ) → PassedBelow p n 0
 passed_none p n = record { most = zero-le; good = below_none (λ k. p k ≡ true) }
 
-pub passed-more : {p : ℕ → Bool} {n i : ℕ} → PassedBelow p n i → i < n → p i ≡ true → PassedBelow p n (i + 1)
-passed-more {p} {n} {i} h l e =
+pub passed_more : {p : ℕ → Bool} {n i : ℕ} → PassedBelow p n i → i < n → p i ≡ true → PassedBelow p n (i + 1)
+passed_more {p} {n} {i} h l e =
     record { most = omega arith; good = below_more (λ k. p k ≡ true) i h.good e }
 
-pub passed-fault : {p : ℕ → Bool} {n i : ℕ} → PassedBelow p n i → i < n → p i ≡ false → all_below p n ≡ false
-passed-fault {p} {n} {i} h l e = false-unless _ (λ t. absurd-test (allBelow-true p n t i l) e)
+pub passed_fault : {p : ℕ → Bool} {n i : ℕ} → PassedBelow p n i → i < n → p i ≡ false → all_below p n ≡ false
+passed_fault {p} {n} {i} h l e = false_unless _ (λ t. absurd_test (all_below_true p n t i l) e)
 
-pub passed-whole : {p : ℕ → Bool} {n i : ℕ} → PassedBelow p n i → i ≡ n → all_below p n ≡ true
-passed-whole {p} {n} {i} h e = true-allBelow p n (λ k l. h.good k (omega arith))
+pub passed_whole : {p : ℕ → Bool} {n i : ℕ} → PassedBelow p n i → i ≡ n → all_below p n ≡ true
+passed_whole {p} {n} {i} h e = true_all_below p n (λ k l. h.good k (omega arith))
 
 -- ---- over the rest of two lists, place by place, to the first fault
 
@@ -41,19 +41,19 @@ pub record Remaining (p q : ℕ → Bool) (ws ns : List ℕ) (from i : ℕ) : Ty
   pub long : length ns ≡ length ws
   pub rest : all p (drop i ws) && all q (drop i ns) ≡ all p (drop from ws) && all q (drop from ns)
 
-pub remaining-start : (p q : ℕ → Bool) (ws ns : List ℕ) (from : ℕ) → from ≤ length ws → length ns ≡ length ws → Remaining p q ws ns from from
-remaining-start p q ws ns from l e = record { most = l; long = e; rest = refl }
+pub remaining_start : (p q : ℕ → Bool) (ws ns : List ℕ) (from : ℕ) → from ≤ length ws → length ns ≡ length ws → Remaining p q ws ns from from
+remaining_start p q ws ns from l e = record { most = l; long = e; rest = refl }
 
 -- The first of each list passes, or one of them does not.
-both-pass : (a b r t : Bool) → a && b ≡ true → (a && r) && (b && t) ≡ r && t
-both-pass true true r t e = refl
-both-pass true false r t e = absurd-test {t = false} e refl
-both-pass false b r t e = absurd-test {t = false} e refl
+both_pass : (a b r t : Bool) → a && b ≡ true → (a && r) && (b && t) ≡ r && t
+both_pass true true r t e = refl
+both_pass true false r t e = absurd_test {t = false} e refl
+both_pass false b r t e = absurd_test {t = false} e refl
 
-one-fails : (a b r t : Bool) → a && b ≡ false → (a && r) && (b && t) ≡ false
-one-fails true true r t e = absurd-test {t = true} refl e
-one-fails true false r t e = and-false-right r false refl
-one-fails false b r t e = refl
+one_fails : (a b r t : Bool) → a && b ≡ false → (a && r) && (b && t) ≡ false
+one_fails true true r t e = absurd_test {t = true} refl e
+one_fails true false r t e = and_false_right r false refl
+one_fails false b r t e = refl
 
 module _ {p q : ℕ → Bool} {ws ns : List ℕ} {from i : ℕ} (h : Remaining p q ws ns from i) where
   -- One place more of both lists.
@@ -61,12 +61,12 @@ module _ {p q : ℕ → Bool} {ws ns : List ℕ} {from i : ℕ} (h : Remaining p
   unfolding all
   opened l = rw add-one (rw (drop-cons ws i 0 l, drop-cons ns i 0 (omega (arith, h.long))) at h.rest)
 
-  pub remaining-more : i < length ws → p (get_or ws i 0) && q (get_or ns i 0) ≡ true → Remaining p q ws ns from (i + 1)
-  remaining-more l e = record { most = omega arith; long = h.long; rest = sym (both-pass (p (get_or ws i 0)) (q (get_or ns i 0)) _ _ e) ∙ opened l }
+  pub remaining_more : i < length ws → p (get_or ws i 0) && q (get_or ns i 0) ≡ true → Remaining p q ws ns from (i + 1)
+  remaining_more l e = record { most = omega arith; long = h.long; rest = sym (both_pass (p (get_or ws i 0)) (q (get_or ns i 0)) _ _ e) ∙ opened l }
 
-  pub remaining-fault : i < length ws → p (get_or ws i 0) && q (get_or ns i 0) ≡ false → eqb i (length ws) ≡ all p (drop from ws) && all q (drop from ns)
-  remaining-fault l e = ne_eqb i (length ws) (λ z. omega arith) ∙ sym (one-fails (p (get_or ws i 0)) (q (get_or ns i 0)) _ _ e) ∙ opened l
+  pub remaining_fault : i < length ws → p (get_or ws i 0) && q (get_or ns i 0) ≡ false → eqb i (length ws) ≡ all p (drop from ws) && all q (drop from ns)
+  remaining_fault l e = ne_eqb i (length ws) (λ z. omega arith) ∙ sym (one_fails (p (get_or ws i 0)) (q (get_or ns i 0)) _ _ e) ∙ opened l
 
-  pub remaining-whole : length ws ≤ i → eqb i (length ws) ≡ all p (drop from ws) && all q (drop from ns)
+  pub remaining_whole : length ws ≤ i → eqb i (length ws) ≡ all p (drop from ws) && all q (drop from ns)
   unfolding all
-  remaining-whole l = eq-eqb i (length ws) (omega (arith, h.most)) ∙ (rw (drop_of_length-le ws l, drop_of_length-le ns {i = i} (omega (arith, h.long))) at h.rest)
+  remaining_whole l = eq-eqb i (length ws) (omega (arith, h.most)) ∙ (rw (drop_of_length-le ws l, drop_of_length-le ns {i = i} (omega (arith, h.long))) at h.rest)

@@ -4,7 +4,7 @@ ghost use Rattle.card.specs.Lent.{at_entry};
 ghost use Rattle.card.specs.Lists.{all, all_below};
 ghost use Rattle.card.specs.Card.{card, allocated};
 ghost use Rattle.card.specs.Soundness.{sound, verdict};
-ghost use Rattle.audit.specs.Walks.{flagged, linkRight, rowed, blockSound, PointersFit, RowsFit, PointersWalked, judged};
+ghost use Rattle.audit.specs.Walks.{flagged, link_right, rowed, block_sound, PointersFit, RowsFit, PointersWalked, judged};
 
 use card::{BLOCK_LIMIT, Info, LONGEST_INTERVAL, Mode, Verdict, WAITING_FLAGS};
 
@@ -25,7 +25,7 @@ fn is_allocated(info: Info, flags: &[u8], b: usize) -> bool
 // finds by the tally what is wrong with it.
 fn link_right(info: Info, flags: &[u8], w: u32) -> bool
     requires { length flags.now ≡ info.blocks }
-    ensures { result ≡ linkRight info flags.now w }
+    ensures { result ≡ link_right info flags.now w }
 {
     let source = (w / 65536) as usize;
     let destination = (w % 65536) as usize;
@@ -103,7 +103,7 @@ fn block_sound(
 ) -> bool
     requires fact_1 { RowsFit info flags.now keys.now counts.now windows.now }
     requires fact_2 { b < info.blocks }
-    ensures { result ≡ blockSound (rowed info flags.now keys.now counts.now windows.now) tallied b }
+    ensures { result ≡ block_sound (rowed info flags.now keys.now counts.now windows.now) tallied b }
 {
     let flag = flags[b];
     let count = counts[b];
@@ -144,7 +144,7 @@ fn walk_blocks(
     tally: &[u32; BLOCK_LIMIT],
 ) -> Verdict
     requires { RowsFit info flags.now keys.now counts.now windows.now }
-    ensures { result ≡ judged (all_below (λ b. blockSound (rowed info flags.now keys.now counts.now windows.now) (get_or tally.now b 0) b) info.blocks) }
+    ensures { result ≡ judged (all_below (λ b. block_sound (rowed info flags.now keys.now counts.now windows.now) (get_or tally.now b 0) b) info.blocks) }
 {
     let blocks = info.blocks;
     let mut b: usize = 0;

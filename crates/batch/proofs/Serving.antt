@@ -11,16 +11,16 @@ use Rattle.card.specs.Soundness.{verdict}
 use Rattle.card.specs.declared.Info.{Info}
 use Rattle.card.specs.declared.Port.{Port}
 use Rattle.lines.specs.Written.{Written}
-use Rattle.lines.specs.WrittenLaws.{written_none, written-join, written-length}
-use Rattle.input.specs.Play.{Turn, Play, outputBefore, goOn}
-use Rattle.input.specs.Played.{TurnIs, PlayedIs, isWent}
-use Rattle.input.specs.PlayLaws.{goOn-halts}
-use Rattle.input.specs.PlayedLaws.{is-went, not-went}
+use Rattle.lines.specs.WrittenLaws.{written_none, written_join, written_length}
+use Rattle.input.specs.Play.{Turn, Play, output_before, go_on}
+use Rattle.input.specs.Played.{TurnIs, PlayedIs, is_went}
+use Rattle.input.specs.PlayLaws.{go_on_halts}
+use Rattle.input.specs.PlayedLaws.{is_went_law, not_went}
 use Rattle.input.proofs.SameTables.{SameTables}
 use Rattle.input.specs.declared.Stop.{Stop}
 use Rattle.input.specs.declared.Stop.TheVariants.{Went}
-use Rattle.serving.specs.Serve.{serveTurn, roomFrom, serveWithin, serve}
-use Rattle.batch.proofs.TurnServed.{serve-turn-left, serve-turn-halts, serve-turn-verdict}
+use Rattle.serving.specs.Serve.{serve_turn, room_from, serve_within, serve}
+use Rattle.batch.proofs.TurnServed.{serve_turn_left, serve_turn_halts, serve_turn_verdict}
 
 -- Some answers are written, and the batch goes on from here, by at most so many turns after the next.
 pub record Serving (wire : Port) (c₀ : Card) (xs out₀ : List ℕ) (count : ℕ) (c : Card) (from at : ℕ) (out : List ℕ) : Type 0 where
@@ -32,12 +32,12 @@ pub record Serving (wire : Port) (c₀ : Card) (xs out₀ : List ℕ) (count : �
   pub judged : verdict c ≡ verdict c₀
   pub fits : length done ≤ length out₀
   pub written : Written out₀ 0 done out at
-  pub total : serve wire c₀ xs (length out₀) ≡ outputBefore done (serveWithin wire (suc most) count c (drop from xs) (length out₀ - length done))
+  pub total : serve wire c₀ xs (length out₀) ≡ output_before done (serve_within wire (suc most) count c (drop from xs) (length out₀ - length done))
 
 module _ (wire : Port) (c₀ : Card) (xs out₀ : List ℕ) where
-  pub serving-none : Serving wire c₀ xs out₀ 0 c₀ 0 0 out₀
+  pub serving_none : Serving wire c₀ xs out₀ 0 c₀ 0 0 out₀
   unfolding serve
-  serving-none = record {
+  serving_none = record {
     done = [];
     most = length xs;
     within = omega arith;
@@ -46,36 +46,36 @@ module _ (wire : Port) (c₀ : Card) (xs out₀ : List ℕ) where
     judged = refl;
     fits = omega arith;
     written = written_none out₀ 0;
-    total = ap (λ (room : ℕ). serveWithin wire (suc (length xs)) 0 c₀ xs room) (sym (sub-zero (length out₀)));
+    total = ap (λ (room : ℕ). serve_within wire (suc (length xs)) 0 c₀ xs room) (sym (sub-zero (length out₀)));
   }
 
   module _ {count : ℕ} {c : Card} {from at : ℕ} {out : List ℕ} (p : Serving wire c₀ xs out₀ count c from at out) where
     kept : length out ≡ length out₀
-    kept = written-length p.written (omega (arith, p.fits))
+    kept = written_length p.written (omega (arith, p.fits))
 
     reached : at ≡ length p.done
     reached = p.written.ends ∙ zero-add (length p.done)
 
-    pub serving-at : at ≤ length out
-    serving-at = omega (arith, reached, kept, p.fits)
+    pub serving_at : at ≤ length out
+    serving_at = omega (arith, reached, kept, p.fits)
 
     -- The turn that is tried next.
-    abbrev nextTurn : Turn
-    nextTurn = serveTurn wire (roomFrom out at) c (drop from xs)
+    abbrev next_turn : Turn
+    next_turn = serve_turn wire (room_from out at) c (drop from xs)
 
-    next-turn : serve wire c₀ xs (length out₀) ≡ outputBefore p.done (goOn nextTurn.stop nextTurn count (serveWithin wire p.most) (roomFrom out at))
-    unfolding serveWithin
-    next-turn =
-        let same : length out₀ - length p.done ≡ roomFrom out at = omega (arith, reached, kept) in
-        p.total ∙ ap (λ (n : ℕ). outputBefore p.done (serveWithin wire (suc p.most) count c (drop from xs) n)) same
+    next_turn_law : serve wire c₀ xs (length out₀) ≡ output_before p.done (go_on next_turn.stop next_turn count (serve_within wire p.most) (room_from out at))
+    unfolding serve_within
+    next_turn_law =
+        let same : length out₀ - length p.done ≡ room_from out at = omega (arith, reached, kept) in
+        p.total ∙ ap (λ (n : ℕ). output_before p.done (serve_within wire (suc p.most) count c (drop from xs) n)) same
 
-    module _ {stop : Stop} {after : Card} {next next-at : ℕ} {to : List ℕ} (t : TurnIs nextTurn (roomFrom out at) stop after xs next out at to next-at) where
+    module _ {stop : Stop} {after : Card} {next next-at : ℕ} {to : List ℕ} (t : TurnIs next_turn (room_from out at) stop after xs next out at to next-at) where
       -- The turn did not go: so the batch ends.
-      pub serving-stopped : isWent stop ≡ false → PlayedIs (serve wire c₀ xs (length out₀)) stop count after xs next out₀ to next-at
-      serving-stopped n =
-          let halts : isWent nextTurn.stop ≡ false = ap isWent (sym t.stops) ∙ n in
-          let e = next-turn ∙ ap (outputBefore p.done) (goOn-halts nextTurn.stop nextTurn count (roomFrom out at) (serveWithin wire p.most) (not-went nextTurn.stop halts)) in
-          let nothing : Written out at [] to next-at = subst (λ (bs : List ℕ). Written out at bs to next-at) (serve-turn-halts wire (roomFrom out at) c (drop from xs) halts) t.writes in
+      pub serving_stopped : is_went stop ≡ false → PlayedIs (serve wire c₀ xs (length out₀)) stop count after xs next out₀ to next-at
+      serving_stopped n =
+          let halts : is_went next_turn.stop ≡ false = ap is_went (sym t.stops) ∙ n in
+          let e = next_turn_law ∙ ap (output_before p.done) (go_on_halts next_turn.stop next_turn count (room_from out at) (serve_within wire p.most) (not_went next_turn.stop halts)) in
+          let nothing : Written out at [] to next-at = subst (λ (bs : List ℕ). Written out at bs to next-at) (serve_turn_halts wire (room_from out at) c (drop from xs) halts) t.writes in
           rw e
           (record {
             stops = t.stops;
@@ -83,57 +83,57 @@ module _ (wire : Port) (c₀ : Card) (xs out₀ : List ℕ) where
             leaves = t.leaves;
             rests = t.rests;
             within = t.within;
-            writes = written-join p.written nothing (omega (arith, p.fits));
+            writes = written_join p.written nothing (omega (arith, p.fits));
           })
 
-      module _ (w : isWent stop ≡ true) where
-        went : nextTurn.stop ≡ Went
-        went = sym t.stops ∙ is-went stop w
+      module _ (w : is_went stop ≡ true) where
+        went : next_turn.stop ≡ Went
+        went = sym t.stops ∙ is_went_law stop w
 
         -- Each record takes a byte at least.
-        pub serving-further : from < next
-        serving-further =
-            let shorter = serve-turn-left wire (roomFrom out at) c (drop from xs) went in
+        pub serving_further : from < next
+        serving_further =
+            let shorter = serve_turn_left wire (room_from out at) c (drop from xs) went in
             omega (arith, shorter, ap length t.rests, length-drop next xs, length-drop from xs, t.within, p.within)
 
-        abbrev turnsLeft : ℕ
-        turnsLeft = p.most - 1
+        abbrev turns_left : ℕ
+        turns_left = p.most - 1
 
-        most-is : p.most ≡ suc turnsLeft
-        most-is = omega (arith, p.enough, serving-further, t.within)
+        most_is : p.most ≡ suc turns_left
+        most_is = omega (arith, p.enough, serving_further, t.within)
 
         -- The rest of the batch, as the rule and as the loop have it.
-        abbrev restOfBatch : Play
-        restOfBatch = serveWithin wire (suc turnsLeft) (count + 1) nextTurn.after nextTurn.left (roomFrom out at - length nextTurn.output)
+        abbrev rest_of_batch : Play
+        rest_of_batch = serve_within wire (suc turns_left) (count + 1) next_turn.after next_turn.left (room_from out at - length next_turn.output)
 
-        rest-same : restOfBatch ≡ serveWithin wire (suc turnsLeft) (count + 1) after (drop next xs) (length out₀ - length (p.done ++ nextTurn.output))
-        rest-same =
-            let room-left : roomFrom out at - length nextTurn.output ≡ length out₀ - length (p.done ++ nextTurn.output) = omega (arith, reached, kept, length-append p.done nextTurn.output) in
-            ap₂ (λ (d : Card) (ys : List ℕ). serveWithin wire (suc turnsLeft) (count + 1) d ys (roomFrom out at - length nextTurn.output)) (sym t.leaves) (sym t.rests)
-            ∙ ap (serveWithin wire (suc turnsLeft) (count + 1) after (drop next xs)) room-left
+        rest_same : rest_of_batch ≡ serve_within wire (suc turns_left) (count + 1) after (drop next xs) (length out₀ - length (p.done ++ next_turn.output))
+        rest_same =
+            let room_left : room_from out at - length next_turn.output ≡ length out₀ - length (p.done ++ next_turn.output) = omega (arith, reached, kept, length-append p.done next_turn.output) in
+            ap₂ (λ (d : Card) (ys : List ℕ). serve_within wire (suc turns_left) (count + 1) d ys (room_from out at - length next_turn.output)) (sym t.leaves) (sym t.rests)
+            ∙ ap (serve_within wire (suc turns_left) (count + 1) after (drop next xs)) room_left
 
-        goes_on : goOn nextTurn.stop nextTurn count (serveWithin wire p.most) (roomFrom out at) ≡ outputBefore nextTurn.output restOfBatch
-        unfolding goOn
-        goes_on = ap₂ (λ (s : Stop) (m : ℕ). goOn s nextTurn count (serveWithin wire m) (roomFrom out at)) went most-is
+        goes_on : go_on next_turn.stop next_turn count (serve_within wire p.most) (room_from out at) ≡ output_before next_turn.output rest_of_batch
+        unfolding go_on
+        goes_on = ap₂ (λ (s : Stop) (m : ℕ). go_on s next_turn count (serve_within wire m) (room_from out at)) went most_is
 
         -- The turn went: its answer stands behind the others.
-        pub serving-more : Serving wire c₀ xs out₀ (count + 1) after next next-at to
-        serving-more =
-            let long : length (p.done ++ nextTurn.output) ≡ length p.done + length nextTurn.output = length-append p.done nextTurn.output in
+        pub serving_more : Serving wire c₀ xs out₀ (count + 1) after next next-at to
+        serving_more =
+            let long : length (p.done ++ next_turn.output) ≡ length p.done + length next_turn.output = length-append p.done next_turn.output in
             record {
-              done = p.done ++ nextTurn.output;
-              most = turnsLeft;
+              done = p.done ++ next_turn.output;
+              most = turns_left;
               within = t.within;
-              enough = omega (arith, p.enough, serving-further);
-              counted = omega (arith, p.counted, serving-further);
-              judged = ap verdict t.leaves ∙ serve-turn-verdict wire (roomFrom out at) c (drop from xs) ∙ p.judged;
+              enough = omega (arith, p.enough, serving_further);
+              counted = omega (arith, p.counted, serving_further);
+              judged = ap verdict t.leaves ∙ serve_turn_verdict wire (room_from out at) c (drop from xs) ∙ p.judged;
               fits = omega (arith, p.fits, t.short, reached, kept);
-              written = written-join p.written t.writes (omega (arith, p.fits, t.short, reached, kept));
+              written = written_join p.written t.writes (omega (arith, p.fits, t.short, reached, kept));
               total =
-                  next-turn
-                  ∙ ap (outputBefore p.done) goes_on
-                  ∙ ap (λ (bs : List ℕ). record { stop = restOfBatch.stop; output = bs; records = restOfBatch.records; after = restOfBatch.after; left = restOfBatch.left }) (sym (append_assoc p.done nextTurn.output restOfBatch.output))
-                  ∙ ap (outputBefore (p.done ++ nextTurn.output)) rest-same;
+                  next_turn_law
+                  ∙ ap (output_before p.done) goes_on
+                  ∙ ap (λ (bs : List ℕ). record { stop = rest_of_batch.stop; output = bs; records = rest_of_batch.records; after = rest_of_batch.after; left = rest_of_batch.left }) (sym (append_assoc p.done next_turn.output rest_of_batch.output))
+                  ∙ ap (output_before (p.done ++ next_turn.output)) rest_same;
             }
 
 -- ---- the loop's invariant
@@ -142,5 +142,5 @@ module _ (wire : Port) (c₀ : Card) (xs out₀ : List ℕ) where
 pub record ServeLoop (wire : Port) (info₀ : Info) (flags₀ keys₀ counts₀ pointers₀ multiplicities₀ windows₀ contents₀ input answers₀ : List ℕ)
     (info : Info) (flags keys counts pointers multiplicities windows contents answers : List ℕ) (count from at : ℕ) : Type 0 where
   pub tables : SameTables flags₀ keys₀ counts₀ pointers₀ multiplicities₀ windows₀ contents₀ flags keys counts pointers multiplicities windows contents
-  pub sameAnswers : length answers ≡ length answers₀
+  pub same_answers : length answers ≡ length answers₀
   pub serving : Serving wire (card info₀ flags₀ keys₀ counts₀ pointers₀ multiplicities₀ windows₀ contents₀) input answers₀ count (card info flags keys counts pointers multiplicities windows contents) from at answers

@@ -7,7 +7,7 @@ ghost use Rattle.fields.specs.Bytes.{bytes};
 ghost use Rattle.lines.specs.Replied.{replied};
 ghost use Rattle.lines.specs.Written.{Written};
 ghost use Rattle.input.specs.Played.{Writes, Turns, Plays};
-ghost use Rattle.serving.specs.Serve.{pairs, filledBytes, answerBytes, lentSize, answerRoom, served, serveTurn, roomFrom, serve};
+ghost use Rattle.serving.specs.Serve.{pairs, filled_bytes, answer_bytes, lent_size, answer_room, served, serve_turn, room_from, serve};
 
 use card::{Answer, Call, Info, MOST_BLOCKS, Port, Verdict};
 use input::{Found, Part, Stop, Turned, Wrote};
@@ -17,7 +17,7 @@ use lines::Filled;
 
 // As many bytes as READ is lent; no other call is lent any.
 fn lent_size(info: Info, call: Call) -> usize
-    ensures { result ≡ lentSize info.bytes call }
+    ensures { result ≡ lent_size info.bytes call }
 {
     match lines::filled_by(call) {
         Filled::Neither => 0,
@@ -28,7 +28,7 @@ fn lent_size(info: Info, call: Call) -> usize
 
 // The room that is kept for the answer to a call.
 fn room_of(info: Info, call: Call) -> usize
-    ensures { result ≡ answerRoom info.bytes call }
+    ensures { result ≡ answer_room info.bytes call }
 {
     match call {
         Call::Read(_) => 1 + lent_size(info, call),
@@ -88,8 +88,8 @@ fn put_first_pairs(to: &mut [u8], at: usize, values: &[u16], count: usize) -> us
 // What a done call left in a buffer: READ's bytes, which stand here already, or the numbers of ALLOC and ALLOC_CONTIG.
 fn put_filled_bytes(to: &mut [u8], at: usize, filled: Filled, size: usize, places: &[u16]) -> usize
     requires fact_1 { at + size ≤ length to.old }
-    requires fact_2 { at + length (filledBytes filled (take size (drop at to.old)) places.now) ≤ length to.old }
-    ensures { Written to.old at (filledBytes filled (take size (drop at to.old)) places.now) to.new result }
+    requires fact_2 { at + length (filled_bytes filled (take size (drop at to.old)) places.now) ≤ length to.old }
+    ensures { Written to.old at (filled_bytes filled (take size (drop at to.old)) places.now) to.new result }
 {
     match filled {
         Filled::Neither => at,
@@ -108,8 +108,8 @@ fn put_answer_bytes(
     places: &[u16],
 ) -> usize
     requires fact_1 { at + 1 + size ≤ length to.old }
-    requires fact_2 { at + length (answerBytes call (replied answer (take size (drop (at + 1) to.old)) places.now)) ≤ length to.old }
-    ensures { Written to.old at (answerBytes call (replied answer (take size (drop (at + 1) to.old)) places.now)) to.new result }
+    requires fact_2 { at + length (answer_bytes call (replied answer (take size (drop (at + 1) to.old)) places.now)) ≤ length to.old }
+    ensures { Written to.old at (answer_bytes call (replied answer (take size (drop (at + 1) to.old)) places.now)) to.new result }
 {
     match answer {
         Answer::Refused(r) => put_big_endian(to, at, 1, lines::refusal_number(r)),
@@ -144,8 +144,8 @@ fn answer_call(
     at: usize,
 ) -> Wrote
     requires fact_1 { found ≡ verdict (lent info flags keys counts pointers multiplicities windows contents) }
-    requires fact_2 { at + answerRoom info.bytes call ≤ length to.old }
-    ensures { Writes (λ c. served port c call payload.now) (answerBytes call) (answerRoom info.bytes call) info flags keys counts pointers multiplicities windows contents to at result }
+    requires fact_2 { at + answer_room info.bytes call ≤ length to.old }
+    ensures { Writes (λ c. served port c call payload.now) (answer_bytes call) (answer_room info.bytes call) info flags keys counts pointers multiplicities windows contents to at result }
 {
     let mut places = [0u16; MOST_BLOCKS as usize];
     let size = lent_size(info, call);
@@ -196,7 +196,7 @@ fn serve_turn(
     requires fact_1 { found ≡ verdict (lent info flags keys counts pointers multiplicities windows contents) }
     requires fact_2 { from ≤ length input.now }
     requires fact_3 { at ≤ length to.old }
-    ensures { Turns (serveTurn wire (roomFrom to.old at)) (roomFrom to.old at) info flags keys counts pointers multiplicities windows contents input from to at result }
+    ensures { Turns (serve_turn wire (room_from to.old at)) (room_from to.old at) info flags keys counts pointers multiplicities windows contents input from to at result }
 {
     let sent = input::find(wire, input, from);
     match sent {

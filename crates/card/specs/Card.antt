@@ -1,7 +1,7 @@
 -- Document 01, "The card": the record and the tables, and what they say of a block.
 use Rattle.std.specs.Prelude.{ℕ, ◌+◌, ◌*◌, ◌/◌, ◌%◌, Bool, ◌&&◌, List, eqb, ltb, take, get_or}
-use Rattle.card.specs.Lists.{numbersBelow}
-use Rattle.card.specs.Pointers.{pointer, contains, pointsFrom, beside}
+use Rattle.card.specs.Lists.{numbers_below}
+use Rattle.card.specs.Pointers.{pointer, contains, points_from, beside}
 use Rattle.card.specs.Contents.{part}
 use Rattle.card.specs.declared.Info.{Info}
 use Rattle.card.specs.declared.Mode.{Mode}
@@ -33,20 +33,20 @@ card info flags keys counts pointers multiplicities windows contents = record {
 -- ---- a block's flags
 
 -- Of a flags byte: 1 allocated, 2 has a read key, 4 has a write key, added up.
-abbrev pub allocatedFlag : ℕ → Bool
-allocatedFlag f = eqb (f % 2) 1
+abbrev pub allocated_flag : ℕ → Bool
+allocated_flag f = eqb (f % 2) 1
 
-abbrev pub keyFlag : Mode → ℕ → Bool
-keyFlag Reading f = eqb (f / 2 % 2) 1
-keyFlag Writing f = eqb (f / 4 % 2) 1
+abbrev pub key_flag : Mode → ℕ → Bool
+key_flag Reading f = eqb (f / 2 % 2) 1
+key_flag Writing f = eqb (f / 4 % 2) 1
 
 -- 2026-09, "A freed block now waits, flag 8 alone".
-abbrev pub waitingFlag : ℕ → Bool
-waitingFlag f = eqb f 8
+abbrev pub waiting_flag : ℕ → Bool
+waiting_flag f = eqb f 8
 
 -- A free block has no flag.
-abbrev pub freeFlag : ℕ → Bool
-freeFlag f = eqb f 0
+abbrev pub free_flag : ℕ → Bool
+free_flag f = eqb f 0
 
 module _ (p : Public) where
   abbrev pub flag : ℕ → ℕ
@@ -54,44 +54,44 @@ module _ (p : Public) where
 
   -- A block below N that is allocated, that waits, or that is free: on a sound card one of the three.
   unfoldable pub allocated : ℕ → Bool
-  allocated b = ltb b p.info.blocks && allocatedFlag (flag b)
+  allocated b = ltb b p.info.blocks && allocated_flag (flag b)
 
   unfoldable pub waiting : ℕ → Bool
-  waiting b = ltb b p.info.blocks && waitingFlag (flag b)
+  waiting b = ltb b p.info.blocks && waiting_flag (flag b)
 
   unfoldable pub free : ℕ → Bool
-  free b = ltb b p.info.blocks && freeFlag (flag b)
+  free b = ltb b p.info.blocks && free_flag (flag b)
 
   unfoldable pub has_key : Mode → ℕ → Bool
-  has_key mode b = keyFlag mode (flag b)
+  has_key mode b = key_flag mode (flag b)
 
-  abbrev pub isRoot : ℕ → Bool
-  isRoot b = ltb b p.info.roots
+  abbrev pub is_root : ℕ → Bool
+  is_root b = ltb b p.info.roots
 
   -- The free blocks, ascending, and those that wait.
-  unfoldable pub freeBlocks : List ℕ
-  freeBlocks = numbersBelow free p.info.blocks
+  unfoldable pub free_blocks : List ℕ
+  free_blocks = numbers_below free p.info.blocks
 
-  unfoldable pub waitingBlocks : List ℕ
-  waitingBlocks = numbersBelow waiting p.info.blocks
+  unfoldable pub waiting_blocks : List ℕ
+  waiting_blocks = numbers_below waiting p.info.blocks
 
 -- ---- windows
 
 -- Where a block's window stands in its table.
-abbrev pub windowAt : Mode → ℕ → ℕ
-windowAt Reading b = 2 * b
-windowAt Writing b = 2 * b + 1
+abbrev pub window_at : Mode → ℕ → ℕ
+window_at Reading b = 2 * b
+window_at Writing b = 2 * b + 1
 
-abbrev pub windowEnd : Public → Mode → ℕ → ℕ
-windowEnd p mode b = get_or p.windows (windowAt mode b) 0
+abbrev pub window_end : Public → Mode → ℕ → ℕ
+window_end p mode b = get_or p.windows (window_at mode b) 0
 
 -- Document 01, "A window is open while T is less than its end."
-unfoldable pub windowOpen : Public → Mode → ℕ → Bool
-windowOpen p mode b = ltb p.info.time (windowEnd p mode b)
+unfoldable pub window_open : Public → Mode → ℕ → Bool
+window_open p mode b = ltb p.info.time (window_end p mode b)
 
 -- The longest interval: a window ends at most so many seconds after T.
-abbrev pub longestInterval : ℕ
-longestInterval = 86400
+abbrev pub longest_interval : ℕ
+longest_interval = 86400
 
 -- ---- counts and pointers
 
@@ -99,26 +99,26 @@ abbrev pub count : Public → ℕ → ℕ
 count p b = get_or p.counts b 0
 
 -- The pointers in use: the first M places.
-abbrev pub inUse : Public → List ℕ
-inUse p = take p.info.used p.pointers
+abbrev pub in_use : Public → List ℕ
+in_use p = take p.info.used p.pointers
 
 -- The multiplicities beside them.
-abbrev pub timesInUse : Public → List ℕ
-timesInUse p = take p.info.used p.multiplicities
+abbrev pub times_in_use : Public → List ℕ
+times_in_use p = take p.info.used p.multiplicities
 
 -- How often a points to b: the multiplicity of that pointer, 0 where there is none.
 unfoldable pub multiplicity : Public → ℕ → ℕ → ℕ
-multiplicity p a b = beside (pointer a b) (inUse p) (timesInUse p)
+multiplicity p a b = beside (pointer a b) (in_use p) (times_in_use p)
 
 -- 2026-05, "a multiplicity from 1 to 65,535".
-abbrev pub highestMultiplicity : ℕ
-highestMultiplicity = 65535
+abbrev pub highest_multiplicity : ℕ
+highest_multiplicity = 65535
 
-unfoldable pub pointsTo : Public → ℕ → ℕ → Bool
-pointsTo p a b = contains (pointer a b) (inUse p)
+unfoldable pub points_to : Public → ℕ → ℕ → Bool
+points_to p a b = contains (pointer a b) (in_use p)
 
-unfoldable pub hasPointers : Public → ℕ → Bool
-hasPointers p b = pointsFrom b (inUse p)
+unfoldable pub has_pointers : Public → ℕ → Bool
+has_pointers p b = points_from b (in_use p)
 
 -- ---- keys
 
@@ -127,11 +127,11 @@ abbrev pub key_at : Mode → ℕ → ℕ
 key_at Reading b = 4 * b
 key_at Writing b = 4 * b + 2
 
-abbrev pub keyHigh : List ℕ → Mode → ℕ → ℕ
-keyHigh keys mode b = get_or keys (key_at mode b) 0
+abbrev pub key_high : List ℕ → Mode → ℕ → ℕ
+key_high keys mode b = get_or keys (key_at mode b) 0
 
-abbrev pub keyLow : List ℕ → Mode → ℕ → ℕ
-keyLow keys mode b = get_or keys (key_at mode b + 1) 0
+abbrev pub key_low : List ℕ → Mode → ℕ → ℕ
+key_low keys mode b = get_or keys (key_at mode b + 1) 0
 
 -- ---- contents
 

@@ -20,19 +20,19 @@ all_below p zero = true
 all_below p (suc n) = p n && all_below p n
 
 -- The numbers below n of which the test holds, ascending.
-unfoldable pub numbersBelow : (ℕ → Bool) → ℕ → List ℕ
-numbersBelow p zero = []
-numbersBelow p (suc n) = numbersBelow p n ++ cond (p n) (n ∷ []) []
+unfoldable pub numbers_below : (ℕ → Bool) → ℕ → List ℕ
+numbers_below p zero = []
+numbers_below p (suc n) = numbers_below p n ++ cond (p n) (n ∷ []) []
 
 -- So many numbers in a row from `first` on, ascending.
-unfoldable pub numbersFrom : ℕ → ℕ → List ℕ
-numbersFrom first zero = []
-numbersFrom first (suc n) = first ∷ numbersFrom (suc first) n
+unfoldable pub numbers_from : ℕ → ℕ → List ℕ
+numbers_from first zero = []
+numbers_from first (suc n) = first ∷ numbers_from (suc first) n
 
 -- The numbers f gives of those below n, added up.
-unfoldable pub sumBelow : (ℕ → ℕ) → ℕ → ℕ
-sumBelow f zero = 0
-sumBelow f (suc n) = f n + sumBelow f n
+unfoldable pub sum_below : (ℕ → ℕ) → ℕ → ℕ
+sum_below f zero = 0
+sum_below f (suc n) = f n + sum_below f n
 
 -- What f gives of each number below n, in order.
 unfoldable pub tabulate : (ℕ → ℕ) → ℕ → List ℕ

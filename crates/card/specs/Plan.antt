@@ -3,9 +3,9 @@
 use Rattle.std.specs.Prelude.{ℕ, ◌+◌, ◌-◌, ◌≡◌, Bool, true, false, not, cond, List, [], ◌∷◌, ◌++◌, length, drop, set}
 use Rattle.std.proofs.Math.Option.{Option, none, some}
 use Rattle.card.specs.Lists.{tabulate}
-use Rattle.card.specs.Pointers.{pointer, pointersTo, insert, remove, insertBeside, removeBeside, setBeside, keep, keepBeside, notFrom}
+use Rattle.card.specs.Pointers.{pointer, pointers_to, insert, remove, insert_beside, remove_beside, set_beside, keep, keep_beside, not_from}
 use Rattle.card.specs.Contents.{overwrite, fill, zeros}
-use Rattle.card.specs.Card.{Public, Card, keyFlag, flag, count, windowAt, key_at, inUse, timesInUse, multiplicity, block}
+use Rattle.card.specs.Card.{Public, Card, key_flag, flag, count, window_at, key_at, in_use, times_in_use, multiplicity, block}
 use Rattle.card.specs.Soundness.{shape, sound}
 use Rattle.card.specs.declared.Info.{Info}
 use Rattle.card.specs.declared.Mode.{Mode}
@@ -46,25 +46,25 @@ audited c checks = (not (shape c) ⇒ Misshapen) ∷ ((not (sound c) ⇒ Unsound
 -- ---- changes
 
 pub data Change : Type 0 where
-  setWindow : Mode → ℕ → ℕ → Change
-  setBlock : ℕ → List ℕ → Change
-  setKey : Mode → ℕ → NewKey → Change
-  takeBlock : ℕ → Change
-  freeBlock : ℕ → Change
+  set_window : Mode → ℕ → ℕ → Change
+  set_block : ℕ → List ℕ → Change
+  set_key : Mode → ℕ → NewKey → Change
+  take_block : ℕ → Change
+  free_block : ℕ → Change
   -- 2026-09: a waiting block is overwritten and becomes free.
-  sweepBlock : ℕ → Change
-  addPointer : ℕ → ℕ → Change
-  raisePointer : ℕ → ℕ → Change
-  lowerPointer : ℕ → ℕ → Change
-  dropPointer : ℕ → ℕ → Change
-  dropFrom : List ℕ → Change
+  sweep_block : ℕ → Change
+  add_pointer : ℕ → ℕ → Change
+  raise_pointer : ℕ → ℕ → Change
+  lower_pointer : ℕ → ℕ → Change
+  drop_pointer : ℕ → ℕ → Change
+  drop_from : List ℕ → Change
   -- 2026-08: the time, and the total that goes with it.
-  setTime : ℕ → ℕ → Change
+  set_time : ℕ → ℕ → Change
 
 -- A new key is there, or none is; its words are 0 where none is.
-abbrev pub isPresent : NewKey → Bool
-isPresent Absent = false
-isPresent (Present high low) = true
+abbrev pub is_present : NewKey → Bool
+is_present Absent = false
+is_present (Present high low) = true
 
 abbrev pub high_word : NewKey → ℕ
 high_word Absent = 0
@@ -75,52 +75,52 @@ low_word Absent = 0
 low_word (Present high low) = low
 
 -- The operation that is not this one.
-abbrev pub otherMode : Mode → Mode
-otherMode Reading = Writing
-otherMode Writing = Reading
+abbrev pub other_mode : Mode → Mode
+other_mode Reading = Writing
+other_mode Writing = Reading
 
 -- The flag of a key for the mode: 0 where there is none.
-abbrev pub keyBit : Mode → Bool → ℕ
-keyBit mode false = 0
-keyBit Reading true = 2
-keyBit Writing true = 4
+abbrev pub key_bit : Mode → Bool → ℕ
+key_bit mode false = 0
+key_bit Reading true = 2
+key_bit Writing true = 4
 
 -- 2026-02: the flags of an allocated block once its key for the mode is set, from those that it had: the other key's flag stays.
-abbrev pub keyedFlags : ℕ → Mode → NewKey → ℕ
-keyedFlags f mode key = 1 + keyBit mode (isPresent key) + keyBit (otherMode mode) (keyFlag (otherMode mode) f)
+abbrev pub keyed_flags : ℕ → Mode → NewKey → ℕ
+keyed_flags f mode key = 1 + key_bit mode (is_present key) + key_bit (other_mode mode) (key_flag (other_mode mode) f)
 
-abbrev pub withUsed : Info → ℕ → Info
-withUsed info used = record { blocks = info.blocks; roots = info.roots; bytes = info.bytes; used = used; time = info.time; total = info.total }
+abbrev pub with_used : Info → ℕ → Info
+with_used info used = record { blocks = info.blocks; roots = info.roots; bytes = info.bytes; used = used; time = info.time; total = info.total }
 
-abbrev pub withTime : Info → ℕ → ℕ → Info
-withTime info time total = record { blocks = info.blocks; roots = info.roots; bytes = info.bytes; used = info.used; time = time; total = total }
+abbrev pub with_time : Info → ℕ → ℕ → Info
+with_time info time total = record { blocks = info.blocks; roots = info.roots; bytes = info.bytes; used = info.used; time = time; total = total }
 
 abbrev pub with_flags : Public → List ℕ → Public
 with_flags p flags = record { info = p.info; flags = flags; counts = p.counts; pointers = p.pointers; multiplicities = p.multiplicities; windows = p.windows }
 
-abbrev pub withWindow : Public → Mode → ℕ → ℕ → Public
-withWindow p mode b end = record {
+abbrev pub with_window : Public → Mode → ℕ → ℕ → Public
+with_window p mode b end = record {
   info = p.info;
   flags = p.flags;
   counts = p.counts;
   pointers = p.pointers;
   multiplicities = p.multiplicities;
-  windows = set p.windows (windowAt mode b) end;
+  windows = set p.windows (window_at mode b) end;
 }
 
 -- A pointer that is there gets another multiplicity.
-abbrev pub withMultiplicity : Public → ℕ → ℕ → ℕ → Public
-withMultiplicity p a b times = record {
+abbrev pub with_multiplicity : Public → ℕ → ℕ → ℕ → Public
+with_multiplicity p a b times = record {
   info = p.info;
   flags = p.flags;
   counts = p.counts;
   pointers = p.pointers;
-  multiplicities = setBeside (pointer a b) times (inUse p) (timesInUse p) ++ drop p.info.used p.multiplicities;
+  multiplicities = set_beside (pointer a b) times (in_use p) (times_in_use p) ++ drop p.info.used p.multiplicities;
   windows = p.windows;
 }
 
-abbrev pub withCount : Public → ℕ → ℕ → Public
-withCount p b times = record {
+abbrev pub with_count : Public → ℕ → ℕ → Public
+with_count p b times = record {
   info = p.info;
   flags = p.flags;
   counts = set p.counts b times;
@@ -130,92 +130,92 @@ withCount p b times = record {
 }
 
 -- The flags of a block that is freed. 2026-09, "A freed block now waits, flag 8 alone".
-abbrev pub freedFlags : ℕ
-freedFlags = 8
+abbrev pub freed_flags : ℕ
+freed_flags = 8
 
 -- What a change does to the public part.
-unfoldable pub changePublic : Change → Public → Public
-changePublic (setWindow mode b end) p = withWindow p mode b end
-changePublic (setBlock b ys) p = p
-changePublic (setKey mode b key) p = with_flags p (set p.flags b (keyedFlags (flag p b) mode key))
-changePublic (takeBlock b) p = with_flags p (set p.flags b 1)
-changePublic (freeBlock b) p = withWindow (withWindow (with_flags p (set p.flags b freedFlags)) Reading b 0) Writing b 0
-changePublic (sweepBlock b) p = with_flags p (set p.flags b 0)
-changePublic (addPointer a b) p = record {
-  info = withUsed p.info (p.info.used + 1);
+unfoldable pub change_public : Change → Public → Public
+change_public (set_window mode b end) p = with_window p mode b end
+change_public (set_block b ys) p = p
+change_public (set_key mode b key) p = with_flags p (set p.flags b (keyed_flags (flag p b) mode key))
+change_public (take_block b) p = with_flags p (set p.flags b 1)
+change_public (free_block b) p = with_window (with_window (with_flags p (set p.flags b freed_flags)) Reading b 0) Writing b 0
+change_public (sweep_block b) p = with_flags p (set p.flags b 0)
+change_public (add_pointer a b) p = record {
+  info = with_used p.info (p.info.used + 1);
   flags = p.flags;
   counts = set p.counts b (count p b + 1);
-  pointers = insert (pointer a b) (inUse p) ++ drop (p.info.used + 1) p.pointers;
-  multiplicities = insertBeside (pointer a b) 1 (inUse p) (timesInUse p) ++ drop (p.info.used + 1) p.multiplicities;
+  pointers = insert (pointer a b) (in_use p) ++ drop (p.info.used + 1) p.pointers;
+  multiplicities = insert_beside (pointer a b) 1 (in_use p) (times_in_use p) ++ drop (p.info.used + 1) p.multiplicities;
   windows = p.windows;
 }
-changePublic (raisePointer a b) p = withMultiplicity (withCount p b (count p b + 1)) a b (multiplicity p a b + 1)
-changePublic (lowerPointer a b) p = withMultiplicity (withCount p b (count p b - 1)) a b (multiplicity p a b - 1)
-changePublic (dropPointer a b) p = record {
-  info = withUsed p.info (p.info.used - 1);
+change_public (raise_pointer a b) p = with_multiplicity (with_count p b (count p b + 1)) a b (multiplicity p a b + 1)
+change_public (lower_pointer a b) p = with_multiplicity (with_count p b (count p b - 1)) a b (multiplicity p a b - 1)
+change_public (drop_pointer a b) p = record {
+  info = with_used p.info (p.info.used - 1);
   flags = p.flags;
   counts = set p.counts b (count p b - multiplicity p a b);
-  pointers = remove (pointer a b) (inUse p) ++ (0 ∷ drop p.info.used p.pointers);
-  multiplicities = removeBeside (pointer a b) (inUse p) (timesInUse p) ++ (0 ∷ drop p.info.used p.multiplicities);
+  pointers = remove (pointer a b) (in_use p) ++ (0 ∷ drop p.info.used p.pointers);
+  multiplicities = remove_beside (pointer a b) (in_use p) (times_in_use p) ++ (0 ∷ drop p.info.used p.multiplicities);
   windows = p.windows;
 }
-changePublic (dropFrom bs) p =
-    let ws = keep (notFrom bs) (inUse p) in
-    let ns = keepBeside (notFrom bs) (inUse p) (timesInUse p) in
+change_public (drop_from bs) p =
+    let ws = keep (not_from bs) (in_use p) in
+    let ns = keep_beside (not_from bs) (in_use p) (times_in_use p) in
     let gone = p.info.used - length ws in
     record {
-      info = withUsed p.info (length ws);
+      info = with_used p.info (length ws);
       flags = p.flags;
-      counts = tabulate (λ b. pointersTo b ws ns) (length p.counts);
+      counts = tabulate (λ b. pointers_to b ws ns) (length p.counts);
       pointers = ws ++ (zeros gone ++ drop p.info.used p.pointers);
       multiplicities = ns ++ (zeros gone ++ drop p.info.used p.multiplicities);
       windows = p.windows;
     }
-changePublic (setTime time total) p = record { info = withTime p.info time total; flags = p.flags; counts = p.counts; pointers = p.pointers; multiplicities = p.multiplicities; windows = p.windows }
+change_public (set_time time total) p = record { info = with_time p.info time total; flags = p.flags; counts = p.counts; pointers = p.pointers; multiplicities = p.multiplicities; windows = p.windows }
 
 -- The two words of a block's key for the mode; those of the other key stay.
-abbrev pub replaceKey : List ℕ → Mode → ℕ → NewKey → List ℕ
-replaceKey keys mode b key = set (set keys (key_at mode b) (high_word key)) (key_at mode b + 1) (low_word key)
+abbrev pub replace_key : List ℕ → Mode → ℕ → NewKey → List ℕ
+replace_key keys mode b key = set (set keys (key_at mode b) (high_word key)) (key_at mode b + 1) (low_word key)
 
 -- Neither key is there any more.
-abbrev pub clearKeys : List ℕ → ℕ → List ℕ
-clearKeys keys b = replaceKey (replaceKey keys Reading b Absent) Writing b Absent
+abbrev pub clear_keys : List ℕ → ℕ → List ℕ
+clear_keys keys b = replace_key (replace_key keys Reading b Absent) Writing b Absent
 
 -- What a change does to the keys.
-unfoldable pub changeKeys : Change → List ℕ → List ℕ
-changeKeys (setWindow mode b end) keys = keys
-changeKeys (setBlock b ys) keys = keys
-changeKeys (setKey mode b key) keys = replaceKey keys mode b key
-changeKeys (takeBlock b) keys = keys
-changeKeys (freeBlock b) keys = clearKeys keys b
-changeKeys (sweepBlock b) keys = keys
-changeKeys (addPointer a b) keys = keys
-changeKeys (raisePointer a b) keys = keys
-changeKeys (lowerPointer a b) keys = keys
-changeKeys (dropPointer a b) keys = keys
-changeKeys (dropFrom bs) keys = keys
-changeKeys (setTime time total) keys = keys
+unfoldable pub change_keys : Change → List ℕ → List ℕ
+change_keys (set_window mode b end) keys = keys
+change_keys (set_block b ys) keys = keys
+change_keys (set_key mode b key) keys = replace_key keys mode b key
+change_keys (take_block b) keys = keys
+change_keys (free_block b) keys = clear_keys keys b
+change_keys (sweep_block b) keys = keys
+change_keys (add_pointer a b) keys = keys
+change_keys (raise_pointer a b) keys = keys
+change_keys (lower_pointer a b) keys = keys
+change_keys (drop_pointer a b) keys = keys
+change_keys (drop_from bs) keys = keys
+change_keys (set_time time total) keys = keys
 
 -- What a change does to the contents, in blocks of so many bytes.
-unfoldable pub changeContents : ℕ → Change → List ℕ → List ℕ
-changeContents bytes (setWindow mode b end) contents = contents
-changeContents bytes (setBlock b ys) contents = fill bytes contents b ys
-changeContents bytes (setKey mode b key) contents = contents
-changeContents bytes (takeBlock b) contents = fill bytes contents b (zeros bytes)
-changeContents bytes (freeBlock b) contents = contents
-changeContents bytes (sweepBlock b) contents = fill bytes contents b (zeros bytes)
-changeContents bytes (addPointer a b) contents = contents
-changeContents bytes (raisePointer a b) contents = contents
-changeContents bytes (lowerPointer a b) contents = contents
-changeContents bytes (dropPointer a b) contents = contents
-changeContents bytes (dropFrom bs) contents = contents
-changeContents bytes (setTime time total) contents = contents
+unfoldable pub change_contents : ℕ → Change → List ℕ → List ℕ
+change_contents bytes (set_window mode b end) contents = contents
+change_contents bytes (set_block b ys) contents = fill bytes contents b ys
+change_contents bytes (set_key mode b key) contents = contents
+change_contents bytes (take_block b) contents = fill bytes contents b (zeros bytes)
+change_contents bytes (free_block b) contents = contents
+change_contents bytes (sweep_block b) contents = fill bytes contents b (zeros bytes)
+change_contents bytes (add_pointer a b) contents = contents
+change_contents bytes (raise_pointer a b) contents = contents
+change_contents bytes (lower_pointer a b) contents = contents
+change_contents bytes (drop_pointer a b) contents = contents
+change_contents bytes (drop_from bs) contents = contents
+change_contents bytes (set_time time total) contents = contents
 
 unfoldable pub change : Card → Change → Card
 change c step = record {
-  public = changePublic step c.public;
-  keys = changeKeys step c.keys;
-  contents = changeContents c.public.info.bytes step c.contents;
+  public = change_public step c.public;
+  keys = change_keys step c.keys;
+  contents = change_contents c.public.info.bytes step c.contents;
 }
 
 -- The changes, one after the other.
@@ -228,7 +228,7 @@ changes c (step ∷ steps) = changes (change c step) steps
 -- What a done call puts into a lent buffer: nothing, a block's part of the contents, or numbers in the first places.
 pub data Shown : Type 0 where
   nothing : Shown
-  blockPart : ℕ → Shown
+  block_part : ℕ → Shown
   numbers : List ℕ → Shown
 
 -- One paragraph of document 01, "Calls", or a call of a request: its refusals in order, then what is answered, shown and changed.
@@ -255,22 +255,22 @@ pub record Result : Type 0 where
 abbrev pub refused : Card → Buffers → Refusal → Result
 refused c lent r = record { answer = Refused r; after = c; out = lent.out; places = lent.places }
 
-unfoldable pub outAfter : Card → Shown → List ℕ → List ℕ
-outAfter c nothing out = out
-outAfter c (blockPart b) out = block c b
-outAfter c (numbers ns) out = out
+unfoldable pub out_after : Card → Shown → List ℕ → List ℕ
+out_after c nothing out = out
+out_after c (block_part b) out = block c b
+out_after c (numbers ns) out = out
 
-unfoldable pub placesAfter : Shown → List ℕ → List ℕ
-placesAfter nothing places = places
-placesAfter (blockPart b) places = places
-placesAfter (numbers ns) places = overwrite places 0 ns
+unfoldable pub places_after : Shown → List ℕ → List ℕ
+places_after nothing places = places
+places_after (block_part b) places = places
+places_after (numbers ns) places = overwrite places 0 ns
 
 abbrev pub done : Card → Buffers → Plan → Result
 done c lent plan = record {
   answer = plan.answer;
   after = changes c plan.steps;
-  out = outAfter c plan.shown lent.out;
-  places = placesAfter plan.shown lent.places;
+  out = out_after c plan.shown lent.out;
+  places = places_after plan.shown lent.places;
 }
 
 unfoldable pub settle : Card → Buffers → Plan → Option Refusal → Result
@@ -278,8 +278,8 @@ settle c lent plan none = done c lent plan
 settle c lent plan (some r) = refused c lent r
 
 -- A call judged by its own checks, on a card that has been audited.
-unfoldable pub judgeSound : Card → Buffers → Plan → Result
-judgeSound c lent plan = settle c lent plan (first plan.checks)
+unfoldable pub judge_sound : Card → Buffers → Plan → Result
+judge_sound c lent plan = settle c lent plan (first plan.checks)
 
 -- A call on any card: audited first.
 unfoldable pub judge : Card → Buffers → Plan → Result

@@ -8,5 +8,5 @@ use Rattle.card.specs.declared.Answer.{Answer}
 pub record Is (want : Result) (answer : Answer) (after : Card) (out places : List ℕ) : Type 0 where
   pub answers : answer ≡ want.answer
   pub leaves : after ≡ want.after
-  pub fillsOut : out ≡ want.out
-  pub fillsPlaces : places ≡ want.places
+  pub fills_out : out ≡ want.out
+  pub fills_places : places ≡ want.places

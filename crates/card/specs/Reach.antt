@@ -1,7 +1,7 @@
 -- Document 01, "Within reach": presented keys, sealed and hidden blocks.
 use Rattle.std.specs.Prelude.{ℕ, ◌≡◌, Bool, true, false, ◌&&◌, ◌||◌, not, List, [], ◌∷◌, eqb}
 use Rattle.std.proofs.Math.Option.{Option, none, some}
-use Rattle.card.specs.Card.{Card, allocated, has_key, isRoot, windowOpen, pointsTo, keyHigh, keyLow}
+use Rattle.card.specs.Card.{Card, allocated, has_key, is_root, window_open, points_to, key_high, key_low}
 use Rattle.card.specs.Session.{Request, Sent, traits, performed}
 use Rattle.card.specs.declared.Mode.{Mode}
 use Rattle.card.specs.declared.Mode.TheVariants.{Reading, Writing}
@@ -20,14 +20,14 @@ shows (Reference r) high low = false
 shows (KeyCredential h l) high low = eqb high h && eqb low l
 
 -- One of the credentials shows it.
-unfoldable pub someShows : List Credential → ℕ → ℕ → Bool
-someShows [] high low = false
-someShows (c ∷ []) high low = shows c high low
-someShows (c ∷ (d ∷ cs)) high low = shows c high low || someShows (d ∷ cs) high low
+unfoldable pub some_shows : List Credential → ℕ → ℕ → Bool
+some_shows [] high low = false
+some_shows (c ∷ []) high low = shows c high low
+some_shows (c ∷ (d ∷ cs)) high low = shows c high low || some_shows (d ∷ cs) high low
 
 -- The call presents the key, as a credential or in RENEW.
 unfoldable pub presents : Call → ℕ → ℕ → Bool
-presents call high low = someShows (traits call).credentials high low
+presents call high low = some_shows (traits call).credentials high low
 
 -- Document 01, "Presented keys: every key used as a credential or in RENEW anywhere in the session."
 unfoldable pub presented : List Request → ℕ → ℕ → Bool
@@ -44,10 +44,10 @@ HasKeys K qs = (high low : ℕ) → presented qs high low ≡ true → K high lo
 -- ---- last pointers
 
 -- Done with result 1.
-unfoldable pub isOne : Answer → Bool
-isOne (Refused r) = false
-isOne Done = false
-isOne (Value v) = eqb v 1
+unfoldable pub is_one : Answer → Bool
+is_one (Refused r) = false
+is_one Done = false
+is_one (Value v) = eqb v 1
 
 -- The block is the one that is named, if any.
 abbrev named : Option ℕ → ℕ → Bool
@@ -55,35 +55,35 @@ named none b = false
 named (some a) b = eqb a b
 
 -- Document 01, "A block's last pointer is taken away by a DELETE to it that is done with result 1."
-unfoldable pub takesLast : Call → Answer → ℕ → Bool
-takesLast call a b = named (traits call).takesPointerTo b && isOne a
+unfoldable pub takes_last : Call → Answer → ℕ → Bool
+takes_last call a b = named (traits call).takes_pointer_to b && is_one a
 
 -- Some call of the list took the block's last pointer away.
-unfoldable pub lastTaken : Card → List Sent → ℕ → Bool
-lastTaken c [] b = false
-lastTaken c (s ∷ ss) b = takesLast s.request.call (performed c s).answer b || lastTaken (performed c s).after ss b
+unfoldable pub last_taken : Card → List Sent → ℕ → Bool
+last_taken c [] b = false
+last_taken c (s ∷ ss) b = takes_last s.request.call (performed c s).answer b || last_taken (performed c s).after ss b
 
 -- ---- sealed, within reach, hidden
 
 module _ (isPresented : ℕ → ℕ → Bool) (c : Card) where
   -- The block has a key for the mode, and that key is presented.
-  unfoldable pub keyPresented : Mode → ℕ → Bool
-  keyPresented mode b = has_key c.public mode b && isPresented (keyHigh c.keys mode b) (keyLow c.keys mode b)
+  unfoldable pub key_presented : Mode → ℕ → Bool
+  key_presented mode b = has_key c.public mode b && isPresented (key_high c.keys mode b) (key_low c.keys mode b)
 
   -- Document 01, "Sealed: carries a read and a write key, neither presented."
   unfoldable pub sealed : ℕ → Bool
   sealed b =
       (has_key c.public Reading b && has_key c.public Writing b)
-      && (not (keyPresented Reading b) && not (keyPresented Writing b))
+      && (not (key_presented Reading b) && not (key_presented Writing b))
 
   -- Document 01, "Within reach is the least set of allocated blocks": a constructor for each of its four clauses.
   pub data Reach : ℕ → Type 0 where
-    unsealedRoot : {b : ℕ} → allocated c.public b ≡ true → isRoot c.public b ≡ true → sealed b ≡ false → Reach b
-    byKey : {b : ℕ} (mode : Mode) → allocated c.public b ≡ true → keyPresented mode b ≡ true → Reach b
-    openWindow : {b : ℕ} (mode : Mode) → allocated c.public b ≡ true → windowOpen c.public mode b ≡ true → Reach b
-    pointed : {a b : ℕ} → Reach a → allocated c.public b ≡ true → pointsTo c.public a b ≡ true → sealed b ≡ false → Reach b
+    unsealed_root : {b : ℕ} → allocated c.public b ≡ true → is_root c.public b ≡ true → sealed b ≡ false → Reach b
+    by_key : {b : ℕ} (mode : Mode) → allocated c.public b ≡ true → key_presented mode b ≡ true → Reach b
+    open_window : {b : ℕ} (mode : Mode) → allocated c.public b ≡ true → window_open c.public mode b ≡ true → Reach b
+    pointed : {a b : ℕ} → Reach a → allocated c.public b ≡ true → points_to c.public a b ≡ true → sealed b ≡ false → Reach b
 
   -- Document 01, "Other allocated blocks are hidden."
   pub record Hidden (b : ℕ) : Type 0 where
-    pub isAllocated : allocated c.public b ≡ true
-    pub outOfReach : Reach b → ⊥
+    pub is_allocated : allocated c.public b ≡ true
+    pub out_of_reach : Reach b → ⊥

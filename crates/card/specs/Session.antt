@@ -3,8 +3,8 @@ use Rattle.std.specs.Prelude.{ℕ, Bool, true, false, cond, List, [], ◌∷◌,
 use Rattle.std.proofs.Math.Option.{Option, none, some}
 use Rattle.card.specs.Card.{Card}
 use Rattle.card.specs.Access.{admits, opens}
-use Rattle.card.specs.Plan.{Check, audited, Plan, Buffers, Result, judge, judgeSound}
-use Rattle.card.specs.Calls.{answerNumber, answerValues, mode_of, readPlan, writePlan, allocPlan, allocContigPlan, createPlan, deletePlan, deleteTreePlan, keyPlan, renewPlan, forcePlan, freePlan, tickPlan, auditPlan, rentPlan, sweepPlan}
+use Rattle.card.specs.Plan.{Check, audited, Plan, Buffers, Result, judge, judge_sound}
+use Rattle.card.specs.Calls.{answer_number, answer_values, mode_of, read_plan, write_plan, alloc_plan, alloc_contig_plan, create_plan, delete_plan, delete_tree_plan, key_plan, renew_plan, force_plan, free_plan, tick_plan, audit_plan, rent_plan, sweep_plan}
 use Rattle.card.specs.declared.Port.{Port}
 use Rattle.card.specs.declared.Port.TheVariants.{Host}
 use Rattle.card.specs.declared.Mode.{Mode}
@@ -20,9 +20,9 @@ use Rattle.card.specs.declared.Call.{Call}
 use Rattle.card.specs.declared.Call.TheVariants.{Read, Write, Alloc, AllocContig, Create, Delete, DeleteTree, KeyRead, KeyWrite, Renew, Force, Free, Tick, Audit, Rent, Sweep}
 
 -- KEY_READ or KEY_WRITE, by the mode whose key it sets.
-abbrev pub keyCall : Mode → KeyOperands → Call
-keyCall Reading o = KeyRead o
-keyCall Writing o = KeyWrite o
+abbrev pub key_call : Mode → KeyOperands → Call
+key_call Reading o = KeyRead o
+key_call Writing o = KeyWrite o
 
 -- A call with its operands and its lent buffers with what they hold.
 pub record Request : Type 0 where
@@ -31,47 +31,47 @@ pub record Request : Type 0 where
 
 -- The call's paragraph, at a port and on a card: the access test is asked here and nowhere else.
 unfoldable pub plan : Port → Card → Call → Buffers → Plan
-plan port c (Read o) lent = readPlan port c.public (admits port c Reading o.block o.credential) o (length lent.out)
-plan port c (Write o) lent = writePlan port c.public (admits port c Writing o.block o.credential) o lent.input
-plan port c (Alloc o) lent = allocPlan port c.public (admits port c Writing o.reference o.credential) o (length lent.places)
+plan port c (Read o) lent = read_plan port c.public (admits port c Reading o.block o.credential) o (length lent.out)
+plan port c (Write o) lent = write_plan port c.public (admits port c Writing o.block o.credential) o lent.input
+plan port c (Alloc o) lent = alloc_plan port c.public (admits port c Writing o.reference o.credential) o (length lent.places)
 plan port c (AllocContig o) lent =
-    allocContigPlan port c.public (admits port c Writing o.reference o.credential) o (length lent.places)
+    alloc_contig_plan port c.public (admits port c Writing o.reference o.credential) o (length lent.places)
 plan port c (Create o) lent =
-    createPlan port c.public
+    create_plan port c.public
     (admits port c Writing o.source o.credential)
     (admits port c Writing o.destination o.second)
     o
-plan port c (Delete o) lent = deletePlan port c.public (admits port c Writing o.source o.credential) o
-plan port c (DeleteTree o) lent = deleteTreePlan port c.public (admits port c Writing o.source o.credential) o
-plan port c (KeyRead o) lent = keyPlan port c.public (admits port c Writing o.block o.credential) Reading o
-plan port c (KeyWrite o) lent = keyPlan port c.public (admits port c Writing o.block o.credential) Writing o
-plan port c (Renew o) lent = renewPlan c.public (opens c (mode_of o.mode) o.block (KeyCredential o.high o.low)) o
-plan port c (Force o) lent = forcePlan c.public o
-plan port c Free lent = freePlan c.public
-plan port c (Tick o) lent = tickPlan c.public o
-plan port c Audit lent = auditPlan
-plan port c (Rent o) lent = rentPlan c.public o
-plan port c (Sweep o) lent = sweepPlan c.public o
+plan port c (Delete o) lent = delete_plan port c.public (admits port c Writing o.source o.credential) o
+plan port c (DeleteTree o) lent = delete_tree_plan port c.public (admits port c Writing o.source o.credential) o
+plan port c (KeyRead o) lent = key_plan port c.public (admits port c Writing o.block o.credential) Reading o
+plan port c (KeyWrite o) lent = key_plan port c.public (admits port c Writing o.block o.credential) Writing o
+plan port c (Renew o) lent = renew_plan c.public (opens c (mode_of o.mode) o.block (KeyCredential o.high o.low)) o
+plan port c (Force o) lent = force_plan c.public o
+plan port c Free lent = free_plan c.public
+plan port c (Tick o) lent = tick_plan c.public o
+plan port c Audit lent = audit_plan
+plan port c (Rent o) lent = rent_plan c.public o
+plan port c (Sweep o) lent = sweep_plan c.public o
 
 -- The port by whose rules a call is judged. "RENEW .. host only", "FORCE .. host only": no record and no function of C asks for them at the
 -- service port; there they do what they do at the host's.
-unfoldable pub portOf : Port → Call → Port
-portOf port (Read o) = port
-portOf port (Write o) = port
-portOf port (Alloc o) = port
-portOf port (AllocContig o) = port
-portOf port (Create o) = port
-portOf port (Delete o) = port
-portOf port (DeleteTree o) = port
-portOf port (KeyRead o) = port
-portOf port (KeyWrite o) = port
-portOf port (Renew o) = Host
-portOf port (Force o) = Host
-portOf port Free = port
-portOf port (Tick o) = port
-portOf port Audit = port
-portOf port (Rent o) = port
-portOf port (Sweep o) = port
+unfoldable pub port_of : Port → Call → Port
+port_of port (Read o) = port
+port_of port (Write o) = port
+port_of port (Alloc o) = port
+port_of port (AllocContig o) = port
+port_of port (Create o) = port
+port_of port (Delete o) = port
+port_of port (DeleteTree o) = port
+port_of port (KeyRead o) = port
+port_of port (KeyWrite o) = port
+port_of port (Renew o) = Host
+port_of port (Force o) = Host
+port_of port Free = port
+port_of port (Tick o) = port
+port_of port Audit = port
+port_of port (Rent o) = port
+port_of port (Sweep o) = port
 
 -- "FREE", "TICK", "AUDIT" and, by 2026-08 and 2026-09, RENT and SWEEP, "Either port may call it": the calls that look at no port.
 pub data EitherPort : Call → Type 0 where
@@ -82,23 +82,23 @@ pub data EitherPort : Call → Type 0 where
   sweep : (o : SweepOperands) → EitherPort (Sweep o)
 
 -- The call is SWEEP.
-unfoldable pub isSweep : Call → Bool
-isSweep (Read o) = false
-isSweep (Write o) = false
-isSweep (Alloc o) = false
-isSweep (AllocContig o) = false
-isSweep (Create o) = false
-isSweep (Delete o) = false
-isSweep (DeleteTree o) = false
-isSweep (KeyRead o) = false
-isSweep (KeyWrite o) = false
-isSweep (Renew o) = false
-isSweep (Force o) = false
-isSweep Free = false
-isSweep (Tick o) = false
-isSweep Audit = false
-isSweep (Rent o) = false
-isSweep (Sweep o) = true
+unfoldable pub is_sweep : Call → Bool
+is_sweep (Read o) = false
+is_sweep (Write o) = false
+is_sweep (Alloc o) = false
+is_sweep (AllocContig o) = false
+is_sweep (Create o) = false
+is_sweep (Delete o) = false
+is_sweep (DeleteTree o) = false
+is_sweep (KeyRead o) = false
+is_sweep (KeyWrite o) = false
+is_sweep (Renew o) = false
+is_sweep (Force o) = false
+is_sweep Free = false
+is_sweep (Tick o) = false
+is_sweep Audit = false
+is_sweep (Rent o) = false
+is_sweep (Sweep o) = true
 
 -- All that a request can be refused for, in order: the shape and the soundness of the card, then what its paragraph names.
 unfoldable pub refusals : Port → Card → Request → List Check
@@ -108,8 +108,8 @@ unfoldable pub perform : Port → Card → Request → Result
 perform port c q = judge c q.lent (plan port c q.call q.lent)
 
 -- The same on a card that has been audited.
-unfoldable pub performSound : Port → Card → Request → Result
-performSound port c q = judgeSound c q.lent (plan port c q.call q.lent)
+unfoldable pub perform_sound : Port → Card → Request → Result
+perform_sound port c q = judge_sound c q.lent (plan port c q.call q.lent)
 
 -- A call with the bytes for WRITE, READ's buffer and the places of ALLOC and ALLOC_CONTIG that are lent with it.
 abbrev pub request : Call → List ℕ → List ℕ → List ℕ → Request
@@ -140,9 +140,9 @@ replies c [] = []
 replies c (s ∷ ss) = reply (performed c s) ∷ replies (performed c s).after ss
 
 -- The card that a list of calls leaves.
-unfoldable pub afterAll : Card → List Sent → Card
-afterAll c [] = c
-afterAll c (s ∷ ss) = afterAll (performed c s).after ss
+unfoldable pub after_all : Card → List Sent → Card
+after_all c [] = c
+after_all c (s ∷ ss) = after_all (performed c s).after ss
 
 -- A property of each call of a list, on the card that those before it left.
 abbrev pub Each : (Card → Sent → Type 0) → Card → List Sent → Type 0
@@ -154,12 +154,12 @@ pub each : {P : Card → Sent → Type 0} → ((c : Card) (s : Sent) → P c s) 
 each f c [] = tt
 each f c (s ∷ ss) = (f c s, each f (performed c s).after ss)
 
-abbrev pub sentByHost : Request → Sent
-sentByHost q = record { port = Host; request = q }
+abbrev pub sent_by_host : Request → Sent
+sent_by_host q = record { port = Host; request = q }
 
 -- Document 01, "A host session": every call at the host port.
-abbrev pub hostSession : List Request → List Sent
-hostSession qs = map sentByHost qs
+abbrev pub host_session : List Request → List Sent
+host_session qs = map sent_by_host qs
 
 -- ---- what sets the calls apart beside their plans
 
@@ -169,43 +169,43 @@ pub record Traits : Type 0 where
   -- The values that the call, once done, leaves in a lent buffer and a player reports.
   pub values : Reply → List ℕ
   -- The destination of the pointer that the call takes away, if it takes just one: DELETE.
-  pub takesPointerTo : Option ℕ
+  pub takes_pointer_to : Option ℕ
   -- The seconds that pass with the call, if it is done: TICK's.
   pub seconds : ℕ
 
 -- A call that shows nothing and is neither DELETE nor TICK.
 abbrev pub plain : List Credential → Traits
-plain credentials = record { credentials = credentials; values = λ r. []; takesPointerTo = none; seconds = 0 }
+plain credentials = record { credentials = credentials; values = λ r. []; takes_pointer_to = none; seconds = 0 }
 
 -- A row for each call. A player reports READ's first 8 bytes and the numbers of ALLOC and ALLOC_CONTIG.
 unfoldable pub traits : Call → Traits
-traits (Read o) = record { credentials = o.credential ∷ []; values = λ r. take 8 r.out; takesPointerTo = none; seconds = 0 }
+traits (Read o) = record { credentials = o.credential ∷ []; values = λ r. take 8 r.out; takes_pointer_to = none; seconds = 0 }
 traits (Write o) = plain (o.credential ∷ [])
-traits (Alloc o) = record { credentials = o.credential ∷ []; values = λ r. take o.count r.places; takesPointerTo = none; seconds = 0 }
-traits (AllocContig o) = record { credentials = o.credential ∷ []; values = λ r. take o.count r.places; takesPointerTo = none; seconds = 0 }
+traits (Alloc o) = record { credentials = o.credential ∷ []; values = λ r. take o.count r.places; takes_pointer_to = none; seconds = 0 }
+traits (AllocContig o) = record { credentials = o.credential ∷ []; values = λ r. take o.count r.places; takes_pointer_to = none; seconds = 0 }
 traits (Create o) = plain (o.credential ∷ o.second ∷ [])
-traits (Delete o) = record { credentials = o.credential ∷ []; values = λ r. []; takesPointerTo = some o.destination; seconds = 0 }
+traits (Delete o) = record { credentials = o.credential ∷ []; values = λ r. []; takes_pointer_to = some o.destination; seconds = 0 }
 traits (DeleteTree o) = plain (o.credential ∷ [])
 traits (KeyRead o) = plain (o.credential ∷ [])
 traits (KeyWrite o) = plain (o.credential ∷ [])
 traits (Renew o) = plain (KeyCredential o.high o.low ∷ [])
 traits (Force o) = plain []
 traits Free = plain []
-traits (Tick o) = record { credentials = []; values = λ r. []; takesPointerTo = none; seconds = o.seconds }
+traits (Tick o) = record { credentials = []; values = λ r. []; takes_pointer_to = none; seconds = o.seconds }
 traits Audit = plain []
 traits (Rent o) = plain []
 traits (Sweep o) = plain []
 
 -- ---- what a player reports
 
-abbrev pub shownValues : Call → Reply → List ℕ
-shownValues call r = (traits call).values r
+abbrev pub shown_values : Call → Reply → List ℕ
+shown_values call r = (traits call).values r
 
 -- The answer's number and, if done, its results.
 unfoldable pub reported : Call → Reply → List ℕ
 reported call r =
-    answerNumber r.answer
-    ∷ cond (eqb (answerNumber r.answer) 0) (answerValues r.answer ++ shownValues call r) []
+    answer_number r.answer
+    ∷ cond (eqb (answer_number r.answer) 0) (answer_values r.answer ++ shown_values call r) []
 
 -- What a player reports of a list of calls.
 unfoldable pub reports : Card → List Sent → List (List ℕ)

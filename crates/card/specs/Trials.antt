@@ -1,18 +1,18 @@
 -- Document 01, "Marked trials" T1 to T12, its example of ten records as calls, and its mistakes to exclude, each in a row of its own or one of these:
 -- rows of one table, shown of the rules by one proof that is computed. Behind them rows of the requests.
 use Rattle.std.specs.Prelude.{ℕ, List, [], ◌∷◌, ◌++◌, map, replicate}
-use Rattle.card.specs.Lists.{every, all, any, all_below, numbersBelow, numbersFrom, tabulate}
-use Rattle.card.specs.Pointers.{ascending, contains, pointsFrom, insert, remove, beside, total, insertBeside, removeBeside, setBeside, keepBeside, keep, notFrom}
+use Rattle.card.specs.Lists.{every, all, any, all_below, numbers_below, numbers_from, tabulate}
+use Rattle.card.specs.Pointers.{ascending, contains, points_from, insert, remove, beside, total, insert_beside, remove_beside, set_beside, keep_beside, keep, not_from}
 use Rattle.card.specs.Least.{rounds, least}
 use Rattle.card.specs.Contents.{overwrite, part, fill, zeros}
-use Rattle.card.specs.Card.{Card, card, allocated, waiting, free as freeOf, has_key, freeBlocks, waitingBlocks, windowOpen, multiplicity, pointsTo, hasPointers}
-use Rattle.card.specs.Tree.{ordinary, onlyFrom, orphaned, orphans}
-use Rattle.card.specs.Rent.{rented, rentFor, halfRounded, rounded, cents}
-use Rattle.card.specs.Soundness.{ranges, lengths, shape, flagsLow, rootAllocated, keyZero, unallocatedEmpty, absentKeyZero, countRight, pointedTo, windowInTime, pointerRight, multiplicityRight, totalInTime, sound}
-use Rattle.card.specs.Access.{keyIs, keyOpens, opensKeyed, opensRoot, opensPointed, opens, admits}
-use Rattle.card.specs.Plan.{first, audited, changePublic, changeKeys, changeContents, change, changes, outAfter, placesAfter, settle, judge, withUsed, withTime, Buffers}
-use Rattle.card.specs.Calls.{rootAtHost, windowAfter, opensWindow, freshInfo, formatResult, format, readPlan, writePlan, wanted, nearest, picks, takeAll, allocPlan, isRun, runStarts, nearestRun, allocContigPlan, createPlan, deletePlan, freedWith, freeEach, deleteTreePlan, keyPlan, mode_of, renewPlan, forcePlan, freePlan, tickPlan, auditPlan, rentPlan, lowestWaiting, sweepEach, sweepPlan}
-use Rattle.card.specs.Session.{keyCall, Sent, plan, perform, reported, reports, traits}
+use Rattle.card.specs.Card.{Card, card, allocated, waiting, free as freeOf, has_key, free_blocks, waiting_blocks, window_open, multiplicity, points_to, has_pointers}
+use Rattle.card.specs.Tree.{ordinary, only_from, orphaned, orphans}
+use Rattle.card.specs.Rent.{rented, rent_for, half_rounded, rounded, cents}
+use Rattle.card.specs.Soundness.{ranges, lengths, shape, flags_low, root_allocated, key_zero, unallocated_empty, absent_key_zero, count_right, pointed_to, window_in_time, pointer_right, multiplicity_right, total_in_time, sound}
+use Rattle.card.specs.Access.{key_is, key_opens, opens_keyed, opens_root, opens_pointed, opens, admits}
+use Rattle.card.specs.Plan.{first, audited, change_public, change_keys, change_contents, change, changes, out_after, places_after, settle, judge, with_used, with_time, Buffers}
+use Rattle.card.specs.Calls.{root_at_host, window_after, opens_window, fresh_info, format_result, format, read_plan, write_plan, wanted, nearest, picks, take_all, alloc_plan, is_run, run_starts, nearest_run, alloc_contig_plan, create_plan, delete_plan, freed_with, free_each, delete_tree_plan, key_plan, mode_of, renew_plan, force_plan, free_plan, tick_plan, audit_plan, rent_plan, lowest_waiting, sweep_each, sweep_plan}
+use Rattle.card.specs.Session.{key_call, Sent, plan, perform, reported, reports, traits}
 use Rattle.card.specs.declared.Port.{Port}
 use Rattle.card.specs.declared.Port.TheVariants.{Host, Service}
 use Rattle.card.specs.declared.Mode.{Mode}
@@ -26,18 +26,18 @@ use Rattle.card.specs.declared.Call.TheVariants.{Read, Write, Alloc, AllocContig
 
 -- To compute by the rules, a proof unfolds this one name.
 unfoldable pub rules : Unit {0}
-unfolding every all any all_below numbersBelow numbersFrom tabulate rounds least ascending contains pointsFrom insert remove beside total insertBeside removeBeside setBeside keepBeside keep notFrom overwrite part fill allocated waiting freeOf has_key freeBlocks waitingBlocks windowOpen multiplicity pointsTo hasPointers ordinary onlyFrom orphaned orphans rented rentFor halfRounded rounded cents ranges lengths shape flagsLow rootAllocated keyZero unallocatedEmpty absentKeyZero countRight pointedTo windowInTime pointerRight multiplicityRight totalInTime sound keyIs keyOpens opensKeyed opensRoot opensPointed opens admits first audited changePublic changeKeys changeContents change changes outAfter placesAfter settle judge rootAtHost windowAfter opensWindow formatResult format readPlan writePlan wanted nearest picks takeAll allocPlan isRun runStarts nearestRun allocContigPlan createPlan deletePlan freedWith freeEach deleteTreePlan keyPlan mode_of renewPlan forcePlan freePlan tickPlan auditPlan rentPlan lowestWaiting sweepEach sweepPlan plan perform reported reports traits
+unfolding every all any all_below numbers_below numbers_from tabulate rounds least ascending contains points_from insert remove beside total insert_beside remove_beside set_beside keep_beside keep not_from overwrite part fill allocated waiting freeOf has_key free_blocks waiting_blocks window_open multiplicity points_to has_pointers ordinary only_from orphaned orphans rented rent_for half_rounded rounded cents ranges lengths shape flags_low root_allocated key_zero unallocated_empty absent_key_zero count_right pointed_to window_in_time pointer_right multiplicity_right total_in_time sound key_is key_opens opens_keyed opens_root opens_pointed opens admits first audited change_public change_keys change_contents change changes out_after places_after settle judge root_at_host window_after opens_window format_result format read_plan write_plan wanted nearest picks take_all alloc_plan is_run run_starts nearest_run alloc_contig_plan create_plan delete_plan freed_with free_each delete_tree_plan key_plan mode_of renew_plan force_plan free_plan tick_plan audit_plan rent_plan lowest_waiting sweep_each sweep_plan plan perform reported reports traits
 rules = tt
 
 -- ---- the player's card
 
 -- Tables of the player's lengths, N 16, R 1, B 512 and P 32, before FORMAT. The contents are 8,192 zero bytes.
-abbrev pub blankCard : Card
-blankCard = card (freshInfo 16 1 512) (zeros 16) (zeros 64) (zeros 16) (zeros 32) (zeros 32) (zeros 32) (zeros 8192)
+abbrev pub blank_card : Card
+blank_card = card (fresh_info 16 1 512) (zeros 16) (zeros 64) (zeros 16) (zeros 32) (zeros 32) (zeros 32) (zeros 8192)
 
 -- Document 01, "fresh player card".
-unfoldable pub playerCard : Card
-playerCard = (format 16 1 512 blankCard).after
+unfoldable pub player_card : Card
+player_card = (format 16 1 512 blank_card).after
 
 -- ---- calls, as short as the trials have them
 
@@ -65,8 +65,8 @@ module _ (port : Port) where
   abbrev pub alloc : ℕ → ℕ → ℕ → Sent
   alloc reference hint count = send port (Alloc (record { reference = reference; credential = Nothing; hint = hint; count = count }))
 
-  abbrev pub allocContig : ℕ → ℕ → ℕ → Sent
-  allocContig reference hint count = send port (AllocContig (record { reference = reference; credential = Nothing; hint = hint; count = count }))
+  abbrev pub alloc_contig : ℕ → ℕ → ℕ → Sent
+  alloc_contig reference hint count = send port (AllocContig (record { reference = reference; credential = Nothing; hint = hint; count = count }))
 
   abbrev pub create : ℕ → Credential → ℕ → Credential → Sent
   create a credential b second = send port (Create (record { source = a; credential = credential; destination = b; second = second }))
@@ -74,11 +74,11 @@ module _ (port : Port) where
   abbrev pub delete : ℕ → ℕ → Sent
   delete a b = send port (Delete (record { source = a; credential = Nothing; destination = b }))
 
-  abbrev pub deleteTree : ℕ → ℕ → Sent
-  deleteTree a b = send port (DeleteTree (record { source = a; credential = Nothing; destination = b }))
+  abbrev pub delete_tree : ℕ → ℕ → Sent
+  delete_tree a b = send port (DeleteTree (record { source = a; credential = Nothing; destination = b }))
 
   abbrev pub key : Mode → ℕ → Credential → NewKey → Sent
-  key mode b credential new = send port (keyCall mode (record { block = b; credential = credential; key = new }))
+  key mode b credential new = send port (key_call mode (record { block = b; credential = credential; key = new }))
 
 abbrev pub free : Sent
 free = send Host Free
@@ -106,8 +106,8 @@ calls yields expected = record { calls = calls; expected = expected }
 abbrev zeros8 : List ℕ
 zeros8 = zeros 8
 
-unfoldable pub trialTable : List Trial
-trialTable =
+unfoldable pub trial_table : List Trial
+trial_table =
     -- T1
     (free ∷ [] yields (0 ∷ 15 ∷ []) ∷ [])
     -- T2
@@ -195,13 +195,13 @@ trialTable =
     ∷ []
     yields (0 ∷ 1 ∷ []) ∷ (0 ∷ []) ∷ (5 ∷ []) ∷ (0 ∷ []) ∷ [])
     -- 2026-01: nearest is measured at the run's first block
-    ∷ (allocContig Service 0 8 3 ∷ [] yields (0 ∷ 8 ∷ 9 ∷ 10 ∷ []) ∷ [])
-    ∷ (allocContig Service 0 15 2 ∷ [] yields (0 ∷ 14 ∷ 15 ∷ []) ∷ [])
+    ∷ (alloc_contig Service 0 8 3 ∷ [] yields (0 ∷ 8 ∷ 9 ∷ 10 ∷ []) ∷ [])
+    ∷ (alloc_contig Service 0 15 2 ∷ [] yields (0 ∷ 14 ∷ 15 ∷ []) ∷ [])
     -- 2026-01: with block 8 taken 14 are free, of which 7 adjoin at most; without a hint the lowest run
     ∷ (alloc Service 0 8 1
-    ∷ allocContig Service 0 65535 15
-    ∷ allocContig Service 0 65535 8
-    ∷ allocContig Service 0 65535 7
+    ∷ alloc_contig Service 0 65535 15
+    ∷ alloc_contig Service 0 65535 8
+    ∷ alloc_contig Service 0 65535 7
     ∷ []
     yields (0 ∷ 8 ∷ []) ∷ (10 ∷ []) ∷ (14 ∷ []) ∷ (0 ∷ 1 ∷ 2 ∷ 3 ∷ 4 ∷ 5 ∷ 6 ∷ 7 ∷ []) ∷ [])
     -- 2026-02: a new read key needs the write key, the old read key is not enough; the write key stays
@@ -270,7 +270,7 @@ trialTable =
     ∷ alloc Service 1 65535 1
     ∷ alloc Service 2 65535 1
     ∷ delete Service 0 1
-    ∷ deleteTree Service 0 1
+    ∷ delete_tree Service 0 1
     ∷ free
     ∷ []
     yields (0 ∷ 1 ∷ []) ∷ (0 ∷ 2 ∷ []) ∷ (0 ∷ 3 ∷ []) ∷ (9 ∷ []) ∷ (0 ∷ 3 ∷ []) ∷ (0 ∷ 12 ∷ []) ∷ [])
@@ -279,8 +279,8 @@ trialTable =
     ∷ alloc Service 1 65535 1
     ∷ alloc Service 3 65535 1
     ∷ create Service 2 Nothing 3 Nothing
-    ∷ deleteTree Service 0 1
-    ∷ deleteTree Service 2 3
+    ∷ delete_tree Service 0 1
+    ∷ delete_tree Service 2 3
     ∷ free
     ∷ []
     yields (0 ∷ 1 ∷ 2 ∷ []) ∷ (0 ∷ 3 ∷ []) ∷ (0 ∷ 4 ∷ []) ∷ (0 ∷ []) ∷ (0 ∷ 1 ∷ []) ∷ (0 ∷ 2 ∷ []) ∷ (0 ∷ 11 ∷ []) ∷ [])
@@ -288,9 +288,9 @@ trialTable =
     ∷ (alloc Service 0 65535 1
     ∷ alloc Service 1 65535 1
     ∷ create Service 2 Nothing 1 Nothing
-    ∷ deleteTree Service 0 1
+    ∷ delete_tree Service 0 1
     ∷ free
-    ∷ deleteTree Service 1 2
+    ∷ delete_tree Service 1 2
     ∷ free
     ∷ []
     yields (0 ∷ 1 ∷ []) ∷ (0 ∷ 2 ∷ []) ∷ (0 ∷ []) ∷ (0 ∷ 0 ∷ []) ∷ (0 ∷ 13 ∷ []) ∷ (0 ∷ 2 ∷ []) ∷ (0 ∷ 13 ∷ []) ∷ [])
@@ -300,26 +300,26 @@ trialTable =
     ∷ alloc Service 2 65535 1
     ∷ key Service Reading 3 Nothing (Present 1 2)
     ∷ key Service Writing 3 Nothing (Present 3 4)
-    ∷ deleteTree Service 0 1
+    ∷ delete_tree Service 0 1
     ∷ key Service Writing 3 Nothing Absent
-    ∷ deleteTree Service 0 1
+    ∷ delete_tree Service 0 1
     ∷ []
     yields (0 ∷ 1 ∷ []) ∷ (0 ∷ 2 ∷ []) ∷ (0 ∷ 3 ∷ []) ∷ (0 ∷ []) ∷ (0 ∷ []) ∷ (15 ∷ []) ∷ (0 ∷ []) ∷ (0 ∷ 3 ∷ []) ∷ [])
     -- 2026-07: a pointer made twice goes wholly, though its destination stays; then it is not there: 8
     ∷ (alloc Service 0 65535 2
     ∷ create Service 0 Nothing 1 Nothing
     ∷ create Service 2 Nothing 1 Nothing
-    ∷ deleteTree Service 0 1
-    ∷ deleteTree Service 0 1
+    ∷ delete_tree Service 0 1
+    ∷ delete_tree Service 0 1
     ∷ delete Service 2 1
     ∷ []
     yields (0 ∷ 1 ∷ 2 ∷ []) ∷ (0 ∷ []) ∷ (0 ∷ []) ∷ (0 ∷ 0 ∷ []) ∷ (8 ∷ []) ∷ (0 ∷ 1 ∷ []) ∷ [])
     -- 2026-07: a root as the source refuses 6 at the host port, a source that is not opened 5; a destination that is not allocated refuses 3
     ∷ (alloc Service 0 65535 1
     ∷ alloc Service 1 65535 1
-    ∷ deleteTree Host 0 1
-    ∷ deleteTree Host 1 2
-    ∷ deleteTree Service 1 3
+    ∷ delete_tree Host 0 1
+    ∷ delete_tree Host 1 2
+    ∷ delete_tree Service 1 3
     ∷ []
     yields (0 ∷ 1 ∷ []) ∷ (0 ∷ 2 ∷ []) ∷ (6 ∷ []) ∷ (5 ∷ []) ∷ (3 ∷ []) ∷ [])
     -- 2026-08: of a fresh card nothing is asked for a day, for its root is not counted; two blocks for 21,600 seconds at 1,000 are half a cent, which is 1
@@ -374,9 +374,9 @@ trialTable =
     ∷ sweep 3
     ∷ alloc Service 0 6 1
     ∷ delete Service 0 6
-    ∷ allocContig Service 0 65535 2
+    ∷ alloc_contig Service 0 65535 2
     ∷ sweep 1
-    ∷ allocContig Service 0 65535 2
+    ∷ alloc_contig Service 0 65535 2
     ∷ []
     yields (0 ∷ 1 ∷ 2 ∷ 3 ∷ 4 ∷ 5 ∷ 6 ∷ 7 ∷ 8 ∷ 9 ∷ 10 ∷ 11 ∷ 12 ∷ 13 ∷ 14 ∷ 15 ∷ [])
     ∷ (0 ∷ 1 ∷ [])
@@ -393,12 +393,12 @@ trialTable =
     ∷ (alloc Service 0 65535 1
     ∷ alloc Service 1 65535 3
     ∷ sweep 5
-    ∷ deleteTree Service 0 1
+    ∷ delete_tree Service 0 1
     ∷ sweep 0
     ∷ free
     ∷ sweep 3
-    ∷ allocContig Service 0 65535 3
-    ∷ deleteTree Service 0 1
+    ∷ alloc_contig Service 0 65535 3
+    ∷ delete_tree Service 0 1
     ∷ sweep 4294967295
     ∷ free
     ∷ []
@@ -417,13 +417,13 @@ trialTable =
     ∷ []
 
 -- What the rules report of a row's calls.
-unfoldable pub trialReports : Trial → List (List ℕ)
-trialReports t = reports playerCard t.calls
+unfoldable pub trial_reports : Trial → List (List ℕ)
+trial_reports t = reports player_card t.calls
 
 -- The player's card with one pointer, from 0 to 1, made so often.
-abbrev pub madeOften : ℕ → Card
-madeOften times =
-    card (withUsed (freshInfo 16 1 512) 1)
+abbrev pub made_often : ℕ → Card
+made_often times =
+    card (with_used (fresh_info 16 1 512) 1)
     (1 ∷ 1 ∷ zeros 14)
     (zeros 64)
     (0 ∷ times ∷ zeros 14)
@@ -435,9 +435,9 @@ madeOften times =
 -- ---- 2026-08, RENT
 
 -- A fresh player card at a time, with a total.
-abbrev pub rentedFor : ℕ → ℕ → Card
-rentedFor time total =
-    card (withTime (freshInfo 16 1 512) time total)
+abbrev pub rented_for : ℕ → ℕ → Card
+rented_for time total =
+    card (with_time (fresh_info 16 1 512) time total)
     (1 ∷ zeros 15)
     (zeros 64)
     (zeros 16)
@@ -451,8 +451,8 @@ infix 10 ◌for◌at◌asks◌
 pub data RentTrial : Type 0 where
   ◌for◌at◌asks◌ : ℕ → ℕ → ℕ → List ℕ → RentTrial
 
-unfoldable pub rentTable : List RentTrial
-rentTable =
+unfoldable pub rent_table : List RentTrial
+rent_table =
     -- "A total of 43,200 at 1,000 is half a cent and gives 1; 43,199 gives 0."
     (86400 for 43200 at 1000 asks (0 ∷ 1 ∷ []))
     ∷ (86400 for 43199 at 1000 asks (0 ∷ 0 ∷ []))
@@ -470,18 +470,18 @@ rentTable =
     ∷ (0 for 1 at 2000 asks (2 ∷ []))
     ∷ []
 
-unfoldable pub rentReports : RentTrial → List (List ℕ)
-rentReports (time for total at price asks expected) = reports (rentedFor time total) (rent price ∷ [])
+unfoldable pub rent_reports : RentTrial → List (List ℕ)
+rent_reports (time for total at price asks expected) = reports (rented_for time total) (rent price ∷ [])
 
-abbrev pub rentExpected : RentTrial → List (List ℕ)
-rentExpected (time for total at price asks expected) = expected ∷ []
+abbrev pub rent_expected : RentTrial → List (List ℕ)
+rent_expected (time for total at price asks expected) = expected ∷ []
 
 -- ---- 2026-09, AUDIT and waiting blocks
 
 -- A fresh player card but for the flags of its root and of block 1, a word of block 1's read key, its count and the end of its read window.
 abbrev pub damaged : ℕ → ℕ → ℕ → ℕ → ℕ → Card
 damaged root flags word count end =
-    card (freshInfo 16 1 512)
+    card (fresh_info 16 1 512)
     (root ∷ flags ∷ zeros 14)
     (zeros 4 ++ (word ∷ zeros 59))
     (0 ∷ count ∷ zeros 14)
@@ -494,8 +494,8 @@ damaged root flags word count end =
 pub data WaitingTrial : Type 0 where
   given : ℕ → ℕ → ℕ → ℕ → ℕ → List ℕ → WaitingTrial
 
-unfoldable pub waitingTable : List WaitingTrial
-waitingTable =
+unfoldable pub waiting_table : List WaitingTrial
+waiting_table =
     given 1 0 0 0 0 (0 ∷ 15 ∷ [])
     -- "AUDIT allows flag 8 with keys, count and windows 0"
     ∷ given 1 8 0 0 0 (0 ∷ 14 ∷ [])
@@ -511,8 +511,8 @@ waitingTable =
     ∷ given 8 0 0 0 0 (2 ∷ [])
     ∷ []
 
-unfoldable pub waitingReports : WaitingTrial → List (List ℕ)
-waitingReports (given root flags word count end expected) = reports (damaged root flags word count end) (free ∷ [])
+unfoldable pub waiting_reports : WaitingTrial → List (List ℕ)
+waiting_reports (given root flags word count end expected) = reports (damaged root flags word count end) (free ∷ [])
 
-abbrev pub waitingExpected : WaitingTrial → List (List ℕ)
-waitingExpected (given root flags word count end expected) = expected ∷ []
+abbrev pub waiting_expected : WaitingTrial → List (List ℕ)
+waiting_expected (given root flags word count end expected) = expected ∷ []

@@ -11,8 +11,8 @@ use Rattle.lines.specs.Written.{Written}
 use Rattle.cardplay.specs.InputBuffer.{GrownIs}
 
 -- What is read stands behind the filled part.
-pub grown-is : (xs ys zs : List ℕ) (filled n : ℕ) → filled ≤ length xs → n ≤ length ys → GrownIs xs filled (take filled xs ++ (ys ++ zs)) (filled + n)
-grown-is xs ys zs filled n h k =
+pub grown_is : (xs ys zs : List ℕ) (filled n : ℕ) → filled ≤ length xs → n ≤ length ys → GrownIs xs filled (take filled xs ++ (ys ++ zs)) (filled + n)
+grown_is xs ys zs filled n h k =
     let front : length (take filled xs) ≡ filled = length-take-le filled xs h in
     record {
       keeps = take_at (take filled xs) (ys ++ zs) filled front;
@@ -21,9 +21,9 @@ grown-is xs ys zs filled n h k =
     }
 
 -- What is written lies within the buffer.
-pub written-within : {before ys after : List ℕ} {behind : ℕ} → Written before 0 ys after behind → (behind ≡ length ys) × (behind ≤ length after)
+pub written_within : {before ys after : List ℕ} {behind : ℕ} → Written before 0 ys after behind → (behind ≡ length ys) × (behind ≤ length after)
 unfolding overwrite
-written-within {before} {ys} {after} {behind} w =
+written_within {before} {ys} {after} {behind} w =
     (omega (arith, w.ends), omega (arith, w.ends, ap length w.holds, length-append ys (drop (0 + length ys) before)))
 
 -- ---- moving bytes to the front
@@ -38,24 +38,24 @@ module _ (before : List ℕ) (from filled : ℕ) where
   moved_none h = record { most = omega arith; holds = refl }
 
   module _ {i : ℕ} {now : List ℕ} (fits : filled ≤ length before) (m : Moved before from filled i now) where
-    abbrev bytesFrom : List ℕ
-    bytesFrom = drop from before
+    abbrev bytes_from : List ℕ
+    bytes_from = drop from before
 
-    front : length (take i bytesFrom) ≡ i
-    front = length-take-le i bytesFrom (omega (arith, m.most, length-drop from before))
+    front : length (take i bytes_from) ≡ i
+    front = length-take-le i bytes_from (omega (arith, m.most, length-drop from before))
 
     pub moved_length : length now ≡ length before
-    moved_length = omega (arith, ap length m.holds, length-append (take i bytesFrom) (drop i before), front, m.most, length-drop i before)
+    moved_length = omega (arith, ap length m.holds, length-append (take i bytes_from) (drop i before), front, m.most, length-drop i before)
 
     module _ (h : from + i < filled) where
       -- The bytes that are still to be moved stand where they did.
-      unmoved : get_or now (from + i) 0 ≡ get_or bytesFrom i 0
+      unmoved : get_or now (from + i) 0 ≡ get_or bytes_from i 0
       unmoved =
-          let place : from + i ≡ length (take i bytesFrom) + from = omega (arith, front) in
+          let place : from + i ≡ length (take i bytes_from) + from = omega (arith, front) in
           let swapped : i + from ≡ from + i = omega arith in
           ap (λ (xs : List ℕ). get_or xs (from + i) 0) m.holds
-          ∙ ap (λ (n : ℕ). get_or (take i bytesFrom ++ drop i before) n 0) place
-          ∙ get_or-append-add (take i bytesFrom) (drop i before) from 0
+          ∙ ap (λ (n : ℕ). get_or (take i bytes_from ++ drop i before) n 0) place
+          ∙ get_or-append-add (take i bytes_from) (drop i before) from 0
           ∙ get_or-drop i before from 0
           ∙ ap (λ (n : ℕ). get_or before n 0) swapped
           ∙ sym (get_or-drop from before i 0)
@@ -64,19 +64,19 @@ module _ (before : List ℕ) (from filled : ℕ) where
       moved_more = record {
         most = omega arith;
         holds =
-            ap₂ (λ (xs : List ℕ) (x : ℕ). set xs i x) (m.holds ∙ ap (λ (ys : List ℕ). take i bytesFrom ++ ys) (drop-cons before i 0 (omega arith))) unmoved
-            ∙ set_at (take i bytesFrom) (get_or before i 0) (drop (suc i) before) (get_or bytesFrom i 0) i front
-            ∙ sym (append_snoc (take i bytesFrom) (get_or bytesFrom i 0) (drop (suc i) before))
-            ∙ ap (λ (ys : List ℕ). ys ++ drop (suc i) before) (sym (take-suc bytesFrom i 0 (omega (arith, length-drop from before))))
-            ∙ ap (λ (n : ℕ). take n bytesFrom ++ drop n before) (sym (add-one i));
+            ap₂ (λ (xs : List ℕ) (x : ℕ). set xs i x) (m.holds ∙ ap (λ (ys : List ℕ). take i bytes_from ++ ys) (drop-cons before i 0 (omega arith))) unmoved
+            ∙ set_at (take i bytes_from) (get_or before i 0) (drop (suc i) before) (get_or bytes_from i 0) i front
+            ∙ sym (append_snoc (take i bytes_from) (get_or bytes_from i 0) (drop (suc i) before))
+            ∙ ap (λ (ys : List ℕ). ys ++ drop (suc i) before) (sym (take-suc bytes_from i 0 (omega (arith, length-drop from before))))
+            ∙ ap (λ (n : ℕ). take n bytes_from ++ drop n before) (sym (add-one i));
       }
 
-    pub moved_all : filled - from ≤ i → Written before 0 (take (filled - from) bytesFrom) now i
+    pub moved_all : filled - from ≤ i → Written before 0 (take (filled - from) bytes_from) now i
     unfolding overwrite
     moved_all h =
         let whole : i ≡ filled - from = omega (arith, m.most) in
-        let place : i ≡ 0 + length (take i bytesFrom) = omega (arith, front) in
-        subst (λ (n : ℕ). Written before 0 (take n bytesFrom) now i) whole (record {
-          holds = m.holds ∙ ap (λ (n : ℕ). take i bytesFrom ++ drop n before) place;
+        let place : i ≡ 0 + length (take i bytes_from) = omega (arith, front) in
+        subst (λ (n : ℕ). Written before 0 (take n bytes_from) now i) whole (record {
+          holds = m.holds ∙ ap (λ (n : ℕ). take i bytes_from ++ drop n before) place;
           ends = place;
         })

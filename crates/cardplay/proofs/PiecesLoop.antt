@@ -9,22 +9,22 @@ use lib.ListN.{length, take, length-append}
 use lib.Seq.{length-take-le}
 use borrow.Author.Tests.{ltb-true, ltb-false}
 use Rattle.card.specs.Card.{Card, card}
-use Rattle.laws.specs.ListsLaws.{and_left, and_right, or-false-left, or-false-right}
+use Rattle.laws.specs.ListsLaws.{and_left, and_right, or_false_left, or_false_right}
 use Rattle.card.specs.declared.Info.{Info}
 use Rattle.input.specs.Play.{Play, play}
 use Rattle.input.specs.declared.Stop.{Stop}
 use Rattle.input.proofs.SameTables.{SameTables}
-use Rattle.cardplay.specs.Progress.{isFull, ProgressIs}
+use Rattle.cardplay.specs.Progress.{is_full, ProgressIs}
 use Rattle.cardplay.specs.Pieces.{Pieces}
-use Rattle.cardplay.proofs.PiecesLaws.{pieces-read, pieces-played}
-use Rattle.cardplay.proofs.PlayLonger.{PlaysNothing, play-halted}
+use Rattle.cardplay.proofs.PiecesLaws.{pieces_read, pieces_played}
+use Rattle.cardplay.proofs.PlayLonger.{PlaysNothing, play_halted}
 
 -- The loop's invariant: tables and buffers keep their lengths, and the play has come so far.
 pub record PiecesLoop (c₀ : Card) (flags₀ keys₀ counts₀ pointers₀ multiplicities₀ windows₀ contents₀ flags keys counts pointers multiplicities windows contents buffer output : List ℕ)
     (stop : Stop) (info : Info) (records filled : ℕ) (wrote on : Bool) : Type 0 where
   pub tables : SameTables flags₀ keys₀ counts₀ pointers₀ multiplicities₀ windows₀ contents₀ flags keys counts pointers multiplicities windows contents
-  pub sizeBuffer : length buffer ≡ 65536
-  pub sizeOutput : length output ≡ 65536
+  pub size_buffer : length buffer ≡ 65536
+  pub size_output : length output ≡ 65536
   pub within : filled ≤ length buffer
   pub pieces : Pieces c₀ records (card info flags keys counts pointers multiplicities windows contents) (take filled buffer)
   pub halts : on ≡ false → wrote ≡ true → PlaysNothing stop records (card info flags keys counts pointers multiplicities windows contents) (take filled buffer)
@@ -41,17 +41,17 @@ module _ (n : ℕ) (c : Card) (xs : List ℕ) (small : ℕ) {stop : Stop} {recor
   piece = play n c xs small
 
   pub pieces_more : {c₀ : Card} → Pieces c₀ n c xs → Pieces c₀ records after (take filled buffer)
-  pieces_more s = rw (t.counts, t.leaves, t.rests) (pieces-read (pieces-played s small) t.more)
+  pieces_more s = rw (t.counts, t.leaves, t.rests) (pieces_read (pieces_played s small) t.more)
 
   -- Where the play does not go on, nothing more has been read.
-  pub pieces-halt : on ≡ false → wrote ≡ true → PlaysNothing stop records after (take filled buffer)
-  pieces-halt o w =
-      let idle : (isFull stop || ltb (length piece.left) filled) ≡ false = sym (ap (λ (b : Bool). b && (isFull stop || ltb (length piece.left) filled)) w) ∙ sym t.goes ∙ o in
-      let unread : ltb (length piece.left) filled ≡ false = or-false-right (isFull stop) (ltb (length piece.left) filled) idle in
+  pub pieces_halt : on ≡ false → wrote ≡ true → PlaysNothing stop records after (take filled buffer)
+  pieces_halt o w =
+      let idle : (is_full stop || ltb (length piece.left) filled) ≡ false = sym (ap (λ (b : Bool). b && (is_full stop || ltb (length piece.left) filled)) w) ∙ sym t.goes ∙ o in
+      let unread : ltb (length piece.left) filled ≡ false = or_false_right (is_full stop) (ltb (length piece.left) filled) idle in
       let long : length piece.left + length t.more ≡ length (take filled buffer) = sym (ap length t.rests ∙ length-append piece.left t.more) in
       let nothing : t.more ≡ [] = no_bytes t.more (omega (arith, long, length-take-le filled buffer t.within, ltb-false (length piece.left) filled unread)) in
       let same : take filled buffer ≡ piece.left = t.rests ∙ ap (λ (ys : List ℕ). piece.left ++ ys) nothing ∙ append-nil piece.left in
-      rw (t.counts, t.leaves, same, t.stops) (play-halted n c xs small (ap isFull (sym t.stops) ∙ or-false-left (isFull stop) (ltb (length piece.left) filled) idle))
+      rw (t.counts, t.leaves, same, t.stops) (play_halted n c xs small (ap is_full (sym t.stops) ∙ or_false_left (is_full stop) (ltb (length piece.left) filled) idle))
 
 -- ---- the loop's test
 

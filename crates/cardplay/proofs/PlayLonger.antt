@@ -9,133 +9,133 @@ use lib.Dec.{ltb}
 use lib.ListN.{length, length-append}
 use Rattle.card.specs.Card.{Card}
 use Rattle.decoding.specs.Decode.{Next, ended, refused, sent, decode}
-use Rattle.lines.specs.Lines.{lineRoom}
-use Rattle.input.specs.Play.{playerPort, Turn, turn_of, turn, Play, outputBefore, stopped, goOn, playWithin, play}
-use Rattle.input.specs.PlayLaws.{tried, play-went, play-stopped, fault-stops}
+use Rattle.lines.specs.Lines.{line_room}
+use Rattle.input.specs.Play.{player_port, Turn, turn_of, turn, Play, output_before, stopped, go_on, play_within, play}
+use Rattle.input.specs.PlayLaws.{tried, play_went, play_stopped, fault_stops}
 use Rattle.input.specs.declared.Stop.{Stop}
 use Rattle.input.specs.declared.Stop.TheVariants.{Went, Ended, Short, Refused, Full}
-use Rattle.input.specs.Played.{isWent}
-use Rattle.input.specs.PlayedLaws.{not-went}
-use Rattle.cardplay.specs.Progress.{isFull}
-use Rattle.cardplay.proofs.DecodeLonger.{decode-longer}
+use Rattle.input.specs.Played.{is_went}
+use Rattle.input.specs.PlayedLaws.{not_went}
+use Rattle.cardplay.specs.Progress.{is_full}
+use Rattle.cardplay.proofs.DecodeLonger.{decode_longer}
 
 -- ---- one turn
 
-turn-longer : (ordinal : ℕ) (c : Card) (xs ys : List ℕ) (n : Next) → decode playerPort xs ≡ n → (turn_of ordinal c xs n).stop ≡ Went
+turn_longer : (ordinal : ℕ) (c : Card) (xs ys : List ℕ) (n : Next) → decode player_port xs ≡ n → (turn_of ordinal c xs n).stop ≡ Went
     → turn ordinal c (xs ++ ys) ≡ record { stop = Went; output = (turn_of ordinal c xs n).output; after = (turn_of ordinal c xs n).after; left = (turn_of ordinal c xs n).left ++ ys }
 unfolding turn turn_of decode
-turn-longer ordinal c xs ys ended d e = let z : ◌≡◌ {A = ℕ} 0 1 = cc in absurd (omega arith)
-turn-longer ordinal c xs ys refused d e = absurd (fault-stops playerPort xs e)
-turn-longer ordinal c [] ys (sent port call payload rest) d e = let z : ◌≡◌ {A = ℕ} 0 1 = cc in absurd (omega arith)
-turn-longer ordinal c (kind ∷ xs) ys (sent port call payload rest) d e = ap (turn_of ordinal c (kind ∷ (xs ++ ys))) (decode-longer playerPort (kind ∷ xs) ys d)
+turn_longer ordinal c xs ys ended d e = let z : ◌≡◌ {A = ℕ} 0 1 = cc in absurd (omega arith)
+turn_longer ordinal c xs ys refused d e = absurd (fault_stops player_port xs e)
+turn_longer ordinal c [] ys (sent port call payload rest) d e = let z : ◌≡◌ {A = ℕ} 0 1 = cc in absurd (omega arith)
+turn_longer ordinal c (kind ∷ xs) ys (sent port call payload rest) d e = ap (turn_of ordinal c (kind ∷ (xs ++ ys))) (decode_longer player_port (kind ∷ xs) ys d)
 
 -- What a turn that did not go leaves as it was.
 abbrev Idle : Turn → Card → List ℕ → Type 0
 Idle t c xs = (t.stop ≡ Went → ⊥) → (t.after ≡ c) × (t.left ≡ xs)
 
-turn-idle : (ordinal : ℕ) (c : Card) (xs : List ℕ) (n : Next) → Idle (turn_of ordinal c xs n) c xs
+turn_idle : (ordinal : ℕ) (c : Card) (xs : List ℕ) (n : Next) → Idle (turn_of ordinal c xs n) c xs
 unfolding turn_of
-turn-idle ordinal c xs ended h = (refl, refl)
-turn-idle ordinal c xs refused h = (refl, refl)
-turn-idle ordinal c xs (sent port call payload rest) h = absurd (h refl)
+turn_idle ordinal c xs ended h = (refl, refl)
+turn_idle ordinal c xs refused h = (refl, refl)
+turn_idle ordinal c xs (sent port call payload rest) h = absurd (h refl)
 
-tried-idle : (full : Bool) (records : ℕ) (c : Card) (xs : List ℕ) → Idle (tried full records c xs) c xs
+tried_idle : (full : Bool) (records : ℕ) (c : Card) (xs : List ℕ) → Idle (tried full records c xs) c xs
 unfolding turn
-tried-idle true records c xs h = (refl, refl)
-tried-idle false records c xs h = turn-idle (records + 1) c xs (decode playerPort xs) h
+tried_idle true records c xs h = (refl, refl)
+tried_idle false records c xs h = turn_idle (records + 1) c xs (decode player_port xs) h
 
 -- A turn that goes does so whatever follows.
-tried-went : (full : Bool) (records : ℕ) (c : Card) (xs ys : List ℕ) (big : ℕ) → lineRoom ≤ big → let t : Turn = tried full records c xs in t.stop ≡ Went
-    → play records c (xs ++ ys) big ≡ outputBefore t.output (play (records + 1) t.after (t.left ++ ys) (big - length t.output))
+tried_went : (full : Bool) (records : ℕ) (c : Card) (xs ys : List ℕ) (big : ℕ) → line_room ≤ big → let t : Turn = tried full records c xs in t.stop ≡ Went
+    → play records c (xs ++ ys) big ≡ output_before t.output (play (records + 1) t.after (t.left ++ ys) (big - length t.output))
 unfolding turn
-tried-went true records c xs ys big h e = let z : ◌≡◌ {A = ℕ} 0 1 = cc in absurd (omega arith)
-tried-went false records c xs ys big h e =
-    let longer = turn-longer (records + 1) c xs ys (decode playerPort xs) refl e in
-    play-went records c (xs ++ ys) big h (ap (λ (t : Turn). t.stop) longer)
-    ∙ ap (λ (t : Turn). outputBefore t.output (play (records + 1) t.after t.left (big - length t.output))) longer
+tried_went true records c xs ys big h e = let z : ◌≡◌ {A = ℕ} 0 1 = cc in absurd (omega arith)
+tried_went false records c xs ys big h e =
+    let longer = turn_longer (records + 1) c xs ys (decode player_port xs) refl e in
+    play_went records c (xs ++ ys) big h (ap (λ (t : Turn). t.stop) longer)
+    ∙ ap (λ (t : Turn). output_before t.output (play (records + 1) t.after t.left (big - length t.output))) longer
 
 -- ---- a play of the input's first part
 
 -- However far the play of the first part came, that of the whole goes on from there.
 abbrev Longer : Play → ℕ → Card → List ℕ → Type 0
-Longer p records c xs = (ys : List ℕ) (big : ℕ) → length p.output + lineRoom ≤ big → play records c (xs ++ ys) big ≡ outputBefore p.output (play p.records p.after (p.left ++ ys) (big - length p.output))
+Longer p records c xs = (ys : List ℕ) (big : ℕ) → length p.output + line_room ≤ big → play records c (xs ++ ys) big ≡ output_before p.output (play p.records p.after (p.left ++ ys) (big - length p.output))
 
-longer-none : (stop : Stop) (records : ℕ) (c : Card) (xs : List ℕ) → Longer (stopped stop records c xs) records c xs
-longer-none stop records c xs ys big h = ap (play records c (xs ++ ys)) (sym (sub-zero big))
+longer_none : (stop : Stop) (records : ℕ) (c : Card) (xs : List ℕ) → Longer (stopped stop records c xs) records c xs
+longer_none stop records c xs ys big h = ap (play records c (xs ++ ys)) (sym (sub-zero big))
 
 -- Nothing of what is left is played, for this reason.
 abbrev pub PlaysNothing : Stop → ℕ → Card → List ℕ → Type 0
-PlaysNothing stop records c left = (room : ℕ) → lineRoom ≤ room → play records c left room ≡ stopped stop records c left
+PlaysNothing stop records c left = (room : ℕ) → line_room ≤ room → play records c left room ≡ stopped stop records c left
 
 abbrev PlaysNothingAfter : Play → Type 0
-PlaysNothingAfter p = isFull p.stop ≡ false → PlaysNothing p.stop p.records p.after p.left
+PlaysNothingAfter p = is_full p.stop ≡ false → PlaysNothing p.stop p.records p.after p.left
 
-output-append : (us vs : List ℕ) (p : Play) → outputBefore us (outputBefore vs p) ≡ outputBefore (us ++ vs) p
-output-append us vs p = ap (λ (ls : List ℕ). record { stop = p.stop; output = ls; records = p.records; after = p.after; left = p.left }) (sym (append_assoc us vs p.output))
+output_append : (us vs : List ℕ) (p : Play) → output_before us (output_before vs p) ≡ output_before (us ++ vs) p
+output_append us vs p = ap (λ (ls : List ℕ). record { stop = p.stop; output = ls; records = p.records; after = p.after; left = p.left }) (sym (append_assoc us vs p.output))
 
-pub output-output : (us vs : List ℕ) (big : ℕ) (records : ℕ) (c : Card) (xs : List ℕ)
-    → outputBefore us (outputBefore vs (play records c xs (big - length us - length vs))) ≡ outputBefore (us ++ vs) (play records c xs (big - length (us ++ vs)))
-output-output us vs big records c xs =
+pub output_output : (us vs : List ℕ) (big : ℕ) (records : ℕ) (c : Card) (xs : List ℕ)
+    → output_before us (output_before vs (play records c xs (big - length us - length vs))) ≡ output_before (us ++ vs) (play records c xs (big - length (us ++ vs)))
+output_output us vs big records c xs =
     let same : big - length us - length vs ≡ big - length (us ++ vs) = omega (arith, length-append us vs) in
-    subst (λ (n : ℕ). outputBefore us (outputBefore vs (play records c xs (big - length us - length vs))) ≡ outputBefore (us ++ vs) (play records c xs n)) same
-    (output-append us vs (play records c xs (big - length us - length vs)))
+    subst (λ (n : ℕ). output_before us (output_before vs (play records c xs (big - length us - length vs))) ≡ output_before (us ++ vs) (play records c xs n)) same
+    (output_append us vs (play records c xs (big - length us - length vs)))
 
 -- Where there was room for a line, the whole play stops there too.
-halted-here : (full : Bool) (records : ℕ) (c : Card) (xs : List ℕ) (stop : Stop) → (tried full records c xs).stop ≡ stop → isWent stop ≡ false → isFull stop ≡ false → PlaysNothing stop records c xs
-halted-here true records c xs stop e w f = absurd (true≢false (ap isFull e ∙ f))
-halted-here false records c xs stop e w f =
-    let idle = tried-idle false records c xs (λ q. not-went stop w (sym e ∙ q)) in
-    λ room h. play-stopped records c xs room h stop (not-went stop w) e idle.0 idle.1
+halted_here : (full : Bool) (records : ℕ) (c : Card) (xs : List ℕ) (stop : Stop) → (tried full records c xs).stop ≡ stop → is_went stop ≡ false → is_full stop ≡ false → PlaysNothing stop records c xs
+halted_here true records c xs stop e w f = absurd (true≢false (ap is_full e ∙ f))
+halted_here false records c xs stop e w f =
+    let idle = tried_idle false records c xs (λ q. not_went stop w (sym e ∙ q)) in
+    λ room h. play_stopped records c xs room h stop (not_went stop w) e idle.0 idle.1
 
 module _ (most records : ℕ) (c : Card) (xs : List ℕ) (small : ℕ) (full : Bool) where
   abbrev tries : Turn
   tries = tried full records c xs
 
   -- A turn that did not go: the play stops where it was.
-  stops : (stop : Stop) → tries.stop ≡ stop → isWent stop ≡ false → stopped stop records c xs ≡ stopped stop records tries.after tries.left
+  stops : (stop : Stop) → tries.stop ≡ stop → is_went stop ≡ false → stopped stop records c xs ≡ stopped stop records tries.after tries.left
   stops stop e n =
-      let idle = tried-idle full records c xs (λ w. not-went stop n (sym e ∙ w)) in
+      let idle = tried_idle full records c xs (λ w. not_went stop n (sym e ∙ w)) in
       ap₂ (λ (d : Card) (ys : List ℕ). stopped stop records d ys) (sym idle.0) (sym idle.1)
 
-  goOn-longer : (stop : Stop) → tries.stop ≡ stop → ((n : ℕ) (d : Card) (zs : List ℕ) (room : ℕ) → Longer (playWithin most n d zs room) n d zs)
-      → Longer (goOn stop tries records (playWithin most) small) records c xs
-  unfolding goOn
-  goOn-longer Went e ih ys big h =
-      let p : Play = playWithin most (records + 1) tries.after tries.left (small - length tries.output) in
+  go_on_longer : (stop : Stop) → tries.stop ≡ stop → ((n : ℕ) (d : Card) (zs : List ℕ) (room : ℕ) → Longer (play_within most n d zs room) n d zs)
+      → Longer (go_on stop tries records (play_within most) small) records c xs
+  unfolding go_on
+  go_on_longer Went e ih ys big h =
+      let p : Play = play_within most (records + 1) tries.after tries.left (small - length tries.output) in
       let long : length (tries.output ++ p.output) ≡ length tries.output + length p.output = length-append tries.output p.output in
-      tried-went full records c xs ys big (omega arith) e
-      ∙ ap (outputBefore tries.output) (ih (records + 1) tries.after tries.left (small - length tries.output) ys (big - length tries.output) (omega arith))
-      ∙ output-output tries.output p.output big p.records p.after (p.left ++ ys)
-  goOn-longer Ended e ih ys big h = subst (λ (p : Play). Longer p records c xs) (stops Ended e refl) (longer-none Ended records c xs) ys big h
-  goOn-longer Short e ih ys big h = subst (λ (p : Play). Longer p records c xs) (stops Short e refl) (longer-none Short records c xs) ys big h
-  goOn-longer Refused e ih ys big h = subst (λ (p : Play). Longer p records c xs) (stops Refused e refl) (longer-none Refused records c xs) ys big h
-  goOn-longer Full e ih ys big h = subst (λ (p : Play). Longer p records c xs) (stops Full e refl) (longer-none Full records c xs) ys big h
+      tried_went full records c xs ys big (omega arith) e
+      ∙ ap (output_before tries.output) (ih (records + 1) tries.after tries.left (small - length tries.output) ys (big - length tries.output) (omega arith))
+      ∙ output_output tries.output p.output big p.records p.after (p.left ++ ys)
+  go_on_longer Ended e ih ys big h = subst (λ (p : Play). Longer p records c xs) (stops Ended e refl) (longer_none Ended records c xs) ys big h
+  go_on_longer Short e ih ys big h = subst (λ (p : Play). Longer p records c xs) (stops Short e refl) (longer_none Short records c xs) ys big h
+  go_on_longer Refused e ih ys big h = subst (λ (p : Play). Longer p records c xs) (stops Refused e refl) (longer_none Refused records c xs) ys big h
+  go_on_longer Full e ih ys big h = subst (λ (p : Play). Longer p records c xs) (stops Full e refl) (longer_none Full records c xs) ys big h
 
-  goOn-halted : (stop : Stop) → tries.stop ≡ stop → ((n : ℕ) (d : Card) (zs : List ℕ) (room : ℕ) → PlaysNothingAfter (playWithin most n d zs room))
-      → PlaysNothingAfter (goOn stop tries records (playWithin most) small)
-  unfolding goOn
-  goOn-halted Went e ih f = ih (records + 1) tries.after tries.left (small - length tries.output) f
-  goOn-halted Ended e ih f = subst PlaysNothingAfter (stops Ended e refl) (λ g. halted-here full records c xs Ended e refl g) f
-  goOn-halted Short e ih f = subst PlaysNothingAfter (stops Short e refl) (λ g. halted-here full records c xs Short e refl g) f
-  goOn-halted Refused e ih f = subst PlaysNothingAfter (stops Refused e refl) (λ g. halted-here full records c xs Refused e refl g) f
-  goOn-halted Full e ih f = absurd (true≢false f)
+  go_on_halted : (stop : Stop) → tries.stop ≡ stop → ((n : ℕ) (d : Card) (zs : List ℕ) (room : ℕ) → PlaysNothingAfter (play_within most n d zs room))
+      → PlaysNothingAfter (go_on stop tries records (play_within most) small)
+  unfolding go_on
+  go_on_halted Went e ih f = ih (records + 1) tries.after tries.left (small - length tries.output) f
+  go_on_halted Ended e ih f = subst PlaysNothingAfter (stops Ended e refl) (λ g. halted_here full records c xs Ended e refl g) f
+  go_on_halted Short e ih f = subst PlaysNothingAfter (stops Short e refl) (λ g. halted_here full records c xs Short e refl g) f
+  go_on_halted Refused e ih f = subst PlaysNothingAfter (stops Refused e refl) (λ g. halted_here full records c xs Refused e refl g) f
+  go_on_halted Full e ih f = absurd (true≢false f)
 
-within-longer : (most records : ℕ) (c : Card) (xs : List ℕ) (small : ℕ) → Longer (playWithin most records c xs small) records c xs
-unfolding playWithin
-within-longer zero records c xs small = longer-none Full records c xs
-within-longer (suc most) records c xs small =
-    goOn-longer most records c xs small (ltb small lineRoom) (tried (ltb small lineRoom) records c xs).stop refl (within-longer most)
+within_longer : (most records : ℕ) (c : Card) (xs : List ℕ) (small : ℕ) → Longer (play_within most records c xs small) records c xs
+unfolding play_within
+within_longer zero records c xs small = longer_none Full records c xs
+within_longer (suc most) records c xs small =
+    go_on_longer most records c xs small (ltb small line_room) (tried (ltb small line_room) records c xs).stop refl (within_longer most)
 
-pub play-longer : (records : ℕ) (c : Card) (xs : List ℕ) (small : ℕ) → Longer (play records c xs small) records c xs
+pub play_longer : (records : ℕ) (c : Card) (xs : List ℕ) (small : ℕ) → Longer (play records c xs small) records c xs
 unfolding play
-play-longer records c xs small ys big h = within-longer (suc (length xs)) records c xs small ys big h
+play_longer records c xs small ys big h = within_longer (suc (length xs)) records c xs small ys big h
 
-within-halted : (most records : ℕ) (c : Card) (xs : List ℕ) (small : ℕ) → PlaysNothingAfter (playWithin most records c xs small)
-unfolding playWithin
-within-halted zero records c xs small f = absurd (true≢false f)
-within-halted (suc most) records c xs small f =
-    goOn-halted most records c xs small (ltb small lineRoom) (tried (ltb small lineRoom) records c xs).stop refl (within-halted most) f
+within_halted : (most records : ℕ) (c : Card) (xs : List ℕ) (small : ℕ) → PlaysNothingAfter (play_within most records c xs small)
+unfolding play_within
+within_halted zero records c xs small f = absurd (true≢false f)
+within_halted (suc most) records c xs small f =
+    go_on_halted most records c xs small (ltb small line_room) (tried (ltb small line_room) records c xs).stop refl (within_halted most) f
 
-pub play-halted : (records : ℕ) (c : Card) (xs : List ℕ) (small : ℕ) → PlaysNothingAfter (play records c xs small)
+pub play_halted : (records : ℕ) (c : Card) (xs : List ℕ) (small : ℕ) → PlaysNothingAfter (play records c xs small)
 unfolding play
-play-halted records c xs small f = within-halted (suc (length xs)) records c xs small f
+play_halted records c xs small f = within_halted (suc (length xs)) records c xs small f

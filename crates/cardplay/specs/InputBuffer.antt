@@ -2,8 +2,8 @@
 use Rattle.std.specs.Prelude.{ℕ, ◌≤◌, ◌≡◌, List, length, take}
 
 -- No record is longer.
-abbrev pub recordRoom : ℕ
-recordRoom = 536
+abbrev pub record_room : ℕ
+record_room = 536
 
 -- The filled part is kept and may have grown. What a system call has read no contract says.
 pub record GrownIs (before : List ℕ) (filled : ℕ) (after : List ℕ) (end : ℕ) : Type 0 where

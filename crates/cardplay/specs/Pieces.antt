@@ -2,8 +2,8 @@
 use Rattle.std.specs.Prelude.{ℕ, ◌+◌, ◌-◌, ◌≤◌, ◌≡◌, Bool, true, false, List, ◌++◌, length}
 use Rattle.card.specs.Card.{Card}
 use Rattle.card.specs.Lent.{Lent, at_exit}
-use Rattle.lines.specs.Lines.{lineRoom, lastLine}
-use Rattle.input.specs.Play.{outputBefore, play, endNumber, transcript}
+use Rattle.lines.specs.Lines.{line_room, last_line}
+use Rattle.input.specs.Play.{output_before, play, end_number, transcript}
 use Rattle.input.specs.declared.Stop.{Stop}
 use Rattle.cardplay.specs.declared.Progress.{Progress}
 
@@ -11,15 +11,15 @@ use Rattle.cardplay.specs.declared.Progress.{Progress}
 pub record Pieces (c₀ : Card) (records : ℕ) (c : Card) (left : List ℕ) : Type 0 where
   pub input : List ℕ
   pub output : List ℕ
-  pub total : (more : List ℕ) (room : ℕ) → length output + lineRoom ≤ room → play 0 c₀ (input ++ more) room ≡ outputBefore output (play records c (left ++ more) (room - length output))
+  pub total : (more : List ℕ) (room : ℕ) → length output + line_room ≤ room → play 0 c₀ (input ++ more) room ≡ output_before output (play records c (left ++ more) (room - length output))
 
 -- The whole play of some input, which is what a player writes of it but for the last line.
 pub record PlayedWhole (c₀ : Card) (stop : Stop) (records : ℕ) (c : Card) : Type 0 where
   pub input : List ℕ
   pub output : List ℕ
   pub left : List ℕ
-  pub plays : (room : ℕ) → length output + lineRoom ≤ room → play 0 c₀ input room ≡ record { stop = stop; output = output; records = records; after = c; left = left }
-  pub writes : (room : ℕ) → length output + lineRoom ≤ room → transcript c₀ input room ≡ output ++ lastLine records (endNumber stop)
+  pub plays : (room : ℕ) → length output + line_room ≤ room → play 0 c₀ input room ≡ record { stop = stop; output = output; records = records; after = c; left = left }
+  pub writes : (room : ℕ) → length output + line_room ≤ room → transcript c₀ input room ≡ output ++ last_line records (end_number stop)
 
 -- What the pieces come to. The play is whole once it does not go on and all lines could be written.
 pub record PlayedInPieces (c₀ : Card) (stop : Stop) (records : ℕ) (after : Card) (wrote on : Bool) : Type 0 where

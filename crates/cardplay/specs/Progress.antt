@@ -12,20 +12,20 @@ use Rattle.cardplay.specs.declared.Piece.{Piece}
 use Rattle.cardplay.specs.declared.Progress.{Progress}
 
 -- There was no room for another line.
-abbrev pub isFull : Stop → Bool
-isFull Went = false
-isFull Ended = false
-isFull Short = false
-isFull Refused = false
-isFull Full = true
+abbrev pub is_full : Stop → Bool
+is_full Went = false
+is_full Ended = false
+is_full Short = false
+is_full Refused = false
+is_full Full = true
 
 -- The input was at its end, or ended within a record.
-abbrev pub needsInput : Stop → Bool
-needsInput Went = false
-needsInput Ended = true
-needsInput Short = true
-needsInput Refused = false
-needsInput Full = false
+abbrev pub needs_input : Stop → Bool
+needs_input Went = false
+needs_input Ended = true
+needs_input Short = true
+needs_input Refused = false
+needs_input Full = false
 
 -- The play of a buffer's filled part is what was asked, and what it left stands at the buffer's front.
 pub record PieceIs (want : Play) (stop : Stop) (records : ℕ) (after : Card) (buffer : List ℕ) (filled : ℕ) (before to : List ℕ) (written : ℕ) : Type 0 where
@@ -48,21 +48,21 @@ pub record ProgressIs (want : Play) (stop : Stop) (records : ℕ) (after : Card)
   pub counts : records ≡ want.records
   pub leaves : after ≡ want.after
   pub rests : take filled buffer ≡ want.left ++ more
-  pub idle : (wrote && needsInput stop) ≡ false → more ≡ []
+  pub idle : (wrote && needs_input stop) ≡ false → more ≡ []
   pub within : filled ≤ length buffer
   pub writes : Written before 0 want.output to (length want.output)
-  pub goes : on ≡ (wrote && (isFull stop || ltb (length want.left) filled))
+  pub goes : on ≡ (wrote && (is_full stop || ltb (length want.left) filled))
 
 -- ---- on lent tables
 
 -- The play of a buffer's filled part, where so many records were played before.
-abbrev pub playFilled : ℕ → Info → Lent → Lent → Lent → Lent → Lent → Lent → Lent → Lent → ℕ → Lent → Play
-playFilled records info flags keys counts pointers multiplicities windows contents buffer filled output =
+abbrev pub play_filled : ℕ → Info → Lent → Lent → Lent → Lent → Lent → Lent → Lent → Lent → ℕ → Lent → Play
+play_filled records info flags keys counts pointers multiplicities windows contents buffer filled output =
     play records (at_entry info flags keys counts pointers multiplicities windows contents) (take filled buffer.entry.now) (length output.entry.now)
 
 abbrev pub PlaysPiece : ℕ → Info → Lent → Lent → Lent → Lent → Lent → Lent → Lent → Lent → ℕ → Lent → Piece → Type 0
 PlaysPiece records info flags keys counts pointers multiplicities windows contents buffer filled output r =
-    PieceIs (playFilled records info flags keys counts pointers multiplicities windows contents buffer filled output)
+    PieceIs (play_filled records info flags keys counts pointers multiplicities windows contents buffer filled output)
     r.stop
     r.records
     (at_exit r.info flags keys counts pointers multiplicities windows contents)
@@ -74,7 +74,7 @@ PlaysPiece records info flags keys counts pointers multiplicities windows conten
 
 abbrev pub Progresses : ℕ → Info → Lent → Lent → Lent → Lent → Lent → Lent → Lent → Lent → ℕ → Lent → Progress → Type 0
 Progresses records info flags keys counts pointers multiplicities windows contents buffer filled output r =
-    ProgressIs (playFilled records info flags keys counts pointers multiplicities windows contents buffer filled output)
+    ProgressIs (play_filled records info flags keys counts pointers multiplicities windows contents buffer filled output)
     r.stop
     r.records
     (at_exit r.info flags keys counts pointers multiplicities windows contents)

@@ -2,13 +2,13 @@
 // Both pass through buffers, so that no record takes a system call of its own.
 ghost use Rattle.std.specs.Prelude.{◌-◌, ◌≤◌, ◌<◌, true, ◌≡◌, length, take, drop};
 ghost use Rattle.card.specs.Lent.{lent, at_entry};
-ghost use Rattle.card.specs.Calls.{freshInfo};
-ghost use Rattle.card.specs.Trials.{blankCard, playerCard};
-ghost use Rattle.lines.specs.Lines.{lineRoom, lastLine};
+ghost use Rattle.card.specs.Calls.{fresh_info};
+ghost use Rattle.card.specs.Trials.{blank_card, player_card};
+ghost use Rattle.lines.specs.Lines.{line_room, last_line};
 ghost use Rattle.lines.specs.Written.{Written};
-ghost use Rattle.input.specs.Play.{endNumber};
-ghost use Rattle.cardplay.specs.InputBuffer.{recordRoom, GrownIs};
-ghost use Rattle.cardplay.specs.Progress.{isFull, needsInput, ReadIs, PlaysPiece, Progresses};
+ghost use Rattle.input.specs.Play.{end_number};
+ghost use Rattle.cardplay.specs.InputBuffer.{record_room, GrownIs};
+ghost use Rattle.cardplay.specs.Progress.{is_full, needs_input, ReadIs, PlaysPiece, Progresses};
 ghost use Rattle.cardplay.specs.Pieces.{PlaysInPieces};
 
 use card::Info;
@@ -97,7 +97,7 @@ fn play_some(
 
 // The play stopped for want of room for lines: there may be records left in the buffer.
 fn is_full(stop: Stop) -> bool
-    ensures { result ≡ isFull stop }
+    ensures { result ≡ is_full stop }
 {
     match stop {
         Stop::Full => true,
@@ -110,7 +110,7 @@ fn is_full(stop: Stop) -> bool
 
 // The play stopped for want of input.
 fn needs_input(stop: Stop) -> bool
-    ensures { result ≡ needsInput stop }
+    ensures { result ≡ needs_input stop }
 {
     match stop {
         Stop::Ended => true,
@@ -160,7 +160,7 @@ fn play_on(
 ) -> Progress
     requires fact_1 { records < 9223372036854775808 }
     requires fact_2 { filled ≤ length buffer.old }
-    requires fact_3 { recordRoom ≤ length buffer.old }
+    requires fact_3 { record_room ≤ length buffer.old }
     ensures { Progresses records info flags keys counts pointers multiplicities windows contents buffer filled output result }
 {
     let played = play_some(
@@ -251,8 +251,8 @@ fn play_fresh(
     windows: &mut [u64],
     contents: &mut [u8],
 ) -> Progress
-    requires { lent (freshInfo 16 1 512) flags keys counts pointers multiplicities windows contents ≡ blankCard }
-    ensures { PlaysInPieces playerCard flags keys counts pointers multiplicities windows contents result }
+    requires { lent (fresh_info 16 1 512) flags keys counts pointers multiplicities windows contents ≡ blank_card }
+    ensures { PlaysInPieces player_card flags keys counts pointers multiplicities windows contents result }
 {
     let formatted = format::format(
         tables::fresh(0, 0, 0),
@@ -282,7 +282,7 @@ fn play_fresh(
 
 // The number of the last line.
 fn end_number(stop: Stop) -> u64
-    ensures { result ≡ endNumber stop }
+    ensures { result ≡ end_number stop }
 {
     match stop {
         Stop::Ended => 0,
@@ -295,8 +295,8 @@ fn end_number(stop: Stop) -> u64
 
 // Puts the last line at a buffer's front. Returns how long it is.
 fn put_end(output: &mut [u8], records: u64, stop: Stop) -> usize
-    requires { lineRoom ≤ length output.old }
-    ensures { Written output.old 0 (lastLine records (endNumber stop)) output.new result }
+    requires { line_room ≤ length output.old }
+    ensures { Written output.old 0 (last_line records (end_number stop)) output.new result }
 {
     lines::put_last_line(output, 0, records, end_number(stop))
 }

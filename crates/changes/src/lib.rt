@@ -1,8 +1,8 @@
 // Changes of the tables that a pointer more or less and a freed block make.
 ghost use Rattle.std.specs.Prelude.{◌≡◌, ◌+◌, ◌*◌, ◌≤◌, ◌<◌, length, get_or};
 ghost use Rattle.card.specs.Pointers.{pointer};
-ghost use Rattle.card.specs.Plan.{clearKeys};
-ghost use Rattle.changes.specs.OnTables.{CanMakePointer, CanTakePointer, madeBy, takenBy, ChangesPointers, FreesBlock};
+ghost use Rattle.card.specs.Plan.{clear_keys};
+ghost use Rattle.changes.specs.OnTables.{CanMakePointer, CanTakePointer, made_by, taken_by, ChangesPointers, FreesBlock};
 
 use card::{Info, WAITING_FLAGS};
 
@@ -19,7 +19,7 @@ pub fn make_pointer(
     requires can_make_pointer { CanMakePointer pointers.old multiplicities.old info.used (pointer source destination) }
     requires destination_in_bounds { destination < length counts.old }
     requires destination_bound { get_or counts.old destination 0 < 4294967295 }
-    ensures { ChangesPointers (madeBy pointers.old info.used source destination) info counts pointers multiplicities result }
+    ensures { ChangesPointers (made_by pointers.old info.used source destination) info counts pointers multiplicities result }
 {
     let used = info.used;
     let to = destination as usize;
@@ -46,7 +46,7 @@ pub fn take_pointer(
     requires can_take_pointer { CanTakePointer pointers.old multiplicities.old info.used (pointer source destination) }
     requires destination_in_bounds { destination < length counts.old }
     requires bound { 1 ≤ get_or counts.old destination 0 }
-    ensures { ChangesPointers (takenBy pointers.old multiplicities.old info.used source destination) info counts pointers multiplicities result }
+    ensures { ChangesPointers (taken_by pointers.old multiplicities.old info.used source destination) info counts pointers multiplicities result }
 {
     let used = info.used;
     let to = destination as usize;
@@ -64,7 +64,7 @@ pub fn take_pointer(
 // The four words of a block's keys become 0.
 fn clear_keys(keys: &mut [u64], block: u16)
     requires { 4 * block + 4 ≤ length keys.old }
-    ensures { keys.new ≡ clearKeys keys.old block }
+    ensures { keys.new ≡ clear_keys keys.old block }
 {
     let read = 4 * (block as usize);
     let write = read + 2;

@@ -8,13 +8,13 @@ use Rattle.card.specs.declared.Refusal.{Refusal}
 use Rattle.checks.specs.declared.Checked.{Checked}
 use Rattle.checks.specs.declared.Checked.TheVariants.{Passed, Refused}
 
-unfoldable pub byRefusal : Option Refusal → Checked
-byRefusal none = Passed
-byRefusal (some r) = Refused r
+unfoldable pub by_refusal : Option Refusal → Checked
+by_refusal none = Passed
+by_refusal (some r) = Refused r
 
 -- The call's own checks, on a card that has been audited.
 unfoldable pub checked : Port → Card → Request → Checked
-checked port c q = byRefusal (first (plan port c q.call q.lent).checks)
+checked port c q = by_refusal (first (plan port c q.call q.lent).checks)
 
 -- The refusal's check is the first of the call's that holds.
 abbrev pub Refuses : Port → Card → Request → Refusal → Type 0

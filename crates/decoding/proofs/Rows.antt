@@ -1,4 +1,4 @@
--- `kinds-decoded`, `rent-uncarried` and `sweep-uncarried` as tests, and a row for each mistake in the rules of records that a must-fail edit makes: true by
+-- `kinds_decoded`, `rent_uncarried` and `sweep_uncarried` as tests, and a row for each mistake in the rules of records that a must-fail edit makes: true by
 -- the theorem, and false with the mistake.
 use Prim.Native.Nat.{ℕ, ◌<◌}
 use mathlib.Core.Path.{◌≡◌, refl, ap, ◌∙◌}
@@ -8,10 +8,10 @@ use lib.Dec.{ltb}
 use lib.ListN.{length, drop, get_or, replicate}
 use native.Mathlib.Omega.{arith}
 use borrow.Author.Tests.{ltb-true}
-use Rattle.laws.specs.ListsLaws.{and-true}
+use Rattle.laws.specs.ListsLaws.{and_true}
 use Rattle.card.proofs.Computed.Same.{same_list}
 use Rattle.card.proofs.Computed.Row.{Row, refutes, nothing, implies, true_implies}
-use Rattle.card.proofs.Computed.TestLaws.{true-sameList}
+use Rattle.card.proofs.Computed.TestLaws.{true_same_list}
 use Rattle.card.specs.declared.Port.{Port}
 use Rattle.card.specs.declared.Port.TheVariants.{Host, Service}
 use Rattle.card.specs.declared.RentOperands.{RentOperands}
@@ -20,11 +20,11 @@ use Rattle.card.specs.declared.Call.{Call}
 use Rattle.card.specs.declared.Call.TheVariants.{Read, Write, Alloc, AllocContig, Create, Delete, DeleteTree, KeyRead, KeyWrite, Renew, Force, Free, Tick, Audit, Rent, Sweep}
 use Rattle.fields.specs.Bytes.{number, zeroed}
 use Rattle.fields.specs.Fields.{credential}
-use Rattle.kinds.specs.Kinds.{row, names, kindNumber, length_of, dataLength, operandsLength, among, kind_of}
+use Rattle.kinds.specs.Kinds.{row, names, kind_number, length_of, data_length, operands_length, among, kind_of}
 use Rattle.kinds.specs.AllKinds.{expected}
 use Rattle.kinds.specs.declared.Length.{Length}
 use Rattle.kinds.specs.declared.Length.TheVariants.{Bytes, Unknown}
-use Rattle.decoding.specs.Decode.{Next, ended, refused, sent, withCredential, decodeCall, decodeKnown, decodeBody, name_of, data_of, next_of, decode}
+use Rattle.decoding.specs.Decode.{Next, ended, refused, sent, with_credential, decode_call, decode_known, decode_body, name_of, data_of, next_of, decode}
 use Rattle.decoding.specs.Statements.{Leaves, is_call, DecodedBy, KindsDecoded, RentUncarried, SweepUncarried}
 
 -- What is found leaves just the bytes behind a body that is whole, or is refused.
@@ -39,40 +39,40 @@ abbrev taken : Length → (List ℕ → Next) → Bool
 taken Unknown next = true
 taken (Bytes n) next = is_call (next (replicate n 0))
 
-abbrev decodedTest : Length → List ℕ → (List ℕ → Next) → Bool
-decodedTest l xs next = fits l xs (next xs) && taken l next
+abbrev decoded_test : Length → List ℕ → (List ℕ → Next) → Bool
+decoded_test l xs next = fits l xs (next xs) && taken l next
 
-abbrev pub kindsDecodedTest : Port → ℕ → List ℕ → Bool
-kindsDecodedTest wire kind xs = implies (ltb kind 256) (decodedTest (get_or (expected wire) kind Unknown) xs (λ ys. decode wire (kind ∷ ys)))
+abbrev pub kinds_decoded_test : Port → ℕ → List ℕ → Bool
+kinds_decoded_test wire kind xs = implies (ltb kind 256) (decoded_test (get_or (expected wire) kind Unknown) xs (λ ys. decode wire (kind ∷ ys)))
 
-sent-apart : {port : Port} {call : Call} {payload rest : List ℕ} → sent port call payload rest ≡ refused → ⊥
-sent-apart e = let z : ◌≡◌ {A = ℕ} 0 1 = cc in omega arith
+sent_apart : {port : Port} {call : Call} {payload rest : List ℕ} → sent port call payload rest ≡ refused → ⊥
+sent_apart e = let z : ◌≡◌ {A = ℕ} 0 1 = cc in omega arith
 
-fits-unknown : (xs : List ℕ) (next : Next) → next ≡ refused → fits Unknown xs next ≡ true
-fits-unknown xs ended e = refl
-fits-unknown xs refused e = refl
-fits-unknown xs (sent port call payload rest) e = absurd (sent-apart e)
+fits_unknown : (xs : List ℕ) (next : Next) → next ≡ refused → fits Unknown xs next ≡ true
+fits_unknown xs ended e = refl
+fits_unknown xs refused e = refl
+fits_unknown xs (sent port call payload rest) e = absurd (sent_apart e)
 
 fits_whole : (n : ℕ) (xs : List ℕ) (next : Next) → (length xs < n → next ≡ refused) → Leaves n xs next → fits (Bytes n) xs next ≡ true
 fits_whole n xs ended short leaves = refl
 fits_whole n xs refused short leaves = refl
-fits_whole n xs (sent port call payload rest) short leaves = and-true _ _ (whole (ltb (length xs) n) refl) (true-sameList (leaves port call payload rest refl))
+fits_whole n xs (sent port call payload rest) short leaves = and_true _ _ (whole (ltb (length xs) n) refl) (true_same_list (leaves port call payload rest refl))
   where
     whole : (t : Bool) → ltb (length xs) n ≡ t → not t ≡ true
-    whole true e = absurd (sent-apart (short (ltb-true _ _ e)))
+    whole true e = absurd (sent_apart (short (ltb-true _ _ e)))
     whole false e = refl
 
-decoded-tests : (l : Length) (xs : List ℕ) (next : List ℕ → Next) → DecodedBy l next → decodedTest l xs next ≡ true
-decoded-tests Unknown xs next h = and-true _ _ (fits-unknown xs (next xs) (h xs)) refl
-decoded-tests (Bytes n) xs next h = and-true _ _ (fits_whole n xs (next xs) (h.short xs) (h.leaves xs)) h.enough
+decoded_tests : (l : Length) (xs : List ℕ) (next : List ℕ → Next) → DecodedBy l next → decoded_test l xs next ≡ true
+decoded_tests Unknown xs next h = and_true _ _ (fits_unknown xs (next xs) (h xs)) refl
+decoded_tests (Bytes n) xs next h = and_true _ _ (fits_whole n xs (next xs) (h.short xs) (h.leaves xs)) h.enough
 
-pub kinds-decoded-tests : KindsDecoded → (wire : Port) (kind : ℕ) (xs : List ℕ) → kindsDecodedTest wire kind xs ≡ true
-kinds-decoded-tests statement wire kind xs =
+pub kinds_decoded_tests : KindsDecoded → (wire : Port) (kind : ℕ) (xs : List ℕ) → kinds_decoded_test wire kind xs ≡ true
+kinds_decoded_tests statement wire kind xs =
     true_implies (ltb kind 256) _
-    (λ h. decoded-tests (get_or (expected wire) kind Unknown) xs (λ ys. decode wire (kind ∷ ys)) (statement wire kind (ltb-true _ _ h)))
+    (λ h. decoded_tests (get_or (expected wire) kind Unknown) xs (λ ys. decode wire (kind ∷ ys)) (statement wire kind (ltb-true _ _ h)))
 
-abbrev kindsDecodedRow : Port → ℕ → List ℕ → Row KindsDecoded
-kindsDecodedRow wire kind xs = record { test = kindsDecodedTest wire kind xs; follows = λ statement. kinds-decoded-tests statement wire kind xs }
+abbrev kinds_decoded_row : Port → ℕ → List ℕ → Row KindsDecoded
+kinds_decoded_row wire kind xs = record { test = kinds_decoded_test wire kind xs; follows = λ statement. kinds_decoded_tests statement wire kind xs }
 
 -- A call that no record carries, with its operands, or one that a record carries.
 pub data Carriage : Type 0 where
@@ -80,45 +80,45 @@ pub data Carriage : Type 0 where
   rent : RentOperands → Carriage
   sweep : SweepOperands → Carriage
 
-abbrev carriageOf : Call → Carriage
-carriageOf (Read o) = carried
-carriageOf (Write o) = carried
-carriageOf (Alloc o) = carried
-carriageOf (AllocContig o) = carried
-carriageOf (Create o) = carried
-carriageOf (Delete o) = carried
-carriageOf (DeleteTree o) = carried
-carriageOf (KeyRead o) = carried
-carriageOf (KeyWrite o) = carried
-carriageOf (Renew o) = carried
-carriageOf (Force o) = carried
-carriageOf Free = carried
-carriageOf (Tick o) = carried
-carriageOf Audit = carried
-carriageOf (Rent o) = rent o
-carriageOf (Sweep o) = sweep o
+abbrev carriage_of : Call → Carriage
+carriage_of (Read o) = carried
+carriage_of (Write o) = carried
+carriage_of (Alloc o) = carried
+carriage_of (AllocContig o) = carried
+carriage_of (Create o) = carried
+carriage_of (Delete o) = carried
+carriage_of (DeleteTree o) = carried
+carriage_of (KeyRead o) = carried
+carriage_of (KeyWrite o) = carried
+carriage_of (Renew o) = carried
+carriage_of (Force o) = carried
+carriage_of Free = carried
+carriage_of (Tick o) = carried
+carriage_of Audit = carried
+carriage_of (Rent o) = rent o
+carriage_of (Sweep o) = sweep o
 
-abbrev notRent : Carriage → Bool
-notRent carried = true
-notRent (rent o) = false
-notRent (sweep o) = true
+abbrev not_rent : Carriage → Bool
+not_rent carried = true
+not_rent (rent o) = false
+not_rent (sweep o) = true
 
-abbrev notSweep : Carriage → Bool
-notSweep carried = true
-notSweep (rent o) = true
-notSweep (sweep o) = false
+abbrev not_sweep : Carriage → Bool
+not_sweep carried = true
+not_sweep (rent o) = true
+not_sweep (sweep o) = false
 
 -- What is found, if it is a call, is of no carriage that the test refuses.
 abbrev finds : (Carriage → Bool) → Next → Bool
 finds test ended = true
 finds test refused = true
-finds test (sent port call payload rest) = test (carriageOf call)
+finds test (sent port call payload rest) = test (carriage_of call)
 
-abbrev pub rentUncarriedTest : Port → List ℕ → Bool
-rentUncarriedTest wire xs = finds notRent (decode wire xs)
+abbrev pub rent_uncarried_test : Port → List ℕ → Bool
+rent_uncarried_test wire xs = finds not_rent (decode wire xs)
 
-abbrev pub sweepUncarriedTest : Port → List ℕ → Bool
-sweepUncarriedTest wire xs = finds notSweep (decode wire xs)
+abbrev pub sweep_uncarried_test : Port → List ℕ → Bool
+sweep_uncarried_test wire xs = finds not_sweep (decode wire xs)
 
 -- The call that a carriage is of.
 abbrev Of : Call → Carriage → Type 0
@@ -126,88 +126,88 @@ Of call carried = Unit {0}
 Of call (rent o) = call ≡ Rent o
 Of call (sweep o) = call ≡ Sweep o
 
-of-call : (call : Call) → Of call (carriageOf call)
-of-call (Read o) = tt
-of-call (Write o) = tt
-of-call (Alloc o) = tt
-of-call (AllocContig o) = tt
-of-call (Create o) = tt
-of-call (Delete o) = tt
-of-call (DeleteTree o) = tt
-of-call (KeyRead o) = tt
-of-call (KeyWrite o) = tt
-of-call (Renew o) = tt
-of-call (Force o) = tt
-of-call Free = tt
-of-call (Tick o) = tt
-of-call Audit = tt
-of-call (Rent o) = refl
-of-call (Sweep o) = refl
+of_call : (call : Call) → Of call (carriage_of call)
+of_call (Read o) = tt
+of_call (Write o) = tt
+of_call (Alloc o) = tt
+of_call (AllocContig o) = tt
+of_call (Create o) = tt
+of_call (Delete o) = tt
+of_call (DeleteTree o) = tt
+of_call (KeyRead o) = tt
+of_call (KeyWrite o) = tt
+of_call (Renew o) = tt
+of_call (Force o) = tt
+of_call Free = tt
+of_call (Tick o) = tt
+of_call Audit = tt
+of_call (Rent o) = refl
+of_call (Sweep o) = refl
 
-tests : (test : Carriage → Bool) (next : Next) → ((port : Port) (call : Call) (payload rest : List ℕ) → next ≡ sent port call payload rest → test (carriageOf call) ≡ true) → finds test next ≡ true
+tests : (test : Carriage → Bool) (next : Next) → ((port : Port) (call : Call) (payload rest : List ℕ) → next ≡ sent port call payload rest → test (carriage_of call) ≡ true) → finds test next ≡ true
 tests test ended h = refl
 tests test refused h = refl
 tests test (sent port call payload rest) h = h port call payload rest refl
 
-not-rent : {call : Call} (k : Carriage) → Of call k → ((o : RentOperands) → call ≡ Rent o → ⊥) → notRent k ≡ true
-not-rent carried of h = refl
-not-rent (rent o) of h = absurd (h o of)
-not-rent (sweep o) of h = refl
+not_rent_law : {call : Call} (k : Carriage) → Of call k → ((o : RentOperands) → call ≡ Rent o → ⊥) → not_rent k ≡ true
+not_rent_law carried of h = refl
+not_rent_law (rent o) of h = absurd (h o of)
+not_rent_law (sweep o) of h = refl
 
-not-sweep : {call : Call} (k : Carriage) → Of call k → ((o : SweepOperands) → call ≡ Sweep o → ⊥) → notSweep k ≡ true
-not-sweep carried of h = refl
-not-sweep (rent o) of h = refl
-not-sweep (sweep o) of h = absurd (h o of)
+not_sweep_law : {call : Call} (k : Carriage) → Of call k → ((o : SweepOperands) → call ≡ Sweep o → ⊥) → not_sweep k ≡ true
+not_sweep_law carried of h = refl
+not_sweep_law (rent o) of h = refl
+not_sweep_law (sweep o) of h = absurd (h o of)
 
-pub rent-uncarried-tests : RentUncarried → (wire : Port) (xs : List ℕ) → rentUncarriedTest wire xs ≡ true
-rent-uncarried-tests statement wire xs =
-    tests notRent (decode wire xs)
-    (λ port call payload rest e. not-rent (carriageOf call) (of-call call) (λ o same. statement wire xs o port payload rest (e ∙ ap (λ (c : Call). sent port c payload rest) same)))
+pub rent_uncarried_tests : RentUncarried → (wire : Port) (xs : List ℕ) → rent_uncarried_test wire xs ≡ true
+rent_uncarried_tests statement wire xs =
+    tests not_rent (decode wire xs)
+    (λ port call payload rest e. not_rent_law (carriage_of call) (of_call call) (λ o same. statement wire xs o port payload rest (e ∙ ap (λ (c : Call). sent port c payload rest) same)))
 
-abbrev rentUncarriedRow : Port → List ℕ → Row RentUncarried
-rentUncarriedRow wire xs = record { test = rentUncarriedTest wire xs; follows = λ statement. rent-uncarried-tests statement wire xs }
+abbrev rent_uncarried_row : Port → List ℕ → Row RentUncarried
+rent_uncarried_row wire xs = record { test = rent_uncarried_test wire xs; follows = λ statement. rent_uncarried_tests statement wire xs }
 
-pub sweep-uncarried-tests : SweepUncarried → (wire : Port) (xs : List ℕ) → sweepUncarriedTest wire xs ≡ true
-sweep-uncarried-tests statement wire xs =
-    tests notSweep (decode wire xs)
-    (λ port call payload rest e. not-sweep (carriageOf call) (of-call call) (λ o same. statement wire xs o port payload rest (e ∙ ap (λ (c : Call). sent port c payload rest) same)))
+pub sweep_uncarried_tests : SweepUncarried → (wire : Port) (xs : List ℕ) → sweep_uncarried_test wire xs ≡ true
+sweep_uncarried_tests statement wire xs =
+    tests not_sweep (decode wire xs)
+    (λ port call payload rest e. not_sweep_law (carriage_of call) (of_call call) (λ o same. statement wire xs o port payload rest (e ∙ ap (λ (c : Call). sent port c payload rest) same)))
 
-abbrev sweepUncarriedRow : Port → List ℕ → Row SweepUncarried
-sweepUncarriedRow wire xs = record { test = sweepUncarriedTest wire xs; follows = λ statement. sweep-uncarried-tests statement wire xs }
+abbrev sweep_uncarried_row : Port → List ℕ → Row SweepUncarried
+sweep_uncarried_row wire xs = record { test = sweep_uncarried_test wire xs; follows = λ statement. sweep_uncarried_tests statement wire xs }
 
 -- ---- rows
 
 -- To compute a row, its proof unfolds this one name.
 unfoldable computing : Unit {0}
-unfolding number zeroed credential same_list row names kindNumber length_of dataLength operandsLength among kind_of withCredential decodeCall decodeKnown decodeBody name_of data_of next_of decode
+unfolding number zeroed credential same_list row names kind_number length_of data_length operands_length among kind_of with_credential decode_call decode_known decode_body name_of data_of next_of decode
 computing = tt
 
-abbrev unknown-kind-taken-for-audit : Row KindsDecoded
-unknown-kind-taken-for-audit = kindsDecodedRow Host 15 []
+abbrev unknown_kind_taken_for_audit : Row KindsDecoded
+unknown_kind_taken_for_audit = kinds_decoded_row Host 15 []
 
-abbrev body-cut-short-taken : Row KindsDecoded
-body-cut-short-taken = kindsDecodedRow Service 10 (replicate 7 0)
+abbrev body_cut_short_taken : Row KindsDecoded
+body_cut_short_taken = kinds_decoded_row Service 10 (replicate 7 0)
 
-abbrev data-left-as-the-next-record : Row KindsDecoded
-data-left-as-the-next-record = kindsDecodedRow Service 130 (replicate 535 0)
+abbrev data_left_as_the_next_record : Row KindsDecoded
+data_left_as_the_next_record = kinds_decoded_row Service 130 (replicate 535 0)
 
-abbrev body-one-byte-longer : Row KindsDecoded
-body-one-byte-longer = kindsDecodedRow Host 8 []
+abbrev body_one_byte_longer : Row KindsDecoded
+body_one_byte_longer = kinds_decoded_row Host 8 []
 
-abbrev audit-taken-for-rent : Row RentUncarried
-audit-taken-for-rent = rentUncarriedRow Host (11 ∷ [])
+abbrev audit_taken_for_rent : Row RentUncarried
+audit_taken_for_rent = rent_uncarried_row Host (11 ∷ [])
 
-abbrev tick-taken-for-rent : Row RentUncarried
-tick-taken-for-rent = rentUncarriedRow Service (10 ∷ replicate 8 0)
+abbrev tick_taken_for_rent : Row RentUncarried
+tick_taken_for_rent = rent_uncarried_row Service (10 ∷ replicate 8 0)
 
-abbrev unknown-kind-taken-for-rent : Row RentUncarried
-unknown-kind-taken-for-rent = rentUncarriedRow Host (15 ∷ 0 ∷ 0 ∷ 0 ∷ 0 ∷ [])
+abbrev unknown_kind_taken_for_rent : Row RentUncarried
+unknown_kind_taken_for_rent = rent_uncarried_row Host (15 ∷ 0 ∷ 0 ∷ 0 ∷ 0 ∷ [])
 
-abbrev free-taken-for-sweep : Row SweepUncarried
-free-taken-for-sweep = sweepUncarriedRow Host (9 ∷ [])
+abbrev free_taken_for_sweep : Row SweepUncarried
+free_taken_for_sweep = sweep_uncarried_row Host (9 ∷ [])
 
-abbrev tick-taken-for-sweep : Row SweepUncarried
-tick-taken-for-sweep = sweepUncarriedRow Service (10 ∷ replicate 8 0)
+abbrev tick_taken_for_sweep : Row SweepUncarried
+tick_taken_for_sweep = sweep_uncarried_row Service (10 ∷ replicate 8 0)
 
 -- ---- the row of an edit
 

@@ -9,7 +9,7 @@ use Rattle.card.specs.declared.Call.{Call}
 use Rattle.card.specs.declared.Call.TheVariants.{Rent, Sweep}
 use Rattle.kinds.specs.declared.Name.{Name}
 use Rattle.decoding.specs.Decode.{sent, name_of, decode}
-use Rattle.decoding.specs.DecodeLaws.{sent-kind}
+use Rattle.decoding.specs.DecodeLaws.{sent_kind}
 use Rattle.decoding.specs.Statements.{RentUncarried, SweepUncarried}
 
 nameless : {name : Name} → some name ≡ none → ⊥
@@ -18,12 +18,12 @@ nameless e = let z : ◌≡◌ {A = ℕ} 0 1 = cc in omega arith
 uncarried : (wire : Port) (xs : List ℕ) (call : Call) → name_of call ≡ none → {port : Port} {payload rest : List ℕ} → decode wire xs ≡ sent port call payload rest → ⊥
 unfolding decode
 uncarried wire [] call unnamed e = let z : ◌≡◌ {A = ℕ} 0 1 = cc in omega arith
-uncarried wire (kind ∷ xs) call unnamed e = nameless (sym (sent-kind wire kind xs e).named ∙ unnamed)
+uncarried wire (kind ∷ xs) call unnamed e = nameless (sym (sent_kind wire kind xs e).named ∙ unnamed)
 
-pub rent-uncarried : RentUncarried
+pub rent_uncarried : RentUncarried
 unfolding name_of
-rent-uncarried wire xs o port payload rest e = uncarried wire xs (Rent o) refl e
+rent_uncarried wire xs o port payload rest e = uncarried wire xs (Rent o) refl e
 
-pub sweep-uncarried : SweepUncarried
+pub sweep_uncarried : SweepUncarried
 unfolding name_of
-sweep-uncarried wire xs o port payload rest e = uncarried wire xs (Sweep o) refl e
+sweep_uncarried wire xs o port payload rest e = uncarried wire xs (Sweep o) refl e

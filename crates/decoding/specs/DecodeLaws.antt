@@ -4,8 +4,8 @@ use Rattle.std.proofs.Math.Path.{refl}
 use Rattle.std.proofs.Common.{sym, ap, ap₂, ◌∙◌, subst, ⊎_elim, arith, length-drop}
 use Rattle.std.proofs.Math.Option.{some}
 use borrow.Author.Tests.{le-leb, lt-leb, leb-true}
-use Rattle.laws.specs.ListsLaws.{not-cases}
-use Rattle.card.specs.Session.{keyCall}
+use Rattle.laws.specs.ListsLaws.{not_cases}
+use Rattle.card.specs.Session.{key_call}
 use Rattle.card.specs.declared.Port.{Port}
 use Rattle.card.specs.declared.Mode.{Mode}
 use Rattle.card.specs.declared.Mode.TheVariants.{Reading, Writing}
@@ -16,10 +16,10 @@ use Rattle.card.specs.declared.Credential.TheVariants.{Key as KeyCredential}
 use Rattle.card.specs.declared.Call.{Call}
 use Rattle.card.specs.declared.Call.TheVariants.{Force, Free, Tick, Audit}
 use Rattle.fields.specs.Bytes.{number}
-use Rattle.kinds.specs.Kinds.{length_of, kind_of, kindLength}
-use Rattle.kinds.specs.KindsLaws.{host-kinds}
-use Rattle.fields.specs.Fields.{credential, newKey}
-use Rattle.decoding.specs.Decode.{withCredential, readWith, writeWith, allocWith, allocContigWith, createWith, deleteWith, deleteTreeWith, keyWith, renewWith, decodeKey, decodeCall, decodeKnown, decodeBody, name_of, body_of, sent, next_of, decode}
+use Rattle.kinds.specs.Kinds.{length_of, kind_of, kind_length}
+use Rattle.kinds.specs.KindsLaws.{host_kinds}
+use Rattle.fields.specs.Fields.{credential, new_key}
+use Rattle.decoding.specs.Decode.{with_credential, read_with, write_with, alloc_with, alloc_contig_with, create_with, delete_with, delete_tree_with, key_with, renew_with, decode_key, decode_call, decode_known, decode_body, name_of, body_of, sent, next_of, decode}
 use Rattle.kinds.specs.declared.Length.TheVariants.{Bytes, Unknown as UnknownLength}
 use Rattle.kinds.specs.declared.Name.{Name}
 use Rattle.kinds.specs.declared.Name.TheVariants.{Read as READ, Write as WRITE, Alloc as ALLOC, Create as CREATE, Delete as DELETE, KeyRead as KEY-READ, Renew as RENEW, Force as FORCE, Free as FREE, Tick as TICK, Audit as AUDIT, AllocContig as ALLOC-CONTIG, KeyWrite as KEY-WRITE, DeleteTree as DELETE-TREE}
@@ -36,77 +36,77 @@ module _ (port : Port) (xs : List ℕ) where
   -- ---- calls of their operands
 
   pub read : {b i : ℕ} {p : ParsedCredential} → b ≡ number 2 xs → p ≡ credential (drop 2 xs) → i ≡ number 4 (drop 19 xs)
-      → readWith port b p i ≡ decodeCall port READ xs
-  unfolding decodeCall
+      → read_with port b p i ≡ decode_call port READ xs
+  unfolding decode_call
   read b p i = rw (b, p, i)
 
   pub write : {b i : ℕ} {p : ParsedCredential} → b ≡ number 2 xs → p ≡ credential (drop 2 xs) → i ≡ number 4 (drop 19 xs)
-      → writeWith port b p i ≡ decodeCall port WRITE xs
-  unfolding decodeCall
+      → write_with port b p i ≡ decode_call port WRITE xs
+  unfolding decode_call
   write b p i = rw (b, p, i)
 
   pub alloc : {r h n : ℕ} {p : ParsedCredential} → r ≡ number 2 xs → p ≡ credential (drop 2 xs) → h ≡ number 2 (drop 19 xs) → n ≡ get_or xs 21 0
-      → allocWith port r p h n ≡ decodeCall port ALLOC xs
-  unfolding decodeCall
+      → alloc_with port r p h n ≡ decode_call port ALLOC xs
+  unfolding decode_call
   alloc r p h n = rw (r, p, h, n)
 
-  pub alloc-contig : {r h n : ℕ} {p : ParsedCredential} → r ≡ number 2 xs → p ≡ credential (drop 2 xs) → h ≡ number 2 (drop 19 xs) → n ≡ get_or xs 21 0
-      → allocContigWith port r p h n ≡ decodeCall port ALLOC-CONTIG xs
-  unfolding decodeCall
-  alloc-contig r p h n = rw (r, p, h, n)
+  pub alloc_contig : {r h n : ℕ} {p : ParsedCredential} → r ≡ number 2 xs → p ≡ credential (drop 2 xs) → h ≡ number 2 (drop 19 xs) → n ≡ get_or xs 21 0
+      → alloc_contig_with port r p h n ≡ decode_call port ALLOC-CONTIG xs
+  unfolding decode_call
+  alloc_contig r p h n = rw (r, p, h, n)
 
   pub create : {s d : ℕ} {p q : ParsedCredential} → s ≡ number 2 xs → p ≡ credential (drop 2 xs) → d ≡ number 2 (drop 19 xs) → q ≡ credential (drop 21 xs)
-      → createWith port s p d q ≡ decodeCall port CREATE xs
-  unfolding decodeCall
+      → create_with port s p d q ≡ decode_call port CREATE xs
+  unfolding decode_call
   create s p d q = rw (s, p, d, q)
 
   pub delete : {s d : ℕ} {p : ParsedCredential} → s ≡ number 2 xs → p ≡ credential (drop 2 xs) → d ≡ number 2 (drop 19 xs)
-      → deleteWith port s p d ≡ decodeCall port DELETE xs
-  unfolding decodeCall
+      → delete_with port s p d ≡ decode_call port DELETE xs
+  unfolding decode_call
   delete s p d = rw (s, p, d)
 
-  pub delete-tree : {s d : ℕ} {p : ParsedCredential} → s ≡ number 2 xs → p ≡ credential (drop 2 xs) → d ≡ number 2 (drop 19 xs)
-      → deleteTreeWith port s p d ≡ decodeCall port DELETE-TREE xs
-  unfolding decodeCall
-  delete-tree s p d = rw (s, p, d)
+  pub delete_tree : {s d : ℕ} {p : ParsedCredential} → s ≡ number 2 xs → p ≡ credential (drop 2 xs) → d ≡ number 2 (drop 19 xs)
+      → delete_tree_with port s p d ≡ decode_call port DELETE-TREE xs
+  unfolding decode_call
+  delete_tree s p d = rw (s, p, d)
 
-  pub key : (m : Mode) {b : ℕ} {p : ParsedCredential} {k : ParsedKey} → b ≡ number 2 xs → p ≡ credential (drop 2 xs) → k ≡ newKey (drop 19 xs)
-      → keyWith port m b p k ≡ decodeKey port m xs
+  pub key : (m : Mode) {b : ℕ} {p : ParsedCredential} {k : ParsedKey} → b ≡ number 2 xs → p ≡ credential (drop 2 xs) → k ≡ new_key (drop 19 xs)
+      → key_with port m b p k ≡ decode_key port m xs
   key m b p k = rw (b, p, k)
 
-  pub key-read : decodeKey port Reading xs ≡ decodeCall port KEY-READ xs
-  unfolding decodeCall
-  key-read = refl
+  pub key_read : decode_key port Reading xs ≡ decode_call port KEY-READ xs
+  unfolding decode_call
+  key_read = refl
 
-  pub key-write : decodeKey port Writing xs ≡ decodeCall port KEY-WRITE xs
-  unfolding decodeCall
-  key-write = refl
+  pub key_write : decode_key port Writing xs ≡ decode_call port KEY-WRITE xs
+  unfolding decode_call
+  key_write = refl
 
   pub renew : {m b h l i : ℕ}
       → m ≡ get_or xs 0 0 → b ≡ number 2 (drop 1 xs) → h ≡ number 8 (drop 3 xs) → l ≡ number 8 (drop 11 xs) → i ≡ number 4 (drop 19 xs)
-      → renewWith port m b (ValidCredential (KeyCredential h l)) i ≡ decodeCall port RENEW xs
-  unfolding decodeCall
+      → renew_with port m b (ValidCredential (KeyCredential h l)) i ≡ decode_call port RENEW xs
+  unfolding decode_call
   renew m b h l i = rw (m, b, h, l, i)
 
-  pub force : {b : ℕ} → b ≡ number 2 xs → Decoded port (Force (record { block = b })) ≡ decodeCall port FORCE xs
-  unfolding decodeCall
+  pub force : {b : ℕ} → b ≡ number 2 xs → Decoded port (Force (record { block = b })) ≡ decode_call port FORCE xs
+  unfolding decode_call
   force b = rw b
 
-  pub tick : {n : ℕ} → n ≡ number 8 xs → Decoded port (Tick (record { seconds = n })) ≡ decodeCall port TICK xs
-  unfolding decodeCall
+  pub tick : {n : ℕ} → n ≡ number 8 xs → Decoded port (Tick (record { seconds = n })) ≡ decode_call port TICK xs
+  unfolding decode_call
   tick n = rw n
 
-  pub free : Decoded port Free ≡ decodeCall port FREE xs
-  unfolding decodeCall
+  pub free : Decoded port Free ≡ decode_call port FREE xs
+  unfolding decode_call
   free = refl
 
-  pub audit : Decoded port Audit ≡ decodeCall port AUDIT xs
-  unfolding decodeCall
+  pub audit : Decoded port Audit ≡ decode_call port AUDIT xs
+  unfolding decode_call
   audit = refl
 
   -- ---- by the call's name
 
-  pub by_name : {a b : Name} {d : Decoding} → a ≡ b → d ≡ decodeCall port b xs → d ≡ decodeCall port a xs
+  pub by_name : {a b : Name} {d : Decoding} → a ≡ b → d ≡ decode_call port b xs → d ≡ decode_call port a xs
   by_name e h = rw e h
 
 -- A body is long enough for its call.
@@ -117,32 +117,32 @@ room e h = rw e at h
 
 module _ (wire : Port) (kind : ℕ) (xs : List ℕ) {known : Kind} (of-kind : known ≡ kind_of wire kind) where
   pub whole : {port : Port} {name : Name} {l : ℕ} {d : Decoding}
-      → known ≡ Known port name → l ≡ length_of name → l ≤ length xs → d ≡ decodeCall port name xs
-      → d ≡ decodeBody wire kind xs
-  unfolding decodeBody decodeKnown
+      → known ≡ Known port name → l ≡ length_of name → l ≤ length xs → d ≡ decode_call port name xs
+      → d ≡ decode_body wire kind xs
+  unfolding decode_body decode_known
   whole {port} {name} e l h d = rw (← of-kind, e, ← l, le-leb _ _ h, d)
 
-  pub cut_short : {port : Port} {name : Name} {l : ℕ} → known ≡ Known port name → l ≡ length_of name → length xs < l → Bad ≡ decodeBody wire kind xs
-  unfolding decodeBody decodeKnown
+  pub cut_short : {port : Port} {name : Name} {l : ℕ} → known ≡ Known port name → l ≡ length_of name → length xs < l → Bad ≡ decode_body wire kind xs
+  unfolding decode_body decode_known
   cut_short e l h = rw (← of-kind, e, ← l, lt-leb _ _ h)
 
-  pub other-kind : known ≡ Unknown → Bad ≡ decodeBody wire kind xs
-  unfolding decodeBody decodeKnown
-  other-kind e = rw (← of-kind, e)
+  pub other_kind : known ≡ Unknown → Bad ≡ decode_body wire kind xs
+  unfolding decode_body decode_known
+  other_kind e = rw (← of-kind, e)
 
 -- By the length of a kind's body: refusal 13 where there is none, or where there are fewer bytes.
 
-pub unknown-kind : (k : Kind) (xs : List ℕ) → kindLength k ≡ UnknownLength → decodeKnown k xs ≡ Bad
-unfolding kindLength decodeKnown
-unknown-kind (Known port name) xs e = let z : ◌≡◌ {A = ℕ} 0 1 = cc in absurd (omega arith)
-unknown-kind Unknown xs e = refl
+pub unknown_kind : (k : Kind) (xs : List ℕ) → kind_length k ≡ UnknownLength → decode_known k xs ≡ Bad
+unfolding kind_length decode_known
+unknown_kind (Known port name) xs e = let z : ◌≡◌ {A = ℕ} 0 1 = cc in absurd (omega arith)
+unknown_kind Unknown xs e = refl
 
-pub short-kind : (k : Kind) (xs : List ℕ) (n : ℕ) → kindLength k ≡ Bytes n → length xs < n → decodeKnown k xs ≡ Bad
-unfolding kindLength decodeKnown
-short-kind (Known port name) xs n e h =
+pub short_kind : (k : Kind) (xs : List ℕ) (n : ℕ) → kind_length k ≡ Bytes n → length xs < n → decode_known k xs ≡ Bad
+unfolding kind_length decode_known
+short_kind (Known port name) xs n e h =
     let same : length_of name ≡ n = cc in
     rw (lt-leb (length_of name) (length xs) (omega arith))
-short-kind Unknown xs n e h = refl
+short_kind Unknown xs n e h = refl
 
 -- ---- from what is decoded to its kind
 
@@ -151,43 +151,43 @@ abbrev Named : Port → Name → Decoding → Type 0
 Named port name (Decoded p call) = (p ≡ port) × (name_of call ≡ some name)
 Named port name Bad = Unit {0}
 
-named-credential : (port : Port) (name : Name) (call : Credential → Call)
+named_credential : (port : Port) (name : Name) (call : Credential → Call)
     → ((c : Credential) → name_of (call c) ≡ some name) → (q : ParsedCredential)
-    → Named port name (withCredential port call q)
-unfolding withCredential
-named-credential port name call h (ValidCredential c) = (refl, h c)
-named-credential port name call h InvalidCredential = tt
+    → Named port name (with_credential port call q)
+unfolding with_credential
+named_credential port name call h (ValidCredential c) = (refl, h c)
+named_credential port name call h InvalidCredential = tt
 
-named-create : (port : Port) (s d : ℕ) (p q : ParsedCredential) → Named port CREATE (createWith port s p d q)
-unfolding createWith name_of
-named-create port s d (ValidCredential c) (ValidCredential e) = (refl, refl)
-named-create port s d (ValidCredential c) InvalidCredential = tt
-named-create port s d InvalidCredential q = tt
+named_create : (port : Port) (s d : ℕ) (p q : ParsedCredential) → Named port CREATE (create_with port s p d q)
+unfolding create_with name_of
+named_create port s d (ValidCredential c) (ValidCredential e) = (refl, refl)
+named_create port s d (ValidCredential c) InvalidCredential = tt
+named_create port s d InvalidCredential q = tt
 
-named-key : (port : Port) (name : Name) (mode : Mode)
-    → ((o : KeyOperands) → name_of (keyCall mode o) ≡ some name) → (b : ℕ) (p : ParsedCredential) (k : ParsedKey)
-    → Named port name (keyWith port mode b p k)
-unfolding keyWith
-named-key port name mode h b (ValidCredential c) (ValidKey k) = (refl, h _)
-named-key port name mode h b (ValidCredential c) InvalidKey = tt
-named-key port name mode h b InvalidCredential k = tt
+named_key : (port : Port) (name : Name) (mode : Mode)
+    → ((o : KeyOperands) → name_of (key_call mode o) ≡ some name) → (b : ℕ) (p : ParsedCredential) (k : ParsedKey)
+    → Named port name (key_with port mode b p k)
+unfolding key_with
+named_key port name mode h b (ValidCredential c) (ValidKey k) = (refl, h _)
+named_key port name mode h b (ValidCredential c) InvalidKey = tt
+named_key port name mode h b InvalidCredential k = tt
 
-named : (port : Port) (name : Name) (xs : List ℕ) → Named port name (decodeCall port name xs)
-unfolding decodeCall renewWith name_of
-named port READ xs = named-credential port READ _ (λ c. refl) _
-named port WRITE xs = named-credential port WRITE _ (λ c. refl) _
-named port ALLOC xs = named-credential port ALLOC _ (λ c. refl) _
-named port CREATE xs = named-create port _ _ _ _
-named port DELETE xs = named-credential port DELETE _ (λ c. refl) _
-named port KEY-READ xs = named-key port KEY-READ Reading (λ o. refl) _ _ _
+named : (port : Port) (name : Name) (xs : List ℕ) → Named port name (decode_call port name xs)
+unfolding decode_call renew_with name_of
+named port READ xs = named_credential port READ _ (λ c. refl) _
+named port WRITE xs = named_credential port WRITE _ (λ c. refl) _
+named port ALLOC xs = named_credential port ALLOC _ (λ c. refl) _
+named port CREATE xs = named_create port _ _ _ _
+named port DELETE xs = named_credential port DELETE _ (λ c. refl) _
+named port KEY-READ xs = named_key port KEY-READ Reading (λ o. refl) _ _ _
 named port RENEW xs = (refl, refl)
 named port FORCE xs = (refl, refl)
 named port FREE xs = (refl, refl)
 named port TICK xs = (refl, refl)
 named port AUDIT xs = (refl, refl)
-named port ALLOC-CONTIG xs = named-credential port ALLOC-CONTIG _ (λ c. refl) _
-named port KEY-WRITE xs = named-key port KEY-WRITE Writing (λ o. refl) _ _ _
-named port DELETE-TREE xs = named-credential port DELETE-TREE _ (λ c. refl) _
+named port ALLOC-CONTIG xs = named_credential port ALLOC-CONTIG _ (λ c. refl) _
+named port KEY-WRITE xs = named_key port KEY-WRITE Writing (λ o. refl) _ _ _
+named port DELETE-TREE xs = named_credential port DELETE-TREE _ (λ c. refl) _
 
 apart : (p : Port) (call : Call) → Decoded p call ≡ Bad → ⊥
 apart p call e = let z : ◌≡◌ {A = ℕ} 0 1 = cc in omega arith
@@ -199,64 +199,64 @@ pub record OfKind (known : Kind) (xs : List ℕ) (port : Port) (call : Call) : T
   pub kind : known ≡ Known port name
   pub whole : length_of name ≤ length xs
 
-of-decoded : (p port : Port) (name : Name) (call : Call) (xs : List ℕ)
-    → Decoded p call ≡ decodeCall port name xs → length_of name ≤ length xs
+of_decoded : (p port : Port) (name : Name) (call : Call) (xs : List ℕ)
+    → Decoded p call ≡ decode_call port name xs → length_of name ≤ length xs
     → OfKind (Known port name) xs p call
-of-decoded p port name call xs e h =
+of_decoded p port name call xs e h =
     let n : Named port name (Decoded p call) = subst (λ (d : Decoding). Named port name d) (sym e) (named port name xs) in
     record { name = name; named = n.1; kind = rw n.0; whole = h }
 
-of-known : (k : Kind) (xs : List ℕ) (p : Port) (call : Call) → Decoded p call ≡ decodeKnown k xs → OfKind k xs p call
-unfolding decodeKnown
-of-known (Known port name) xs p call e =
+of_known : (k : Kind) (xs : List ℕ) (p : Port) (call : Call) → Decoded p call ≡ decode_known k xs → OfKind k xs p call
+unfolding decode_known
+of_known (Known port name) xs p call e =
     ⊎_elim
-    (λ (t : leb (length_of name) (length xs) ≡ true). of-decoded p port name call xs (rw t at e) (leb-true _ _ t))
+    (λ (t : leb (length_of name) (length xs) ≡ true). of_decoded p port name call xs (rw t at e) (leb-true _ _ t))
     (λ (t : leb (length_of name) (length xs) ≡ false). absurd (apart p call (rw t at e)))
-    (not-cases (leb (length_of name) (length xs)))
-of-known Unknown xs p call e = absurd (apart p call e)
+    (not_cases (leb (length_of name) (length xs)))
+of_known Unknown xs p call e = absurd (apart p call e)
 
-pub decoded-kind : (wire : Port) (kind : ℕ) (xs : List ℕ) (p : Port) (call : Call) → Decoded p call ≡ decodeBody wire kind xs → OfKind (kind_of wire kind) xs p call
-unfolding decodeBody
-decoded-kind wire kind xs p call e = of-known (kind_of wire kind) xs p call e
+pub decoded_kind : (wire : Port) (kind : ℕ) (xs : List ℕ) (p : Port) (call : Call) → Decoded p call ≡ decode_body wire kind xs → OfKind (kind_of wire kind) xs p call
+unfolding decode_body
+decoded_kind wire kind xs p call e = of_known (kind_of wire kind) xs p call e
 
-next-kind : (wire : Port) (kind : ℕ) (xs : List ℕ) (d : Decoding) → d ≡ decodeBody wire kind xs → {port : Port} {call : Call} {payload rest : List ℕ}
+next_kind : (wire : Port) (kind : ℕ) (xs : List ℕ) (d : Decoding) → d ≡ decode_body wire kind xs → {port : Port} {call : Call} {payload rest : List ℕ}
     → next_of xs d ≡ sent port call payload rest
     → OfKind (kind_of wire kind) xs port call
 unfolding next_of
-next-kind wire kind xs (Decoded p c) h {port} {call} e =
-    let at-port : p ≡ port = cc in
+next_kind wire kind xs (Decoded p c) h {port} {call} e =
+    let at_port_law : p ≡ port = cc in
     let same : c ≡ call = cc in
-    decoded-kind wire kind xs port call (sym (ap₂ Decoded at-port same) ∙ h)
-next-kind wire kind xs Bad h e = let z : ◌≡◌ {A = ℕ} 0 1 = cc in absurd (omega arith)
+    decoded_kind wire kind xs port call (sym (ap₂ Decoded at_port_law same) ∙ h)
+next_kind wire kind xs Bad h e = let z : ◌≡◌ {A = ℕ} 0 1 = cc in absurd (omega arith)
 
-pub sent-kind : (wire : Port) (kind : ℕ) (xs : List ℕ) {port : Port} {call : Call} {payload rest : List ℕ}
+pub sent_kind : (wire : Port) (kind : ℕ) (xs : List ℕ) {port : Port} {call : Call} {payload rest : List ℕ}
     → decode wire (kind ∷ xs) ≡ sent port call payload rest
     → OfKind (kind_of wire kind) xs port call
 unfolding decode
-sent-kind wire kind xs e = next-kind wire kind xs (decodeBody wire kind xs) refl e
+sent_kind wire kind xs e = next_kind wire kind xs (decode_body wire kind xs) refl e
 
 -- ---- the calls of the host port
 
 -- A record that arrives at the host port and is not refused is a call at the host port.
-pub host-sent : (xs : List ℕ) {port : Port} {call : Call} {payload rest : List ℕ} → decode Host xs ≡ sent port call payload rest → port ≡ Host
+pub host_sent : (xs : List ℕ) {port : Port} {call : Call} {payload rest : List ℕ} → decode Host xs ≡ sent port call payload rest → port ≡ Host
 unfolding decode
-host-sent [] e = let z : ◌≡◌ {A = ℕ} 0 1 = cc in absurd (omega arith)
-host-sent (kind ∷ xs) e = host-kinds kind (sent-kind Host kind xs e).kind
+host_sent [] e = let z : ◌≡◌ {A = ℕ} 0 1 = cc in absurd (omega arith)
+host_sent (kind ∷ xs) e = host_kinds kind (sent_kind Host kind xs e).kind
 
 -- ---- an input gets shorter
 
-next-shorter : (xs : List ℕ) (d : Decoding) {port : Port} {call : Call} {payload rest : List ℕ}
+next_shorter : (xs : List ℕ) (d : Decoding) {port : Port} {call : Call} {payload rest : List ℕ}
     → next_of xs d ≡ sent port call payload rest
     → length rest ≤ length xs
 unfolding next_of
-next-shorter xs (Decoded p call) {rest = rest} e =
+next_shorter xs (Decoded p call) {rest = rest} e =
     let left : drop (body_of call) xs ≡ rest = cc in
     omega (arith, ap length left, length-drop (body_of call) xs)
-next-shorter xs Bad e = let z : ◌≡◌ {A = ℕ} 0 1 = cc in absurd (omega arith)
+next_shorter xs Bad e = let z : ◌≡◌ {A = ℕ} 0 1 = cc in absurd (omega arith)
 
-pub decode-shorter : (wire : Port) (xs : List ℕ) {port : Port} {call : Call} {payload rest : List ℕ}
+pub decode_shorter : (wire : Port) (xs : List ℕ) {port : Port} {call : Call} {payload rest : List ℕ}
     → decode wire xs ≡ sent port call payload rest
     → length rest < length xs
 unfolding decode
-decode-shorter wire [] e = let z : ◌≡◌ {A = ℕ} 0 1 = cc in absurd (omega arith)
-decode-shorter wire (kind ∷ xs) e = let h = next-shorter xs (decodeBody wire kind xs) e in omega arith
+decode_shorter wire [] e = let z : ◌≡◌ {A = ℕ} 0 1 = cc in absurd (omega arith)
+decode_shorter wire (kind ∷ xs) e = let h = next_shorter xs (decode_body wire kind xs) e in omega arith

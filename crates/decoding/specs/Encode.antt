@@ -12,43 +12,43 @@ use Rattle.card.specs.declared.KeyOperands.{KeyOperands}
 use Rattle.card.specs.declared.Call.{Call}
 use Rattle.card.specs.declared.Call.TheVariants.{Read, Write, Alloc, AllocContig, Create, Delete, DeleteTree, KeyRead, KeyWrite, Renew, Force, Free, Tick, Audit, Rent, Sweep}
 use Rattle.fields.specs.Bytes.{bytes}
-use Rattle.kinds.specs.Kinds.{kindNumber}
+use Rattle.kinds.specs.Kinds.{kind_number}
 use Rattle.kinds.specs.declared.Name.{Name}
 use Rattle.decoding.specs.Decode.{name_of}
 
-unfoldable pub credentialBytes : Credential → List ℕ
-credentialBytes Nothing = 0 ∷ replicate 16 0
-credentialBytes (Reference r) = 1 ∷ (bytes 2 r ++ replicate 14 0)
-credentialBytes (KeyCredential high low) = 2 ∷ (bytes 8 high ++ bytes 8 low)
+unfoldable pub credential_bytes : Credential → List ℕ
+credential_bytes Nothing = 0 ∷ replicate 16 0
+credential_bytes (Reference r) = 1 ∷ (bytes 2 r ++ replicate 14 0)
+credential_bytes (KeyCredential high low) = 2 ∷ (bytes 8 high ++ bytes 8 low)
 
-unfoldable pub newKeyBytes : NewKey → List ℕ
-newKeyBytes Absent = 0 ∷ replicate 16 0
-newKeyBytes (Present high low) = 1 ∷ (bytes 8 high ++ bytes 8 low)
+unfoldable pub new_key_bytes : NewKey → List ℕ
+new_key_bytes Absent = 0 ∷ replicate 16 0
+new_key_bytes (Present high low) = 1 ∷ (bytes 8 high ++ bytes 8 low)
 
 -- The operands of ALLOC and of ALLOC_CONTIG.
-abbrev pub allocBody : AllocOperands → List ℕ → List ℕ
-allocBody o ys = bytes 2 o.reference ++ (credentialBytes o.credential ++ (bytes 2 o.hint ++ (bytes 1 o.count ++ ys)))
+abbrev pub alloc_body : AllocOperands → List ℕ → List ℕ
+alloc_body o ys = bytes 2 o.reference ++ (credential_bytes o.credential ++ (bytes 2 o.hint ++ (bytes 1 o.count ++ ys)))
 
 -- Of DELETE and DELETE_TREE.
-abbrev pub deleteBody : DeleteOperands → List ℕ → List ℕ
-deleteBody o ys = bytes 2 o.source ++ (credentialBytes o.credential ++ (bytes 2 o.destination ++ ys))
+abbrev pub delete_body : DeleteOperands → List ℕ → List ℕ
+delete_body o ys = bytes 2 o.source ++ (credential_bytes o.credential ++ (bytes 2 o.destination ++ ys))
 
 -- And of KEY_READ and KEY_WRITE.
-abbrev pub keyBody : KeyOperands → List ℕ → List ℕ
-keyBody o ys = bytes 2 o.block ++ (credentialBytes o.credential ++ (newKeyBytes o.key ++ ys))
+abbrev pub key_body : KeyOperands → List ℕ → List ℕ
+key_body o ys = bytes 2 o.block ++ (credential_bytes o.credential ++ (new_key_bytes o.key ++ ys))
 
 -- A call's operands in order, then what follows them.
 unfoldable pub body : Call → List ℕ → List ℕ
-body (Read o) ys = bytes 2 o.block ++ (credentialBytes o.credential ++ (bytes 4 o.interval ++ ys))
-body (Write o) ys = bytes 2 o.block ++ (credentialBytes o.credential ++ (bytes 4 o.interval ++ ys))
-body (Alloc o) ys = allocBody o ys
-body (AllocContig o) ys = allocBody o ys
+body (Read o) ys = bytes 2 o.block ++ (credential_bytes o.credential ++ (bytes 4 o.interval ++ ys))
+body (Write o) ys = bytes 2 o.block ++ (credential_bytes o.credential ++ (bytes 4 o.interval ++ ys))
+body (Alloc o) ys = alloc_body o ys
+body (AllocContig o) ys = alloc_body o ys
 body (Create o) ys =
-    bytes 2 o.source ++ (credentialBytes o.credential ++ (bytes 2 o.destination ++ (credentialBytes o.second ++ ys)))
-body (Delete o) ys = deleteBody o ys
-body (DeleteTree o) ys = deleteBody o ys
-body (KeyRead o) ys = keyBody o ys
-body (KeyWrite o) ys = keyBody o ys
+    bytes 2 o.source ++ (credential_bytes o.credential ++ (bytes 2 o.destination ++ (credential_bytes o.second ++ ys)))
+body (Delete o) ys = delete_body o ys
+body (DeleteTree o) ys = delete_body o ys
+body (KeyRead o) ys = key_body o ys
+body (KeyWrite o) ys = key_body o ys
 body (Renew o) ys =
     bytes 1 o.mode ++ (bytes 2 o.block ++ (bytes 8 o.high ++ (bytes 8 o.low ++ (bytes 4 o.interval ++ ys))))
 body (Force o) ys = bytes 2 o.block ++ ys
@@ -59,13 +59,13 @@ body (Rent o) ys = ys
 body (Sweep o) ys = ys
 
 -- The kind of a named call in front of its body. A call without a name has no record.
-unfoldable pub behindKind : Port → Option Name → List ℕ → List ℕ
-behindKind port none xs = []
-behindKind port (some name) xs = kindNumber port name ∷ xs
+unfoldable pub behind_kind : Port → Option Name → List ℕ → List ℕ
+behind_kind port none xs = []
+behind_kind port (some name) xs = kind_number port name ∷ xs
 
 -- A record: the kind, the operands, the data.
 unfoldable pub encode : Port → Call → List ℕ → List ℕ
-encode port call payload = behindKind port (name_of call) (body call payload)
+encode port call payload = behind_kind port (name_of call) (body call payload)
 
 -- ---- what can be encoded
 

@@ -5,9 +5,9 @@ use Rattle.card.specs.declared.Credential.TheVariants.{Nothing, Reference, Key a
 use Rattle.card.specs.declared.NewKey.TheVariants.{Absent, Present}
 use Rattle.card.specs.declared.Call.TheVariants.{Read, Alloc, AllocContig, Create, DeleteTree, KeyRead, KeyWrite, Renew, Free, Tick}
 use Rattle.fields.specs.Bytes.{number, zeroed}
-use Rattle.kinds.specs.Kinds.{row, dataLength, names, kindNumber, length_of, operandsLength, among, kind_of}
-use Rattle.fields.specs.Fields.{credential, newKey}
-use Rattle.decoding.specs.Decode.{withCredential, createWith, keyWith, renewWith, decodeCall, decodeKnown, decodeBody, name_of, data_of, Next, ended, refused, sent, next_of, decode}
+use Rattle.kinds.specs.Kinds.{row, data_length, names, kind_number, length_of, operands_length, among, kind_of}
+use Rattle.fields.specs.Fields.{credential, new_key}
+use Rattle.decoding.specs.Decode.{with_credential, create_with, key_with, renew_with, decode_call, decode_known, decode_body, name_of, data_of, Next, ended, refused, sent, next_of, decode}
 
 infix 20 ◌gives◌
 -- An input, and what it starts with.
@@ -27,11 +27,11 @@ zeros16 = replicate 16 0
 abbrev five : List ℕ
 five = 0 ∷ 5 ∷ replicate 14 0
 
-abbrev keyBytes : List ℕ
-keyBytes = replicate 7 0 ++ (1 ∷ (replicate 7 0 ++ (2 ∷ [])))
+abbrev key_bytes : List ℕ
+key_bytes = replicate 7 0 ++ (1 ∷ (replicate 7 0 ++ (2 ∷ [])))
 
-unfoldable pub sampleTable : List Sample
-sampleTable =
+unfoldable pub sample_table : List Sample
+sample_table =
     ([] gives ended)
     -- another kind: 0, 15, and FREE at the service port
     ∷ (0 ∷ [] gives refused)
@@ -46,33 +46,33 @@ sampleTable =
     -- ALLOC at 0 by nothing, no hint, count 2
     ∷ (131 ∷ 0 ∷ 0 ∷ 0 ∷ (zeros16 ++ (255 ∷ 255 ∷ 2 ∷ [])) gives sent Service (Alloc (record { reference = 0; credential = Nothing; hint = 65535; count = 2 })) [] [])
     -- ALLOC_CONTIG at 3 by a key, hint 258, count 64, and the same one byte short; and at 0 by nothing, no hint, count 2
-    ∷ (12 ∷ 0 ∷ 3 ∷ 2 ∷ (keyBytes ++ (1 ∷ 2 ∷ 64 ∷ 9 ∷ [])) gives sent Host (AllocContig (record { reference = 3; credential = KeyCredential 1 2; hint = 258; count = 64 })) [] (9 ∷ []))
-    ∷ (12 ∷ 0 ∷ 3 ∷ 2 ∷ (keyBytes ++ (1 ∷ 2 ∷ [])) gives refused)
+    ∷ (12 ∷ 0 ∷ 3 ∷ 2 ∷ (key_bytes ++ (1 ∷ 2 ∷ 64 ∷ 9 ∷ [])) gives sent Host (AllocContig (record { reference = 3; credential = KeyCredential 1 2; hint = 258; count = 64 })) [] (9 ∷ []))
+    ∷ (12 ∷ 0 ∷ 3 ∷ 2 ∷ (key_bytes ++ (1 ∷ 2 ∷ [])) gives refused)
     ∷ (140 ∷ 0 ∷ 0 ∷ 0 ∷ (zeros16 ++ (255 ∷ 255 ∷ 2 ∷ [])) gives sent Service (AllocContig (record { reference = 0; credential = Nothing; hint = 65535; count = 2 })) [] [])
     -- CREATE 3 to 4 by a key and a reference
-    ∷ (4 ∷ 0 ∷ 3 ∷ 2 ∷ (keyBytes ++ (0 ∷ 4 ∷ 1 ∷ five)) gives sent Host (Create (record { source = 3; credential = KeyCredential 1 2; destination = 4; second = Reference 5 })) [] [])
+    ∷ (4 ∷ 0 ∷ 3 ∷ 2 ∷ (key_bytes ++ (0 ∷ 4 ∷ 1 ∷ five)) gives sent Host (Create (record { source = 3; credential = KeyCredential 1 2; destination = 4; second = Reference 5 })) [] [])
     -- DELETE_TREE from 258 to 3 by a key, and the same one byte short; and from 0 to 4 by nothing
-    ∷ (14 ∷ 1 ∷ 2 ∷ 2 ∷ (keyBytes ++ (0 ∷ 3 ∷ 9 ∷ [])) gives sent Host (DeleteTree (record { source = 258; credential = KeyCredential 1 2; destination = 3 })) [] (9 ∷ []))
-    ∷ (14 ∷ 1 ∷ 2 ∷ 2 ∷ (keyBytes ++ (0 ∷ [])) gives refused)
+    ∷ (14 ∷ 1 ∷ 2 ∷ 2 ∷ (key_bytes ++ (0 ∷ 3 ∷ 9 ∷ [])) gives sent Host (DeleteTree (record { source = 258; credential = KeyCredential 1 2; destination = 3 })) [] (9 ∷ []))
+    ∷ (14 ∷ 1 ∷ 2 ∷ 2 ∷ (key_bytes ++ (0 ∷ [])) gives refused)
     ∷ (142 ∷ 0 ∷ 0 ∷ 0 ∷ (zeros16 ++ (0 ∷ 4 ∷ [])) gives sent Service (DeleteTree (record { source = 0; credential = Nothing; destination = 4 })) [] [])
     -- KEY_READ of 1 by nothing, and KEY_WRITE of 258 by a key and by nothing, each with a new key or none
-    ∷ (134 ∷ 0 ∷ 1 ∷ 0 ∷ (zeros16 ++ (1 ∷ keyBytes)) gives sent Service (KeyRead (record { block = 1; credential = Nothing; key = Present 1 2 })) [] [])
-    ∷ (13 ∷ 1 ∷ 2 ∷ 2 ∷ (keyBytes ++ (0 ∷ (zeros16 ++ (9 ∷ [])))) gives sent Host (KeyWrite (record { block = 258; credential = KeyCredential 1 2; key = Absent })) [] (9 ∷ []))
-    ∷ (141 ∷ 1 ∷ 2 ∷ 0 ∷ (zeros16 ++ (1 ∷ keyBytes)) gives sent Service (KeyWrite (record { block = 258; credential = Nothing; key = Present 1 2 })) [] [])
+    ∷ (134 ∷ 0 ∷ 1 ∷ 0 ∷ (zeros16 ++ (1 ∷ key_bytes)) gives sent Service (KeyRead (record { block = 1; credential = Nothing; key = Present 1 2 })) [] [])
+    ∷ (13 ∷ 1 ∷ 2 ∷ 2 ∷ (key_bytes ++ (0 ∷ (zeros16 ++ (9 ∷ [])))) gives sent Host (KeyWrite (record { block = 258; credential = KeyCredential 1 2; key = Absent })) [] (9 ∷ []))
+    ∷ (141 ∷ 1 ∷ 2 ∷ 0 ∷ (zeros16 ++ (1 ∷ key_bytes)) gives sent Service (KeyWrite (record { block = 258; credential = Nothing; key = Present 1 2 })) [] [])
     -- a new key with a wrong first byte, an absent one with filler, and one cut short
-    ∷ (6 ∷ 0 ∷ 1 ∷ 0 ∷ (zeros16 ++ (2 ∷ keyBytes)) gives refused)
-    ∷ (13 ∷ 0 ∷ 1 ∷ 0 ∷ (zeros16 ++ (0 ∷ keyBytes)) gives refused)
+    ∷ (6 ∷ 0 ∷ 1 ∷ 0 ∷ (zeros16 ++ (2 ∷ key_bytes)) gives refused)
+    ∷ (13 ∷ 0 ∷ 1 ∷ 0 ∷ (zeros16 ++ (0 ∷ key_bytes)) gives refused)
     ∷ (6 ∷ 0 ∷ 1 ∷ 0 ∷ (zeros16 ++ zeros16) gives refused)
     -- of two new keys the first alone is KEY_READ's: the 17 bytes of the second are those of the next record
-    ∷ (6 ∷ 0 ∷ 1 ∷ 0 ∷ (zeros16 ++ (0 ∷ (zeros16 ++ (1 ∷ keyBytes)))) gives sent Host (KeyRead (record { block = 1; credential = Nothing; key = Absent })) [] (1 ∷ keyBytes))
+    ∷ (6 ∷ 0 ∷ 1 ∷ 0 ∷ (zeros16 ++ (0 ∷ (zeros16 ++ (1 ∷ key_bytes)))) gives sent Host (KeyRead (record { block = 1; credential = Nothing; key = Absent })) [] (1 ∷ key_bytes))
     -- RENEW of 7's write window for 10 seconds; TICK 10
-    ∷ (7 ∷ 1 ∷ 0 ∷ 7 ∷ (keyBytes ++ (0 ∷ 0 ∷ 0 ∷ 10 ∷ [])) gives sent Host (Renew (record { mode = 1; block = 7; high = 1; low = 2; interval = 10 })) [] [])
+    ∷ (7 ∷ 1 ∷ 0 ∷ 7 ∷ (key_bytes ++ (0 ∷ 0 ∷ 0 ∷ 10 ∷ [])) gives sent Host (Renew (record { mode = 1; block = 7; high = 1; low = 2; interval = 10 })) [] [])
     ∷ (10 ∷ 0 ∷ 0 ∷ 0 ∷ 0 ∷ 0 ∷ 0 ∷ 0 ∷ 10 ∷ [] gives sent Host (Tick (record { seconds = 10 })) [] [])
     ∷ []
 
 -- At the service port each input starts with just what is expected.
-pub samples : map (λ s. decode Service (input s)) sampleTable ≡ map next sampleTable
-unfolding sampleTable number zeroed row dataLength names kindNumber length_of operandsLength among kind_of credential newKey withCredential createWith keyWith renewWith decodeCall decodeKnown decodeBody name_of data_of next_of decode
+pub samples : map (λ s. decode Service (input s)) sample_table ≡ map next sample_table
+unfolding sample_table number zeroed row data_length names kind_number length_of operands_length among kind_of credential new_key with_credential create_with key_with renew_with decode_call decode_known decode_body name_of data_of next_of decode
 samples = refl
 
 -- At the host port a host's records do too, and the service port's are refused.
@@ -82,6 +82,6 @@ taken refused = refused
 taken (sent Host call payload rest) = sent Host call payload rest
 taken (sent Service call payload rest) = refused
 
-pub samples-of-a-host : map (λ s. decode Host (input s)) sampleTable ≡ map (λ s. taken (next s)) sampleTable
-unfolding sampleTable number zeroed row dataLength names kindNumber length_of operandsLength among kind_of credential newKey withCredential createWith keyWith renewWith decodeCall decodeKnown decodeBody name_of data_of next_of decode
-samples-of-a-host = refl
+pub samples_of_a_host : map (λ s. decode Host (input s)) sample_table ≡ map (λ s. taken (next s)) sample_table
+unfolding sample_table number zeroed row data_length names kind_number length_of operands_length among kind_of credential new_key with_credential create_with key_with renew_with decode_call decode_known decode_body name_of data_of next_of decode
+samples_of_a_host = refl

@@ -1,7 +1,7 @@
 // A decoded call handed to its function, on an audited card: the one place where the calls are told apart.
 ghost use Rattle.card.specs.Lent.{Performs, lent};
 ghost use Rattle.card.specs.SoundCard.{SoundCard};
-ghost use Rattle.card.specs.Session.{request, performSound};
+ghost use Rattle.card.specs.Session.{request, perform_sound};
 
 use card::{Answer, Call, Info, Mode, Outcome, Port};
 
@@ -21,7 +21,7 @@ pub fn perform_sound(
     places: &mut [u16],
 ) -> Outcome
     requires { SoundCard (lent info flags keys counts pointers multiplicities windows contents) }
-    ensures { Performs (λ c. performSound port c (request call input.now out.old places.old)) info flags keys counts pointers multiplicities windows contents result out.new places.new }
+    ensures { Performs (λ c. perform_sound port c (request call input.now out.old places.old)) info flags keys counts pointers multiplicities windows contents result out.new places.new }
 {
     match call {
         Call::Read(o) => transfer::read_sound(

@@ -10,7 +10,7 @@ use borrow.Author.Tests.{ne_eqb}
 use Rattle.card.specs.declared.Credential.TheVariants.{Nothing, Reference, Key as KeyCredential}
 use Rattle.card.specs.declared.NewKey.TheVariants.{Absent, Present}
 use Rattle.fields.specs.Bytes.{number, zeroed}
-use Rattle.fields.specs.Fields.{credential, newKey}
+use Rattle.fields.specs.Fields.{credential, new_key}
 use Rattle.fields.specs.declared.ParsedCredential.TheVariants.{Valid as ValidCredential, Invalid as InvalidCredential}
 use Rattle.fields.specs.declared.ParsedKey.TheVariants.{Valid as ValidKey, Invalid as InvalidKey}
 
@@ -24,9 +24,9 @@ module _ (xs : List ℕ) (at : ℕ) where
   unfolding credential
   nothing k z t = rw (first, k, drop-drop 1 at xs, ← z, t)
 
-  pub not-nothing : {z : Bool} → get_or xs at 0 ≡ 0 → z ≡ zeroed 16 (drop (at + 1) xs) → z ≡ false → InvalidCredential ≡ credential (drop at xs)
+  pub not_nothing : {z : Bool} → get_or xs at 0 ≡ 0 → z ≡ zeroed 16 (drop (at + 1) xs) → z ≡ false → InvalidCredential ≡ credential (drop at xs)
   unfolding credential
-  not-nothing k z t = rw (first, k, drop-drop 1 at xs, ← z, t)
+  not_nothing k z t = rw (first, k, drop-drop 1 at xs, ← z, t)
 
   pub reference : {z : Bool} {n : ℕ}
       → get_or xs at 0 ≡ 1 → z ≡ zeroed 14 (drop (at + 3) xs) → z ≡ true → n ≡ number 2 (drop (at + 1) xs)
@@ -34,9 +34,9 @@ module _ (xs : List ℕ) (at : ℕ) where
   unfolding credential
   reference k z t n = rw (first, k, drop-drop 3 at xs, ← z, t, drop-drop 1 at xs, ← n)
 
-  pub not-reference : {z : Bool} → get_or xs at 0 ≡ 1 → z ≡ zeroed 14 (drop (at + 3) xs) → z ≡ false → InvalidCredential ≡ credential (drop at xs)
+  pub not_reference : {z : Bool} → get_or xs at 0 ≡ 1 → z ≡ zeroed 14 (drop (at + 3) xs) → z ≡ false → InvalidCredential ≡ credential (drop at xs)
   unfolding credential
-  not-reference k z t = rw (first, k, drop-drop 3 at xs, ← z, t)
+  not_reference k z t = rw (first, k, drop-drop 3 at xs, ← z, t)
 
   pub key : {high low : ℕ}
       → get_or xs at 0 ≡ 2 → high ≡ number 8 (drop (at + 1) xs) → low ≡ number 8 (drop (at + 9) xs)
@@ -44,26 +44,26 @@ module _ (xs : List ℕ) (at : ℕ) where
   unfolding credential
   key k h l = rw (first, k, drop-drop 1 at xs, drop-drop 9 at xs, ← h, ← l)
 
-  pub no-credential : (get_or xs at 0 ≡ 0 → ⊥) → (get_or xs at 0 ≡ 1 → ⊥) → (get_or xs at 0 ≡ 2 → ⊥) → InvalidCredential ≡ credential (drop at xs)
+  pub no_credential : (get_or xs at 0 ≡ 0 → ⊥) → (get_or xs at 0 ≡ 1 → ⊥) → (get_or xs at 0 ≡ 2 → ⊥) → InvalidCredential ≡ credential (drop at xs)
   unfolding credential
-  no-credential p q r = rw (first, ne_eqb _ 0 p, ne_eqb _ 1 q, ne_eqb _ 2 r)
+  no_credential p q r = rw (first, ne_eqb _ 0 p, ne_eqb _ 1 q, ne_eqb _ 2 r)
 
   -- ---- a new key, by its first byte
 
-  pub absent : {z : Bool} → get_or xs at 0 ≡ 0 → z ≡ zeroed 16 (drop (at + 1) xs) → z ≡ true → ValidKey Absent ≡ newKey (drop at xs)
-  unfolding newKey
+  pub absent : {z : Bool} → get_or xs at 0 ≡ 0 → z ≡ zeroed 16 (drop (at + 1) xs) → z ≡ true → ValidKey Absent ≡ new_key (drop at xs)
+  unfolding new_key
   absent k z t = rw (first, k, drop-drop 1 at xs, ← z, t)
 
-  pub not-absent : {z : Bool} → get_or xs at 0 ≡ 0 → z ≡ zeroed 16 (drop (at + 1) xs) → z ≡ false → InvalidKey ≡ newKey (drop at xs)
-  unfolding newKey
-  not-absent k z t = rw (first, k, drop-drop 1 at xs, ← z, t)
+  pub not_absent : {z : Bool} → get_or xs at 0 ≡ 0 → z ≡ zeroed 16 (drop (at + 1) xs) → z ≡ false → InvalidKey ≡ new_key (drop at xs)
+  unfolding new_key
+  not_absent k z t = rw (first, k, drop-drop 1 at xs, ← z, t)
 
   pub present : {high low : ℕ}
       → get_or xs at 0 ≡ 1 → high ≡ number 8 (drop (at + 1) xs) → low ≡ number 8 (drop (at + 9) xs)
-      → ValidKey (Present high low) ≡ newKey (drop at xs)
-  unfolding newKey
+      → ValidKey (Present high low) ≡ new_key (drop at xs)
+  unfolding new_key
   present k h l = rw (first, k, drop-drop 1 at xs, drop-drop 9 at xs, ← h, ← l)
 
-  pub no-new-key : (get_or xs at 0 ≡ 0 → ⊥) → (get_or xs at 0 ≡ 1 → ⊥) → InvalidKey ≡ newKey (drop at xs)
-  unfolding newKey
-  no-new-key p q = rw (first, ne_eqb _ 0 p, ne_eqb _ 1 q)
+  pub no_new_key : (get_or xs at 0 ≡ 0 → ⊥) → (get_or xs at 0 ≡ 1 → ⊥) → InvalidKey ≡ new_key (drop at xs)
+  unfolding new_key
+  no_new_key p q = rw (first, ne_eqb _ 0 p, ne_eqb _ 1 q)

@@ -2,64 +2,64 @@
 use Rattle.std.specs.Prelude.{ℕ, zero, suc, ◌+◌, ◌*◌, ◌/◌, ◌%◌, ◌^◌, ◌<◌, ◌≡◌, refl, true, false, List, [], ◌∷◌, ◌++◌, eqb, length, drop, get_or}
 use Rattle.std.proofs.Common.{⊎_elim, append_assoc, div-add-mod', div-lt_iff_lt-mul, add-zero, pow-suc, le_of_suc-le-suc, not-suc-le-zero, eq-or-lt_of_le, add-one, arith, length-append, get_or-drop, drop-drop}
 use Rattle.std.proofs.lemmas.List.{get_or_at}
-use Rattle.laws.specs.ListsLaws.{and-true, and-false-left, and-false-right}
+use Rattle.laws.specs.ListsLaws.{and_true, and_false_left, and_false_right}
 use Rattle.fields.specs.Bytes.{number, bytes, zeroed}
 
 -- ---- a number at a place, from its halves
 
-pub number-two : (xs : List ℕ) (at : ℕ) {high low : ℕ} → high ≡ get_or xs at 0 → low ≡ get_or xs (at + 1) 0 → high * 256 + low ≡ number 2 (drop at xs)
+pub number_two : (xs : List ℕ) (at : ℕ) {high low : ℕ} → high ≡ get_or xs at 0 → low ≡ get_or xs (at + 1) 0 → high * 256 + low ≡ number 2 (drop at xs)
 unfolding number
-number-two xs at h l =
+number_two xs at h l =
     let first : get_or (drop at xs) 0 0 ≡ get_or xs at 0 = rw (get_or-drop, add-zero) in
     omega (arith, first, get_or-drop at xs 1 0)
 
-doubled-two : (xs : List ℕ) {high low : ℕ} → high ≡ number 2 xs → low ≡ number 2 (drop 2 xs) → high * 65536 + low ≡ number 4 xs
+doubled_two : (xs : List ℕ) {high low : ℕ} → high ≡ number 2 xs → low ≡ number 2 (drop 2 xs) → high * 65536 + low ≡ number 4 xs
 unfolding number
-doubled-two xs h l = omega (arith, get_or-drop 2 xs 0 0, get_or-drop 2 xs 1 0)
+doubled_two xs h l = omega (arith, get_or-drop 2 xs 0 0, get_or-drop 2 xs 1 0)
 
-pub number-four : (xs : List ℕ) (at : ℕ) {high low : ℕ}
+pub number_four : (xs : List ℕ) (at : ℕ) {high low : ℕ}
     → high ≡ number 2 (drop at xs) → low ≡ number 2 (drop (at + 2) xs)
     → high * 65536 + low ≡ number 4 (drop at xs)
-number-four xs at h l = doubled-two (drop at xs) h (rw (← drop-drop 2 at xs) at l)
+number_four xs at h l = doubled_two (drop at xs) h (rw (← drop-drop 2 at xs) at l)
 
-doubled-four : (xs : List ℕ) {high low : ℕ} → high ≡ number 4 xs → low ≡ number 4 (drop 4 xs) → high * 4294967296 + low ≡ number 8 xs
+doubled_four : (xs : List ℕ) {high low : ℕ} → high ≡ number 4 xs → low ≡ number 4 (drop 4 xs) → high * 4294967296 + low ≡ number 8 xs
 unfolding number
-doubled-four xs h l = omega (arith, get_or-drop 4 xs 0 0, get_or-drop 4 xs 1 0, get_or-drop 4 xs 2 0, get_or-drop 4 xs 3 0)
+doubled_four xs h l = omega (arith, get_or-drop 4 xs 0 0, get_or-drop 4 xs 1 0, get_or-drop 4 xs 2 0, get_or-drop 4 xs 3 0)
 
-pub number-eight : (xs : List ℕ) (at : ℕ) {high low : ℕ}
+pub number_eight : (xs : List ℕ) (at : ℕ) {high low : ℕ}
     → high ≡ number 4 (drop at xs) → low ≡ number 4 (drop (at + 4) xs)
     → high * 4294967296 + low ≡ number 8 (drop at xs)
-number-eight xs at h l = doubled-four (drop at xs) h (rw (← drop-drop 4 at xs) at l)
+number_eight xs at h l = doubled_four (drop at xs) h (rw (← drop-drop 4 at xs) at l)
 
 -- ---- the bytes of a number
 
-pub length-bytes : (n x : ℕ) → length (bytes n x) ≡ n
+pub length_bytes : (n x : ℕ) → length (bytes n x) ≡ n
 unfolding bytes
-length-bytes zero x = refl
-length-bytes (suc n) x = omega (arith, length-append (bytes n (x / 256)) (x % 256 ∷ []), length-bytes n (x / 256))
+length_bytes zero x = refl
+length_bytes (suc n) x = omega (arith, length-append (bytes n (x / 256)) (x % 256 ∷ []), length_bytes n (x / 256))
 
 -- Of bytes followed by any others, the number is the one that was written.
-pub number-bytes : (n x : ℕ) (ys : List ℕ) → x < 256 ^ n → number n (bytes n x ++ ys) ≡ x
+pub number_bytes : (n x : ℕ) (ys : List ℕ) → x < 256 ^ n → number n (bytes n x ++ ys) ≡ x
 unfolding number bytes
-number-bytes zero x ys h = omega arith
-number-bytes (suc n) x ys h =
+number_bytes zero x ys h = omega arith
+number_bytes (suc n) x ys h =
     let lower : x / 256 < 256 ^ n = (div-lt_iff_lt-mul {k = 256} {x = x} {y = 256 ^ n} (omega arith)).1 (rw (pow-suc 256 n) at h) in
-    rw (append_assoc, number-bytes n (x / 256) (x % 256 ∷ ys) lower, get_or_at (bytes n (x / 256)) (x % 256) ys 0 n (length-bytes n (x / 256)))
+    rw (append_assoc, number_bytes n (x / 256) (x % 256 ∷ ys) lower, get_or_at (bytes n (x / 256)) (x % 256) ys 0 n (length_bytes n (x / 256)))
     (div-add-mod' x 256)
 
 -- ---- filler
 
 -- A byte that is not 0 spoils every longer filler.
-pub zeroed-not : (n k : ℕ) (xs : List ℕ) → k < n → eqb (get_or xs k 0) 0 ≡ false → zeroed n xs ≡ false
+pub zeroed_not : (n k : ℕ) (xs : List ℕ) → k < n → eqb (get_or xs k 0) 0 ≡ false → zeroed n xs ≡ false
 unfolding zeroed
-zeroed-not zero k xs l e = absurd (not-suc-le-zero l)
-zeroed-not (suc n) k xs l e =
+zeroed_not zero k xs l e = absurd (not-suc-le-zero l)
+zeroed_not (suc n) k xs l e =
     ⊎_elim
-    (λ (q : k ≡ n). and-false-right (zeroed n xs) _ (rw q at e))
-    (λ (m : k < n). and-false-left (zeroed n xs) _ (zeroed-not n k xs m e))
+    (λ (q : k ≡ n). and_false_right (zeroed n xs) _ (rw q at e))
+    (λ (m : k < n). and_false_left (zeroed n xs) _ (zeroed_not n k xs m e))
     (eq-or-lt_of_le (le_of_suc-le-suc l))
 
 -- One byte more.
-pub zeroed-more : (n : ℕ) (xs : List ℕ) → zeroed n xs ≡ true → eqb (get_or xs n 0) 0 ≡ true → zeroed (n + 1) xs ≡ true
+pub zeroed_more : (n : ℕ) (xs : List ℕ) → zeroed n xs ≡ true → eqb (get_or xs n 0) 0 ≡ true → zeroed (n + 1) xs ≡ true
 unfolding zeroed
-zeroed-more n xs h e = rw add-one (and-true (zeroed n xs) _ h e)
+zeroed_more n xs h e = rw add-one (and_true (zeroed n xs) _ h e)

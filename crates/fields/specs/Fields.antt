@@ -16,7 +16,7 @@ credential xs =
     (cond (eqb (get_or xs 0 0) 2) (ValidCredential (KeyCredential (number 8 (drop 1 xs)) (number 8 (drop 9 xs)))) InvalidCredential))
 
 -- "0 and zeros, or 1 and the key"
-unfoldable pub newKey : List ℕ → ParsedKey
-newKey xs =
+unfoldable pub new_key : List ℕ → ParsedKey
+new_key xs =
     cond (eqb (get_or xs 0 0) 0) (cond (zeroed 16 (drop 1 xs)) (ValidKey Absent) InvalidKey)
     (cond (eqb (get_or xs 0 0) 1) (ValidKey (Present (number 8 (drop 1 xs)) (number 8 (drop 9 xs)))) InvalidKey)

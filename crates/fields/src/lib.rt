@@ -2,7 +2,7 @@
 // What is right is defined in specs/, after document 01, "Call records and the player".
 ghost use Rattle.std.specs.Prelude.{◌≡◌, ◌+◌, ◌≤◌, ◌<◌, length, drop};
 ghost use Rattle.fields.specs.Bytes.{number, zeroed};
-ghost use Rattle.fields.specs.Fields.{credential, newKey};
+ghost use Rattle.fields.specs.Fields.{credential, new_key};
 
 use card::{Credential, NewKey};
 
@@ -100,7 +100,7 @@ pub fn credential(bytes: &[u8], at: usize) -> ParsedCredential
 // The new key, or none, of the 17 bytes at a place.
 pub fn new_key(bytes: &[u8], at: usize) -> ParsedKey
     requires { at + 17 ≤ length bytes.now }
-    ensures { result ≡ newKey (drop at bytes.now) }
+    ensures { result ≡ new_key (drop at bytes.now) }
 {
     match bytes[at] {
         0 => {

@@ -9,16 +9,16 @@ use lib.Dec.{eqb}
 use lib.ListN.{length, get_or, set}
 use lib.Seq.{get_or-set_same, get_or-set_other}
 use borrow.Author.Tests.{eqb-true, not-false}
-use Rattle.laws.specs.ListsLaws.{and_left, and_right, and-false-left, and-false-right, absurd-test, same-or-other}
-use Rattle.card.specs.Card.{Card, flag, keyFlag, allocated, has_key, isRoot, windowEnd, windowOpen, pointsTo, keyHigh}
+use Rattle.laws.specs.ListsLaws.{and_left, and_right, and_false_left, and_false_right, absurd_test, same_or_other}
+use Rattle.card.specs.Card.{Card, flag, key_flag, allocated, has_key, is_root, window_end, window_open, points_to, key_high}
 use Rattle.card.specs.SoundCard.{SoundCard}
-use Rattle.laws.specs.SoundnessLaws.{allocated-below}
-use Rattle.card.specs.Access.{keyIs, keyOpens, opensKeyed, opensRoot, opensPointed, opens, admits}
-use Rattle.card.specs.Plan.{NoneHolds, otherMode, keyedFlags, changePublic, changeKeys, change, changes, Plan, Buffers, Result, refused, done, settle}
-use Rattle.laws.specs.ChangesLaws.{getD-set-either, mode-or-other, keyed-own, keyed-other, replaced-high, replaced-low, kept_high, kept_low}
-use Rattle.card.specs.Calls.{isDone, rootAtHost, keyPlan}
+use Rattle.laws.specs.SoundnessLaws.{allocated_below}
+use Rattle.card.specs.Access.{key_is, key_opens, opens_keyed, opens_root, opens_pointed, opens, admits}
+use Rattle.card.specs.Plan.{NoneHolds, other_mode, keyed_flags, change_public, change_keys, change, changes, Plan, Buffers, Result, refused, done, settle}
+use Rattle.laws.specs.ChangesLaws.{get_d_set_either, mode_or_other, keyed_own, keyed_other, replaced_high, replaced_low, kept_high, kept_low}
+use Rattle.card.specs.Calls.{is_done, root_at_host, key_plan}
 use Rattle.card.specs.Session.{perform}
-use Rattle.laws.specs.SessionLaws.{plan-key}
+use Rattle.laws.specs.SessionLaws.{plan_key}
 use Rattle.card.specs.Reach.{sealed}
 use Rattle.card.specs.declared.Port.{Port}
 use Rattle.card.specs.declared.Port.TheVariants.{Host}
@@ -28,45 +28,45 @@ use Rattle.card.specs.declared.Credential.{Credential}
 use Rattle.card.specs.declared.Credential.TheVariants.{Nothing, Reference, Key}
 use Rattle.card.specs.declared.KeyOperands.{KeyOperands}
 use Rattle.card.specs.declared.Refusal.{Refusal}
-use Rattle.laws.proofs.KeepsSound.{not-missing}
+use Rattle.laws.proofs.KeepsSound.{not_missing}
 use Rattle.laws.proofs.PointerSteps.{closed_same}
-use Rattle.laws.proofs.Judged.{judge-cases}
-use Rattle.card.specs.Statements.Keys.{setting, SameKey, HasNewKey, WriteAccess, byWriteKey, byReference, OneKeyUnsealed, WriteAccessNeeded, OtherKeyKept, OwnKeySet, BothWindowsClosed}
+use Rattle.laws.proofs.Judged.{judge_cases}
+use Rattle.card.specs.Statements.Keys.{setting, SameKey, HasNewKey, WriteAccess, by_write_key, by_reference, OneKeyUnsealed, WriteAccessNeeded, OtherKeyKept, OwnKeySet, BothWindowsClosed}
 
 -- ---- sealed
 
-pub one-key-unsealed : OneKeyUnsealed
+pub one_key_unsealed : OneKeyUnsealed
 unfolding sealed
-one-key-unsealed K c Reading b own none = and-false-left _ _ (and-false-right (has_key c.public Reading b) _ none)
-one-key-unsealed K c Writing b own none = and-false-left _ _ (and-false-left _ (has_key c.public Writing b) none)
+one_key_unsealed K c Reading b own none = and_false_left _ _ (and_false_right (has_key c.public Reading b) _ none)
+one_key_unsealed K c Writing b own none = and_false_left _ _ (and_false_left _ (has_key c.public Writing b) none)
 
 -- ---- what opens a block for writing
 
 module _ (c : Card) (b : ℕ) where
-  by_key : (credential : Credential) → has_key c.public Writing b ≡ true → opensKeyed c Writing b credential ≡ true → WriteAccess c b credential
-  unfolding opensKeyed keyOpens keyIs
-  by_key Nothing k o = absurd-test o refl
-  by_key (Reference r) k o = absurd-test o refl
-  by_key (Key high low) k o = byWriteKey k (eqb-true _ _ (and_left _ _ o)) (eqb-true _ _ (and_right (eqb (keyHigh c.keys Writing b) high) _ o))
+  by_key : (credential : Credential) → has_key c.public Writing b ≡ true → opens_keyed c Writing b credential ≡ true → WriteAccess c b credential
+  unfolding opens_keyed key_opens key_is
+  by_key Nothing k o = absurd_test o refl
+  by_key (Reference r) k o = absurd_test o refl
+  by_key (Key high low) k o = by_write_key k (eqb-true _ _ (and_left _ _ o)) (eqb-true _ _ (and_right (eqb (key_high c.keys Writing b) high) _ o))
 
-  by-pointer : (credential : Credential) → has_key c.public Writing b ≡ false → opensPointed c.public Writing b credential ≡ true → WriteAccess c b credential
-  unfolding opensPointed
-  by-pointer Nothing k o = absurd-test o refl
-  by-pointer (Reference r) k o =
-      let rest : pointsTo c.public r b && windowOpen c.public Writing r ≡ true = and_right (allocated c.public r) _ o in
-      byReference k (and_left _ _ o) (and_left _ _ rest) (and_right (pointsTo c.public r b) _ rest)
-  by-pointer (Key high low) k o = absurd-test o refl
+  by_pointer : (credential : Credential) → has_key c.public Writing b ≡ false → opens_pointed c.public Writing b credential ≡ true → WriteAccess c b credential
+  unfolding opens_pointed
+  by_pointer Nothing k o = absurd_test o refl
+  by_pointer (Reference r) k o =
+      let rest : points_to c.public r b && window_open c.public Writing r ≡ true = and_right (allocated c.public r) _ o in
+      by_reference k (and_left _ _ o) (and_left _ _ rest) (and_right (points_to c.public r b) _ rest)
+  by_pointer (Key high low) k o = absurd_test o refl
 
-  opened-access : (credential : Credential) → isRoot c.public b ≡ false → opens c Writing b credential ≡ true → WriteAccess c b credential
+  opened_access : (credential : Credential) → is_root c.public b ≡ false → opens c Writing b credential ≡ true → WriteAccess c b credential
   unfolding opens
-  opened-access credential noRoot = go (has_key c.public Writing b) (isRoot c.public b) refl noRoot
+  opened_access credential no_root = go (has_key c.public Writing b) (is_root c.public b) refl no_root
     where
       go : (k r : Bool) → has_key c.public Writing b ≡ k → r ≡ false
-          → cond k (opensKeyed c Writing b credential) (cond r (opensRoot credential) (opensPointed c.public Writing b credential)) ≡ true
+          → cond k (opens_keyed c Writing b credential) (cond r (opens_root credential) (opens_pointed c.public Writing b credential)) ≡ true
           → WriteAccess c b credential
       go true r e n o = by_key credential e o
-      go false true e n o = absurd-test refl n
-      go false false e n o = by-pointer credential e o
+      go false true e n o = absurd_test refl n
+      go false false e n o = by_pointer credential e o
 
 -- ---- each of the two calls
 
@@ -75,86 +75,86 @@ module _ (port : Port) (c : Card) (mode : Mode) (o : KeyOperands) (lent : Buffer
   made = perform port c (setting mode o lent)
 
   abbrev planned : Plan
-  planned = keyPlan port c.public (admits port c Writing o.block o.credential) mode o
+  planned = key_plan port c.public (admits port c Writing o.block o.credential) mode o
 
   -- By cases: refused, or done on a sound card.
-  made-cases : (P : Result → Type 0) → ((r : Refusal) → P (refused c lent r)) → (SoundCard c → NoneHolds planned.checks → P (done c lent planned)) → P made
+  made_cases : (P : Result → Type 0) → ((r : Refusal) → P (refused c lent r)) → (SoundCard c → NoneHolds planned.checks → P (done c lent planned)) → P made
   unfolding perform settle
-  made-cases P kept f = rw (plan-key port c mode o lent) (judge-cases P c lent planned kept f)
+  made_cases P kept f = rw (plan_key port c mode o lent) (judge_cases P c lent planned kept f)
 
   -- Where it is done.
-  when-done : (P : Result → Type 0) → (SoundCard c → NoneHolds planned.checks → P (done c lent planned)) → isDone made.answer ≡ true → P made
-  when-done P f = made-cases (λ (r : Result). isDone r.answer ≡ true → P r) (λ r d. absurd-test d refl) (λ s n d. f s n)
+  when_done : (P : Result → Type 0) → (SoundCard c → NoneHolds planned.checks → P (done c lent planned)) → is_done made.answer ≡ true → P made
+  when_done P f = made_cases (λ (r : Result). is_done r.answer ≡ true → P r) (λ r d. absurd_test d refl) (λ s n d. f s n)
 
-  flag-kept : (m : Mode) (b : ℕ) → (m ≡ mode → b ≡ o.block → ⊥)
-      → keyFlag m (get_or (set c.public.flags o.block (keyedFlags (flag c.public o.block) mode o.key)) b 0) ≡ keyFlag m (flag c.public b)
-  flag-kept m b apart =
+  flag_kept : (m : Mode) (b : ℕ) → (m ≡ mode → b ≡ o.block → ⊥)
+      → key_flag m (get_or (set c.public.flags o.block (keyed_flags (flag c.public o.block) mode o.key)) b 0) ≡ key_flag m (flag c.public b)
+  flag_kept m b apart =
       let f = flag c.public o.block in
-      let v = keyedFlags f mode o.key in
+      let v = keyed_flags f mode o.key in
       ⊎_elim
       (λ (e : b ≡ o.block).
       rw e
-      (getD-set-either (λ (n : ℕ). keyFlag m n ≡ keyFlag m f) c.public.flags o.block v o.block
+      (get_d_set_either (λ (n : ℕ). key_flag m n ≡ key_flag m f) c.public.flags o.block v o.block
       (⊎_elim
       (λ (q : m ≡ mode). absurd (apart q e))
-      (λ (q : m ≡ otherMode mode). subst (λ (n : Mode). keyFlag n v ≡ keyFlag n f) (sym q) (keyed-other f mode o.key))
-      (mode-or-other m mode))
+      (λ (q : m ≡ other_mode mode). subst (λ (n : Mode). key_flag n v ≡ key_flag n f) (sym q) (keyed_other f mode o.key))
+      (mode_or_other m mode))
       refl))
-      (λ (other : b ≡ o.block → ⊥). ap (keyFlag m) (get_or-set_other c.public.flags o.block b v 0 other))
-      (same-or-other b o.block)
+      (λ (other : b ≡ o.block → ⊥). ap (key_flag m) (get_or-set_other c.public.flags o.block b v 0 other))
+      (same_or_other b o.block)
 
   -- Each of the two leaves the other key, and every key of another block; on any card, refused or done.
-  other-kept : (m : Mode) (b : ℕ) → (m ≡ mode → b ≡ o.block → ⊥) → SameKey c made.after m b
-  unfolding keyPlan changes change changePublic changeKeys has_key
-  other-kept m b apart =
-      made-cases (λ (r : Result). SameKey c r.after m b) (λ r. record { there = refl; high = refl; low = refl })
+  other_kept : (m : Mode) (b : ℕ) → (m ≡ mode → b ≡ o.block → ⊥) → SameKey c made.after m b
+  unfolding key_plan changes change change_public change_keys has_key
+  other_kept m b apart =
+      made_cases (λ (r : Result). SameKey c r.after m b) (λ r. record { there = refl; high = refl; low = refl })
       (λ s n. record {
-        there = flag-kept m b apart;
+        there = flag_kept m b apart;
         high = kept_high c.keys mode o.block o.key m b apart;
         low = kept_low c.keys mode o.block o.key m b apart;
       })
 
   -- "each with one new key or none"
-  own-set : isDone made.answer ≡ true → HasNewKey made.after mode o.block o.key
-  unfolding keyPlan changes change changePublic changeKeys has_key
-  own-set =
-      when-done (λ (r : Result). HasNewKey r.after mode o.block o.key)
+  own_set : is_done made.answer ≡ true → HasNewKey made.after mode o.block o.key
+  unfolding key_plan changes change change_public change_keys has_key
+  own_set =
+      when_done (λ (r : Result). HasNewKey r.after mode o.block o.key)
       (λ s n.
       let b : ℕ = o.block in
       let f : ℕ = flag c.public b in
-      let below : b < c.public.info.blocks = allocated-below c.public b (not-missing _ _ n.0) in
-      let fits : 4 * b + 4 ≤ length c.keys = omega (arith, s.shaped.hasLengths.keys) in
+      let below : b < c.public.info.blocks = allocated_below c.public b (not_missing _ _ n.0) in
+      let fits : 4 * b + 4 ≤ length c.keys = omega (arith, s.shaped.has_lengths.keys) in
       record {
         there =
-            ap (keyFlag mode) (get_or-set_same c.public.flags b (keyedFlags f mode o.key) 0 (omega (arith, s.shaped.hasLengths.flags)))
-            ∙ keyed-own f mode o.key;
-        high = replaced-high c.keys mode b o.key fits;
-        low = replaced-low c.keys mode b o.key fits;
+            ap (key_flag mode) (get_or-set_same c.public.flags b (keyed_flags f mode o.key) 0 (omega (arith, s.shaped.has_lengths.flags)))
+            ∙ keyed_own f mode o.key;
+        high = replaced_high c.keys mode b o.key fits;
+        low = replaced_low c.keys mode b o.key fits;
       })
 
   -- "and both close the block's two windows"
-  windows-closed : isDone made.answer ≡ true → (m : Mode) → windowEnd made.after.public m o.block ≡ 0
-  unfolding keyPlan changes change changePublic
-  windows-closed =
-      when-done (λ (r : Result). (m : Mode) → windowEnd r.after.public m o.block ≡ 0)
+  windows_closed : is_done made.answer ≡ true → (m : Mode) → window_end made.after.public m o.block ≡ 0
+  unfolding key_plan changes change change_public
+  windows_closed =
+      when_done (λ (r : Result). (m : Mode) → window_end r.after.public m o.block ≡ 0)
       (λ s n.
       let b : ℕ = o.block in
-      let below : b < c.public.info.blocks = allocated-below c.public b (not-missing _ _ n.0) in
-      closed_same c.public.windows b (omega (arith, s.shaped.hasLengths.windows)))
+      let below : b < c.public.info.blocks = allocated_below c.public b (not_missing _ _ n.0) in
+      closed_same c.public.windows b (omega (arith, s.shaped.has_lengths.windows)))
 
-pub write-access-needed : WriteAccessNeeded
-unfolding keyPlan rootAtHost admits
-write-access-needed c mode o lent =
-    when-done Host c mode o lent (λ (r : Result). WriteAccess c o.block o.credential)
-    (λ s n. opened-access c o.block o.credential n.1.0 (not-false _ n.1.1.0))
+pub write_access_needed : WriteAccessNeeded
+unfolding key_plan root_at_host admits
+write_access_needed c mode o lent =
+    when_done Host c mode o lent (λ (r : Result). WriteAccess c o.block o.credential)
+    (λ s n. opened_access c o.block o.credential n.1.0 (not-false _ n.1.1.0))
 
 -- ---- the theorems
 
-pub other-key-kept : OtherKeyKept
-other-key-kept = other-kept
+pub other_key_kept : OtherKeyKept
+other_key_kept = other_kept
 
-pub own-key-set : OwnKeySet
-own-key-set = own-set
+pub own_key_set : OwnKeySet
+own_key_set = own_set
 
-pub both-windows-closed : BothWindowsClosed
-both-windows-closed = windows-closed
+pub both_windows_closed : BothWindowsClosed
+both_windows_closed = windows_closed

@@ -1,5 +1,5 @@
--- What the rules guarantee of a host session: demand 3, `secrecy` of Theorem.antt, and of what performs such sessions, `acts-secret` of Acts.antt; of a
--- host's DELETE_TREE, `tree-hides` of Trees.antt; of the rent after such sessions, `rent-alike` of Rent.antt.
+-- What the rules guarantee of a host session: demand 3, `secrecy` of Theorem.antt, and of what performs such sessions, `acts_secret` of Acts.antt; of a
+-- host's DELETE_TREE, `tree_hides` of Trees.antt; of the rent after such sessions, `rent_alike` of Rent.antt.
 pub mod Closed
 pub mod StepsAlike
 pub mod Opened

@@ -6,22 +6,22 @@ use Rattle.card.specs.SoundCard.{SoundCard}
 use Rattle.card.specs.Statements.Sound.{DoneSound, DoneLeavesSound, CountsRight, PointersAscending}
 use Rattle.card.specs.declared.Refusal.{Refusal}
 use Rattle.card.specs.declared.Answer.TheVariants.{Refused}
-use Rattle.laws.proofs.Judged.{judge-cases}
-use Rattle.laws.proofs.KeepsSound.{call-sound, perform-sound}
+use Rattle.laws.proofs.Judged.{judge_cases}
+use Rattle.laws.proofs.KeepsSound.{call_sound, perform_sound}
 use mathlib.Core.Path.{◌≡◌}
 
-pub done-sound : DoneSound
-done-sound = perform-sound
+pub done_sound : DoneSound
+done_sound = perform_sound
 
-pub done-leaves-sound : DoneLeavesSound
+pub done_leaves_sound : DoneLeavesSound
 unfolding perform settle
-done-leaves-sound port c q =
-    judge-cases (λ (result : Result). ((r : Refusal) → result.answer ≡ Refused r → ⊥) → SoundCard result.after) c q.lent (plan port c q.call q.lent)
+done_leaves_sound port c q =
+    judge_cases (λ (result : Result). ((r : Refusal) → result.answer ≡ Refused r → ⊥) → SoundCard result.after) c q.lent (plan port c q.call q.lent)
     (λ r never. absurd (never r refl))
-    (λ s h never. call-sound port c q.call q.lent s h)
+    (λ s h never. call_sound port c q.call q.lent s h)
 
-pub counts-right : CountsRight
-counts-right port c q s = (perform-sound port c q s).isSound.counts
+pub counts_right : CountsRight
+counts_right port c q s = (perform_sound port c q s).is_sound.counts
 
-pub pointers-ascending : PointersAscending
-pointers-ascending port c q s = record { ascends = (perform-sound port c q s).isSound.ascends; restZero = (perform-sound port c q s).isSound.restZero }
+pub pointers_ascending : PointersAscending
+pointers_ascending port c q s = record { ascends = (perform_sound port c q s).is_sound.ascends; rest_zero = (perform_sound port c q s).is_sound.rest_zero }

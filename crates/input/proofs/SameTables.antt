@@ -5,13 +5,13 @@ use mathlib.Core.List.{List}
 use lib.ListN.{length}
 
 pub record SameTables (flags₀ keys₀ counts₀ pointers₀ multiplicities₀ windows₀ contents₀ flags keys counts pointers multiplicities windows contents : List ℕ) : Type 0 where
-  pub sameFlags : length flags ≡ length flags₀
-  pub sameKeys : length keys ≡ length keys₀
-  pub sameCounts : length counts ≡ length counts₀
-  pub samePointers : length pointers ≡ length pointers₀
-  pub sameMultiplicities : length multiplicities ≡ length multiplicities₀
-  pub sameWindows : length windows ≡ length windows₀
-  pub sameContents : length contents ≡ length contents₀
+  pub same_flags : length flags ≡ length flags₀
+  pub same_keys : length keys ≡ length keys₀
+  pub same_counts : length counts ≡ length counts₀
+  pub same_pointers : length pointers ≡ length pointers₀
+  pub same_multiplicities : length multiplicities ≡ length multiplicities₀
+  pub same_windows : length windows ≡ length windows₀
+  pub same_contents : length contents ≡ length contents₀
 
 pub same_tables : (flags keys counts pointers multiplicities windows contents : List ℕ) → SameTables flags keys counts pointers multiplicities windows contents flags keys counts pointers multiplicities windows contents
-same_tables flags keys counts pointers multiplicities windows contents = record { sameFlags = refl; sameKeys = refl; sameCounts = refl; samePointers = refl; sameMultiplicities = refl; sameWindows = refl; sameContents = refl }
+same_tables flags keys counts pointers multiplicities windows contents = record { same_flags = refl; same_keys = refl; same_counts = refl; same_pointers = refl; same_multiplicities = refl; same_windows = refl; same_contents = refl }

@@ -23,38 +23,38 @@ pub record Arrivals : Type 0 where
   pub left : List ℕ
 
 -- Bytes that start with no record.
-abbrev pub noneHeld : Stop → List ℕ → Arrivals
-noneHeld stop xs = record { records = []; stop = stop; left = xs }
+abbrev pub none_held : Stop → List ℕ → Arrivals
+none_held stop xs = record { records = []; stop = stop; left = xs }
 
 -- Bytes that start with a record, and those behind it.
-abbrev pub heldBefore : Arrived → Arrivals → Arrivals
-heldBefore a later = record { records = a ∷ later.records; stop = later.stop; left = later.left }
+abbrev pub held_before : Arrived → Arrivals → Arrivals
+held_before a later = record { records = a ∷ later.records; stop = later.stop; left = later.left }
 
-unfoldable pub arrivalsOf : Port → (List ℕ → Arrivals) → List ℕ → Next → Arrivals
-arrivalsOf wire behind xs ended = noneHeld Ended xs
-arrivalsOf wire behind xs refused = noneHeld (fault wire xs) xs
-arrivalsOf wire behind xs (sent port call payload rest) =
-    heldBefore (record { kind = get_or xs 0 0; port = port; call = call; payload = payload }) (behind rest)
+unfoldable pub arrivals_of : Port → (List ℕ → Arrivals) → List ℕ → Next → Arrivals
+arrivals_of wire behind xs ended = none_held Ended xs
+arrivals_of wire behind xs refused = none_held (fault wire xs) xs
+arrivals_of wire behind xs (sent port call payload rest) =
+    held_before (record { kind = get_or xs 0 0; port = port; call = call; payload = payload }) (behind rest)
 
 -- Each record takes a byte at least, so that there are at most as many.
-unfoldable pub arrivalsWithin : Port → ℕ → List ℕ → Arrivals
-arrivalsWithin wire zero xs = noneHeld Ended xs
-arrivalsWithin wire (suc most) xs = arrivalsOf wire (arrivalsWithin wire most) xs (decode wire xs)
+unfoldable pub arrivals_within : Port → ℕ → List ℕ → Arrivals
+arrivals_within wire zero xs = none_held Ended xs
+arrivals_within wire (suc most) xs = arrivals_of wire (arrivals_within wire most) xs (decode wire xs)
 
 -- Record after record, up to the end of the bytes, to a record that is refused 13, or to one that is cut short. That record does not count, for
 -- nothing of it is performed; nor does what stands behind it, for only a record tells where the next one starts. Whether there is room for
 -- the answers does not matter here: a record for which there is none counts.
 unfoldable pub arrivals : Port → List ℕ → Arrivals
-arrivals wire xs = arrivalsWithin wire (suc (length xs)) xs
+arrivals wire xs = arrivals_within wire (suc (length xs)) xs
 
 -- ---- the calls of the records
 
 -- A record's call with what is lent with it: READ as many bytes as is said here, ALLOC and ALLOC_CONTIG 64 places.
-abbrev pub requestWith : (Call → ℕ) → Arrived → Request
-requestWith size a = request a.call a.payload (zeros (size a.call)) (zeros 64)
+abbrev pub request_with : (Call → ℕ) → Arrived → Request
+request_with size a = request a.call a.payload (zeros (size a.call)) (zeros 64)
 
-abbrev pub sentWith : (Call → ℕ) → Arrived → Sent
-sentWith size a = record { port = a.port; request = requestWith size a }
+abbrev pub sent_with : (Call → ℕ) → Arrived → Sent
+sent_with size a = record { port = a.port; request = request_with size a }
 
 -- What is written of records that were performed, by the replies to them: the bytes of each by its ordinal, the record and the reply.
 unfoldable pub written_of : (ℕ → Arrived → Reply → List ℕ) → ℕ → List Arrived → List Reply → List ℕ

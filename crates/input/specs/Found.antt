@@ -12,9 +12,9 @@ use Rattle.input.specs.declared.Found.TheVariants.{Whole, Nothing}
 -- A whole record: what the input starts with, from the place on.
 pub record WholeIs (wire : Port) (input : List ℕ) (from : ℕ) (r : Record) : Type 0 where
   pub decodes : decode wire (drop from input) ≡ sent r.port r.call (take (r.next - r.payload) (drop r.payload input)) (drop r.next input)
-  pub hasKind : get_or (drop from input) 0 0 ≡ r.kind
-  pub payloadWithin : r.payload ≤ r.next
-  pub nextWithin : r.next ≤ length input
+  pub has_kind : get_or (drop from input) 0 0 ≡ r.kind
+  pub payload_within : r.payload ≤ r.next
+  pub next_within : r.next ≤ length input
 
 -- No whole record: the input is at its end, or is refused 13.
 abbrev pub NothingIs : Port → List ℕ → Stop → Type 0

@@ -8,18 +8,18 @@ use Rattle.card.specs.declared.Port.{Port}
 use Rattle.card.specs.declared.Port.TheVariants.{Service}
 use Rattle.card.specs.declared.Call.{Call}
 use Rattle.decoding.specs.Decode.{Next, ended, refused, sent, decode}
-use Rattle.kinds.specs.Kinds.{bodyLength}
+use Rattle.kinds.specs.Kinds.{body_length}
 use Rattle.kinds.specs.declared.Length.{Length}
 use Rattle.kinds.specs.declared.Length.TheVariants.{Bytes, Unknown}
-use Rattle.lines.specs.Lines.{line, lineRoom, lastLine}
+use Rattle.lines.specs.Lines.{line, line_room, last_line}
 use Rattle.input.specs.declared.Stop.{Stop}
 use Rattle.input.specs.declared.Stop.TheVariants.{Went, Ended, Short, Refused, Full}
 
 -- ---- one record
 
 -- A player's input arrives at the service port, where the kinds of both ports are taken.
-abbrev pub playerPort : Port
-playerPort = Service
+abbrev pub player_port : Port
+player_port = Service
 
 -- "It lends READ 512 bytes and ALLOC 64 places." ALLOC_CONTIG is lent as many as ALLOC.
 unfoldable pub played : Port → Card → Call → List ℕ → Result
@@ -36,24 +36,24 @@ abbrev pub halted : Stop → Card → List ℕ → Turn
 halted stop c xs = record { stop = stop; output = []; after = c; left = xs }
 
 -- The bytes of a body are fewer than its kind fixes.
-unfoldable pub isShort : Length → ℕ → Bool
-isShort (Bytes n) size = ltb size n
-isShort Unknown size = false
+unfoldable pub is_short : Length → ℕ → Bool
+is_short (Bytes n) size = ltb size n
+is_short Unknown size = false
 
 -- Why an input that starts with no whole record is refused 13: it ends within the record, or the record is wrong.
 unfoldable pub fault : Port → List ℕ → Stop
 fault wire [] = Refused
-fault wire (kind ∷ xs) = cond (isShort (bodyLength wire kind) (length xs)) Short Refused
+fault wire (kind ∷ xs) = cond (is_short (body_length wire kind) (length xs)) Short Refused
 
 unfoldable pub turn_of : ℕ → Card → List ℕ → Next → Turn
 turn_of ordinal c xs ended = halted Ended c xs
-turn_of ordinal c xs refused = halted (fault playerPort xs) c xs
+turn_of ordinal c xs refused = halted (fault player_port xs) c xs
 turn_of ordinal c xs (sent port call payload rest) =
     let r = played port c call payload in
     record { stop = Went; output = line ordinal (get_or xs 0 0) call (reply r); after = r.after; left = rest }
 
 unfoldable pub turn : ℕ → Card → List ℕ → Turn
-turn ordinal c xs = turn_of ordinal c xs (decode playerPort xs)
+turn ordinal c xs = turn_of ordinal c xs (decode player_port xs)
 
 -- ---- an input
 
@@ -66,39 +66,39 @@ pub record Play : Type 0 where
   pub left : List ℕ
 
 -- A play with output before it.
-abbrev pub outputBefore : List ℕ → Play → Play
-outputBefore output p = record { stop = p.stop; output = output ++ p.output; records = p.records; after = p.after; left = p.left }
+abbrev pub output_before : List ℕ → Play → Play
+output_before output p = record { stop = p.stop; output = output ++ p.output; records = p.records; after = p.after; left = p.left }
 
 -- A play that stops at once.
 abbrev pub stopped : Stop → ℕ → Card → List ℕ → Play
 stopped stop records c xs = record { stop = stop; output = []; records = records; after = c; left = xs }
 
 -- What one turn and, where it went, the rest of the play come to.
-unfoldable pub goOn : Stop → Turn → ℕ → (ℕ → Card → List ℕ → ℕ → Play) → ℕ → Play
-goOn Went t records rest room = outputBefore t.output (rest (records + 1) t.after t.left (room - length t.output))
-goOn Ended t records rest room = stopped Ended records t.after t.left
-goOn Short t records rest room = stopped Short records t.after t.left
-goOn Refused t records rest room = stopped Refused records t.after t.left
-goOn Full t records rest room = stopped Full records t.after t.left
+unfoldable pub go_on : Stop → Turn → ℕ → (ℕ → Card → List ℕ → ℕ → Play) → ℕ → Play
+go_on Went t records rest room = output_before t.output (rest (records + 1) t.after t.left (room - length t.output))
+go_on Ended t records rest room = stopped Ended records t.after t.left
+go_on Short t records rest room = stopped Short records t.after t.left
+go_on Refused t records rest room = stopped Refused records t.after t.left
+go_on Full t records rest room = stopped Full records t.after t.left
 
 -- Record after record, while there is room for a line. Each record takes a byte of the input at least, so that it has at most as many.
-unfoldable pub playWithin : ℕ → ℕ → Card → List ℕ → ℕ → Play
-playWithin zero records c xs room = stopped Full records c xs
-playWithin (suc most) records c xs room =
-    let t = cond (ltb room lineRoom) (halted Full c xs) (turn (records + 1) c xs) in
-    goOn t.stop t records (playWithin most) room
+unfoldable pub play_within : ℕ → ℕ → Card → List ℕ → ℕ → Play
+play_within zero records c xs room = stopped Full records c xs
+play_within (suc most) records c xs room =
+    let t = cond (ltb room line_room) (halted Full c xs) (turn (records + 1) c xs) in
+    go_on t.stop t records (play_within most) room
 
 unfoldable pub play : ℕ → Card → List ℕ → ℕ → Play
-play records c xs room = playWithin (suc (length xs)) records c xs room
+play records c xs room = play_within (suc (length xs)) records c xs room
 
 -- The number of the last line: 0 at the end of the input, else 13.
-abbrev pub endNumber : Stop → ℕ
-endNumber Went = 13
-endNumber Ended = 0
-endNumber Short = 13
-endNumber Refused = 13
-endNumber Full = 13
+abbrev pub end_number : Stop → ℕ
+end_number Went = 13
+end_number Ended = 0
+end_number Short = 13
+end_number Refused = 13
+end_number Full = 13
 
 -- The whole of what a player writes of an input that it has room for.
 unfoldable pub transcript : Card → List ℕ → ℕ → List ℕ
-transcript c xs room = let p = play 0 c xs room in p.output ++ lastLine p.records (endNumber p.stop)
+transcript c xs room = let p = play 0 c xs room in p.output ++ last_line p.records (end_number p.stop)

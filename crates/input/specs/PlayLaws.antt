@@ -9,51 +9,51 @@ use Rattle.std.proofs.Math.ListN.{length}
 use Rattle.card.specs.Card.{Card}
 use Rattle.card.specs.declared.Port.{Port}
 use Rattle.decoding.specs.Decode.{Next, ended, refused, sent, decode}
-use Rattle.kinds.specs.Kinds.{bodyLength}
-use Rattle.decoding.specs.DecodeLaws.{decode-shorter}
-use Rattle.lines.specs.Lines.{lineRoom}
-use Rattle.input.specs.Play.{playerPort, isShort, fault, Turn, halted, turn_of, turn, Play, outputBefore, stopped, goOn, playWithin, play}
+use Rattle.kinds.specs.Kinds.{body_length}
+use Rattle.decoding.specs.DecodeLaws.{decode_shorter}
+use Rattle.lines.specs.Lines.{line_room}
+use Rattle.input.specs.Play.{player_port, is_short, fault, Turn, halted, turn_of, turn, Play, output_before, stopped, go_on, play_within, play}
 use Rattle.input.specs.declared.Stop.{Stop}
 use Rattle.input.specs.declared.Stop.TheVariants.{Went, Ended, Short, Refused, Full}
 
 -- ---- a turn that went leaves less of the input
 
 -- A fault is no turn that went.
-apart-short : Short ≡ Went → ⊥
-apart-short e = let z : ◌≡◌ {A = ℕ} 0 1 = cc in omega arith
+apart_short : Short ≡ Went → ⊥
+apart_short e = let z : ◌≡◌ {A = ℕ} 0 1 = cc in omega arith
 
-apart-refused : Refused ≡ Went → ⊥
-apart-refused e = let z : ◌≡◌ {A = ℕ} 0 1 = cc in omega arith
+apart_refused : Refused ≡ Went → ⊥
+apart_refused e = let z : ◌≡◌ {A = ℕ} 0 1 = cc in omega arith
 
-pub fault-stops : (wire : Port) (xs : List ℕ) → fault wire xs ≡ Went → ⊥
+pub fault_stops : (wire : Port) (xs : List ℕ) → fault wire xs ≡ Went → ⊥
 unfolding fault
-fault-stops wire [] e = apart-refused e
-fault-stops wire (kind ∷ xs) e = go (isShort (bodyLength wire kind) (length xs)) e
+fault_stops wire [] e = apart_refused e
+fault_stops wire (kind ∷ xs) e = go (is_short (body_length wire kind) (length xs)) e
   where
     go : (t : Bool) → cond t Short Refused ≡ Went → ⊥
-    go true h = apart-short h
-    go false h = apart-refused h
+    go true h = apart_short h
+    go false h = apart_refused h
 
-next-left : (ordinal : ℕ) (c : Card) (xs : List ℕ) (n : Next) → decode playerPort xs ≡ n → (turn_of ordinal c xs n).stop ≡ Went → length (turn_of ordinal c xs n).left < length xs
+next_left : (ordinal : ℕ) (c : Card) (xs : List ℕ) (n : Next) → decode player_port xs ≡ n → (turn_of ordinal c xs n).stop ≡ Went → length (turn_of ordinal c xs n).left < length xs
 unfolding turn_of
-next-left ordinal c xs ended e w = let z : ◌≡◌ {A = ℕ} 0 1 = cc in absurd (omega arith)
-next-left ordinal c xs refused e w = absurd (fault-stops playerPort xs w)
-next-left ordinal c xs (sent port call payload rest) e w = decode-shorter playerPort xs e
+next_left ordinal c xs ended e w = let z : ◌≡◌ {A = ℕ} 0 1 = cc in absurd (omega arith)
+next_left ordinal c xs refused e w = absurd (fault_stops player_port xs w)
+next_left ordinal c xs (sent port call payload rest) e w = decode_shorter player_port xs e
 
-pub turn-left : (ordinal : ℕ) (c : Card) (xs : List ℕ) → (turn ordinal c xs).stop ≡ Went → length (turn ordinal c xs).left < length xs
+pub turn_left : (ordinal : ℕ) (c : Card) (xs : List ℕ) → (turn ordinal c xs).stop ≡ Went → length (turn ordinal c xs).left < length xs
 unfolding turn
-turn-left ordinal c xs w = next-left ordinal c xs (decode playerPort xs) refl w
+turn_left ordinal c xs w = next_left ordinal c xs (decode player_port xs) refl w
 
 -- ---- a turn that did not go ends the play
 
-pub goOn-halts : (stop : Stop) (t : Turn) (records room : ℕ) (rest : ℕ → Card → List ℕ → ℕ → Play) → (stop ≡ Went → ⊥)
-    → goOn stop t records rest room ≡ stopped stop records t.after t.left
-unfolding goOn
-goOn-halts Went t records room rest n = absurd (n refl)
-goOn-halts Ended t records room rest n = refl
-goOn-halts Short t records room rest n = refl
-goOn-halts Refused t records room rest n = refl
-goOn-halts Full t records room rest n = refl
+pub go_on_halts : (stop : Stop) (t : Turn) (records room : ℕ) (rest : ℕ → Card → List ℕ → ℕ → Play) → (stop ≡ Went → ⊥)
+    → go_on stop t records rest room ≡ stopped stop records t.after t.left
+unfolding go_on
+go_on_halts Went t records room rest n = absurd (n refl)
+go_on_halts Ended t records room rest n = refl
+go_on_halts Short t records room rest n = refl
+go_on_halts Refused t records room rest n = refl
+go_on_halts Full t records room rest n = refl
 
 -- ---- however many turns are allowed
 
@@ -61,70 +61,70 @@ goOn-halts Full t records room rest n = refl
 abbrev pub tried : Bool → ℕ → Card → List ℕ → Turn
 tried full records c xs = cond full (halted Full c xs) (turn (records + 1) c xs)
 
-tried-left : (full : Bool) (records : ℕ) (c : Card) (xs : List ℕ) → (tried full records c xs).stop ≡ Went → length (tried full records c xs).left < length xs
-tried-left true records c xs w = let z : ◌≡◌ {A = ℕ} 0 1 = cc in absurd (omega arith)
-tried-left false records c xs w = turn-left (records + 1) c xs w
+tried_left : (full : Bool) (records : ℕ) (c : Card) (xs : List ℕ) → (tried full records c xs).stop ≡ Went → length (tried full records c xs).left < length xs
+tried_left true records c xs w = let z : ◌≡◌ {A = ℕ} 0 1 = cc in absurd (omega arith)
+tried_left false records c xs w = turn_left (records + 1) c xs w
 
 -- Where the rest of the play is the same, so is the play.
-goOn-same : (stop : Stop) (t : Turn) → t.stop ≡ stop → (records room : ℕ) (f g : ℕ → Card → List ℕ → ℕ → Play)
+go_on_same : (stop : Stop) (t : Turn) → t.stop ≡ stop → (records room : ℕ) (f g : ℕ → Card → List ℕ → ℕ → Play)
     → (t.stop ≡ Went → f (records + 1) t.after t.left (room - length t.output) ≡ g (records + 1) t.after t.left (room - length t.output))
-    → goOn stop t records f room ≡ goOn stop t records g room
-unfolding goOn
-goOn-same Went t e records room f g h =
-    ap (outputBefore t.output) (h e)
-goOn-same Ended t e records room f g h = refl
-goOn-same Short t e records room f g h = refl
-goOn-same Refused t e records room f g h = refl
-goOn-same Full t e records room f g h = refl
+    → go_on stop t records f room ≡ go_on stop t records g room
+unfolding go_on
+go_on_same Went t e records room f g h =
+    ap (output_before t.output) (h e)
+go_on_same Ended t e records room f g h = refl
+go_on_same Short t e records room f g h = refl
+go_on_same Refused t e records room f g h = refl
+go_on_same Full t e records room f g h = refl
 
-within_same : (k m : ℕ) (records : ℕ) (c : Card) (xs : List ℕ) (room : ℕ) → length xs ≤ k → length xs ≤ m → playWithin (suc k) records c xs room ≡ playWithin (suc m) records c xs room
-unfolding playWithin
+within_same : (k m : ℕ) (records : ℕ) (c : Card) (xs : List ℕ) (room : ℕ) → length xs ≤ k → length xs ≤ m → play_within (suc k) records c xs room ≡ play_within (suc m) records c xs room
+unfolding play_within
 within_same zero m records c xs room hk hm =
-    let t = tried (ltb room lineRoom) records c xs in
-    goOn-same t.stop t refl records room (playWithin zero) (playWithin m) (λ w. absurd (omega (arith, tried-left (ltb room lineRoom) records c xs w)))
+    let t = tried (ltb room line_room) records c xs in
+    go_on_same t.stop t refl records room (play_within zero) (play_within m) (λ w. absurd (omega (arith, tried_left (ltb room line_room) records c xs w)))
 within_same (suc k) zero records c xs room hk hm =
-    let t = tried (ltb room lineRoom) records c xs in
-    goOn-same t.stop t refl records room (playWithin (suc k)) (playWithin zero) (λ w. absurd (omega (arith, tried-left (ltb room lineRoom) records c xs w)))
+    let t = tried (ltb room line_room) records c xs in
+    go_on_same t.stop t refl records room (play_within (suc k)) (play_within zero) (λ w. absurd (omega (arith, tried_left (ltb room line_room) records c xs w)))
 within_same (suc k) (suc m) records c xs room hk hm =
-    let t = tried (ltb room lineRoom) records c xs in
-    goOn-same t.stop t refl records room (playWithin (suc k)) (playWithin (suc m))
+    let t = tried (ltb room line_room) records c xs in
+    go_on_same t.stop t refl records room (play_within (suc k)) (play_within (suc m))
     (λ w.
-    within_same k m (records + 1) t.after t.left (room - length t.output) (omega (arith, tried-left (ltb room lineRoom) records c xs w))
-    (omega (arith, tried-left (ltb room lineRoom) records c xs w)))
+    within_same k m (records + 1) t.after t.left (room - length t.output) (omega (arith, tried_left (ltb room line_room) records c xs w))
+    (omega (arith, tried_left (ltb room line_room) records c xs w)))
 
 -- ---- a play, turn by turn
 
-play-tried : (full : Bool) (records : ℕ) (c : Card) (xs : List ℕ) (room : ℕ) → ltb room lineRoom ≡ full
-    → play records c xs room ≡ goOn (tried full records c xs).stop (tried full records c xs) records (playWithin (length xs)) room
-unfolding play playWithin
-play-tried full records c xs room e = rw e
+play_tried : (full : Bool) (records : ℕ) (c : Card) (xs : List ℕ) (room : ℕ) → ltb room line_room ≡ full
+    → play records c xs room ≡ go_on (tried full records c xs).stop (tried full records c xs) records (play_within (length xs)) room
+unfolding play play_within
+play_tried full records c xs room e = rw e
 
-pub play-full : (records : ℕ) (c : Card) (xs : List ℕ) (room : ℕ) → room < lineRoom → play records c xs room ≡ stopped Full records c xs
-unfolding goOn
-play-full records c xs room h = play-tried true records c xs room (lt-ltb room lineRoom h)
+pub play_full : (records : ℕ) (c : Card) (xs : List ℕ) (room : ℕ) → room < line_room → play records c xs room ≡ stopped Full records c xs
+unfolding go_on
+play_full records c xs room h = play_tried true records c xs room (lt-ltb room line_room h)
 
-module _ (records : ℕ) (c : Card) (xs : List ℕ) (room : ℕ) (h : lineRoom ≤ room) where
-  abbrev firstTurn : Turn
-  firstTurn = turn (records + 1) c xs
+module _ (records : ℕ) (c : Card) (xs : List ℕ) (room : ℕ) (h : line_room ≤ room) where
+  abbrev first_turn : Turn
+  first_turn = turn (records + 1) c xs
 
   -- The play goes on behind the turn's line.
-  pub play-went : firstTurn.stop ≡ Went → play records c xs room ≡ outputBefore firstTurn.output (play (records + 1) firstTurn.after firstTurn.left (room - length firstTurn.output))
-  unfolding goOn play
-  play-went w =
-      play-tried false records c xs room (le-ltb room lineRoom h)
-      ∙ ap (λ (s : Stop). goOn s firstTurn records (playWithin (length xs)) room) w
-      ∙ ap (outputBefore firstTurn.output) (shorter (length xs) (turn-left (records + 1) c xs w))
+  pub play_went : first_turn.stop ≡ Went → play records c xs room ≡ output_before first_turn.output (play (records + 1) first_turn.after first_turn.left (room - length first_turn.output))
+  unfolding go_on play
+  play_went w =
+      play_tried false records c xs room (le-ltb room line_room h)
+      ∙ ap (λ (s : Stop). go_on s first_turn records (play_within (length xs)) room) w
+      ∙ ap (output_before first_turn.output) (shorter (length xs) (turn_left (records + 1) c xs w))
     where
-      shorter : (k : ℕ) → length firstTurn.left < k
-          → playWithin k (records + 1) firstTurn.after firstTurn.left (room - length firstTurn.output) ≡ playWithin (suc (length firstTurn.left)) (records + 1) firstTurn.after firstTurn.left (room - length firstTurn.output)
+      shorter : (k : ℕ) → length first_turn.left < k
+          → play_within k (records + 1) first_turn.after first_turn.left (room - length first_turn.output) ≡ play_within (suc (length first_turn.left)) (records + 1) first_turn.after first_turn.left (room - length first_turn.output)
       shorter zero l = absurd (omega arith)
-      shorter (suc k) l = within_same k (length firstTurn.left) (records + 1) firstTurn.after firstTurn.left (room - length firstTurn.output) (omega arith) (omega arith)
+      shorter (suc k) l = within_same k (length first_turn.left) (records + 1) first_turn.after first_turn.left (room - length first_turn.output) (omega arith) (omega arith)
 
   -- The play stops with the turn.
-  pub play-stopped : (stop : Stop) → (stop ≡ Went → ⊥) → firstTurn.stop ≡ stop → firstTurn.after ≡ c → firstTurn.left ≡ xs → play records c xs room ≡ stopped stop records c xs
-  unfolding goOn
-  play-stopped stop n e a l =
-      play-tried false records c xs room (le-ltb room lineRoom h)
-      ∙ ap (λ (s : Stop). goOn s firstTurn records (playWithin (length xs)) room) e
-      ∙ goOn-halts stop firstTurn records room (playWithin (length xs)) n
+  pub play_stopped : (stop : Stop) → (stop ≡ Went → ⊥) → first_turn.stop ≡ stop → first_turn.after ≡ c → first_turn.left ≡ xs → play records c xs room ≡ stopped stop records c xs
+  unfolding go_on
+  play_stopped stop n e a l =
+      play_tried false records c xs room (le-ltb room line_room h)
+      ∙ ap (λ (s : Stop). go_on s first_turn records (play_within (length xs)) room) e
+      ∙ go_on_halts stop first_turn records room (play_within (length xs)) n
       ∙ ap₂ (λ (d : Card) (ys : List ℕ). stopped stop records d ys) a l

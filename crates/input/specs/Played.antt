@@ -30,12 +30,12 @@ pub record TurnIs (want : Turn) (room : ℕ) (stop : Stop) (after : Card) (input
   pub writes : Written before at want.output to behind
   pub short : length want.output ≤ room
 
-abbrev pub isWent : Stop → Bool
-isWent Went = true
-isWent Ended = false
-isWent Short = false
-isWent Refused = false
-isWent Full = false
+abbrev pub is_went : Stop → Bool
+is_went Went = true
+is_went Ended = false
+is_went Short = false
+is_went Refused = false
+is_went Full = false
 
 -- ---- an input
 

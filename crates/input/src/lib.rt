@@ -1,7 +1,7 @@
 // An input of call records: the record that starts at a place of it, and how far a play of it has come.
 ghost use Rattle.std.specs.Prelude.{◌≤◌, length, ◌≡◌};
 ghost use Rattle.input.specs.Found.{FoundIs};
-ghost use Rattle.input.specs.Played.{isWent};
+ghost use Rattle.input.specs.Played.{is_went};
 
 use card::{Call, Info, Port};
 use decoding::Decoding;
@@ -100,7 +100,7 @@ pub struct Part {
 
 // Whether a turn went: its record was played or served.
 pub fn went(stop: Stop) -> bool
-    ensures { result ≡ isWent stop }
+    ensures { result ≡ is_went stop }
 {
     match stop {
         Stop::Went => true,

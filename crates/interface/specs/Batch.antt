@@ -7,18 +7,18 @@ use Rattle.card.specs.declared.Port.{Port}
 use Rattle.input.specs.Played.{PlayedIs}
 use Rattle.input.specs.declared.Stop.{Stop}
 use Rattle.input.specs.declared.Stop.TheVariants.{Went, Ended, Short, Refused, Full}
-use Rattle.parameters.specs.Numbers.{recordLength, recordOf, numbersOf, wireOf}
+use Rattle.parameters.specs.Numbers.{record_length, record_of, numbers_of, wire_of}
 use Rattle.parameters.specs.declared.Wire.{Wire}
 use Rattle.parameters.specs.declared.Wire.TheVariants.{At, Nowhere}
 use Rattle.serving.specs.Serve.{serve}
 
 -- Why a batch stopped: 0 at the end of its input, 13 at a record refused 13, 256 at one cut short, 257 where its answer has no room.
-abbrev pub stopNumber : Stop → ℕ
-stopNumber Went = 0
-stopNumber Ended = 0
-stopNumber Short = 256
-stopNumber Refused = 13
-stopNumber Full = 257
+abbrev pub stop_number : Stop → ℕ
+stop_number Went = 0
+stop_number Ended = 0
+stop_number Short = 256
+stop_number Refused = 13
+stop_number Full = 257
 
 -- What the lent record, tables, answers and numbers hold.
 pub record BatchState : Type 0 where
@@ -32,24 +32,24 @@ pub record BatchState : Type 0 where
 -- The batch that arrived at the port was served: its number says why it stopped.
 pub record BatchServed (wire : Port) (before : BatchState) (input : List ℕ) (number : ℕ) (after : BatchState) : Type 0 where
   pub stop : Stop
-  pub answers : number ≡ stopNumber stop
-  pub stores : after.info ≡ numbersOf after.card.public.info
+  pub answers : number ≡ stop_number stop
+  pub stores : after.info ≡ numbers_of after.card.public.info
   pub plays : PlayedIs (serve wire before.card input (length before.answers)) stop after.records after.card input after.read before.answers after.answers after.written
 
 -- Refused 1 with nothing changed where the record has not its numbers; else the batch, every call with its own audit.
 pub record ServedIfWhole (wire : Port) (before : BatchState) (input : List ℕ) (number : ℕ) (after : BatchState) : Type 0 where
-  pub refuses : (length before.info ≡ recordLength → ⊥) → (number ≡ 1) × (after ≡ before)
-  pub serves : length before.info ≡ recordLength → BatchServed wire before input number after
+  pub refuses : (length before.info ≡ record_length → ⊥) → (number ≡ 1) × (after ≡ before)
+  pub serves : length before.info ≡ record_length → BatchServed wire before input number after
 
 -- Before that, at no port: refused 13 with nothing changed.
 unfoldable pub BatchIs : Wire → BatchState → List ℕ → ℕ → BatchState → Type 0
 BatchIs Nowhere before input number after = (number ≡ 13) × (after ≡ before)
 BatchIs (At wire) before input number after = ServedIfWhole wire before input number after
 
-abbrev pub batchState : List ℕ → List ℕ → List ℕ → List ℕ → List ℕ → List ℕ → List ℕ → List ℕ → List ℕ → ℕ → ℕ → ℕ → BatchState
-batchState info flags keys counts pointers multiplicities windows contents answers records read written = record {
+abbrev pub batch_state : List ℕ → List ℕ → List ℕ → List ℕ → List ℕ → List ℕ → List ℕ → List ℕ → List ℕ → ℕ → ℕ → ℕ → BatchState
+batch_state info flags keys counts pointers multiplicities windows contents answers records read written = record {
   info = info;
-  card = card (recordOf info) flags keys counts pointers multiplicities windows contents;
+  card = card (record_of info) flags keys counts pointers multiplicities windows contents;
   answers = answers;
   records = records;
   read = read;
@@ -59,8 +59,8 @@ batchState info flags keys counts pointers multiplicities windows contents answe
 -- What the function returns and leaves is the batch of the input on what it was lent.
 abbrev pub ServesBatch : ℕ → Lent → Lent → Lent → Lent → Lent → Lent → Lent → Lent → Lent → Lent → LentNumber → LentNumber → LentNumber → ℕ → Type 0
 ServesBatch port info flags keys counts pointers multiplicities windows contents input answers records read written r =
-    BatchIs (wireOf port)
-    (batchState info.entry.now flags.entry.now keys.entry.now counts.entry.now pointers.entry.now multiplicities.entry.now windows.entry.now contents.entry.now answers.entry.now records.entry.now read.entry.now written.entry.now)
+    BatchIs (wire_of port)
+    (batch_state info.entry.now flags.entry.now keys.entry.now counts.entry.now pointers.entry.now multiplicities.entry.now windows.entry.now contents.entry.now answers.entry.now records.entry.now read.entry.now written.entry.now)
     input.entry.now
     r
-    (batchState info.exit.now flags.exit.now keys.exit.now counts.exit.now pointers.exit.now multiplicities.exit.now windows.exit.now contents.exit.now answers.exit.now records.exit.now read.exit.now written.exit.now)
+    (batch_state info.exit.now flags.exit.now keys.exit.now counts.exit.now pointers.exit.now multiplicities.exit.now windows.exit.now contents.exit.now answers.exit.now records.exit.now read.exit.now written.exit.now)

@@ -5,7 +5,7 @@ use Rattle.decoding.specs.declared.Decoding.{Decoding}
 use Rattle.adapter.specs.Effects.{effect, Gives}
 
 -- A function without buffers does what a call does that is the one performed.
-pub gives-by : (value : ℕ) (info : List ℕ) (c : Card) {performed call : Decoding} {number given : ℕ} {numbers : List ℕ} {after : Card}
+pub gives_by : (value : ℕ) (info : List ℕ) (c : Card) {performed call : Decoding} {number given : ℕ} {numbers : List ℕ} {after : Card}
     → Gives (effect performed [] [] [] value info c) number given numbers after [] [] → performed ≡ call
     → Gives (effect call [] [] [] value info c) number given numbers after [] []
-gives-by value info c g e = rw (← e) g
+gives_by value info c g e = rw (← e) g

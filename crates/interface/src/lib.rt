@@ -2,9 +2,9 @@
 // enums as numbers, credentials and new keys as bytes. Each makes a call of its operands and performs it, as a call record is.
 // include/negvask.h describes them.
 ghost use Rattle.std.specs.Prelude.{◌≡◌, []};
-ghost use Rattle.adapter.specs.Effects.{formatEffect, reachEffect, unlockingEffect, Effects, EffectsGiving, EffectsLent, EffectsListing};
-ghost use Rattle.interface.specs.Functions.{read, write, alloc, allocContig, create, delete, deleteTree, keyRead, keyWrite, renew, force, tick, free, audit, rent, sweep, serve, effectBy};
-ghost use Rattle.interface.specs.Batch.{stopNumber, ServesBatch};
+ghost use Rattle.adapter.specs.Effects.{format_effect, reach_effect, unlocking_effect, Effects, EffectsGiving, EffectsLent, EffectsListing};
+ghost use Rattle.interface.specs.Functions.{read, write, alloc, alloc_contig, create, delete, delete_tree, key_read, key_write, renew, force, tick, free, audit, rent, sweep, serve, effect_by};
+ghost use Rattle.interface.specs.Batch.{stop_number, ServesBatch};
 
 use card::Mode;
 use input::Stop;
@@ -29,7 +29,7 @@ pub extern "C" fn negvask_read(
     interval: u32,
     out: &mut [u8],
 ) -> u32
-    ensures { Effects (effectBy (read port block credential.now interval out.old)) info flags keys counts pointers multiplicities windows contents result out.new [] }
+    ensures { Effects (effect_by (read port block credential.now interval out.old)) info flags keys counts pointers multiplicities windows contents result out.new [] }
 {
     let decoding = parameters::read_at(port, block, credential, interval);
     let mut value = 0;
@@ -67,7 +67,7 @@ pub extern "C" fn negvask_write(
     interval: u32,
     bytes: &[u8],
 ) -> u32
-    ensures { Effects (effectBy (write port block credential.now interval bytes.now)) info flags keys counts pointers multiplicities windows contents result [] [] }
+    ensures { Effects (effect_by (write port block credential.now interval bytes.now)) info flags keys counts pointers multiplicities windows contents result [] [] }
 {
     let decoding = parameters::write_at(port, block, credential, interval);
     let mut value = 0;
@@ -104,7 +104,7 @@ pub extern "C" fn negvask_alloc(
     count: u8,
     places: &mut [u16],
 ) -> u32
-    ensures { Effects (effectBy (alloc port block credential.now hint count places.old)) info flags keys counts pointers multiplicities windows contents result [] places.new }
+    ensures { Effects (effect_by (alloc port block credential.now hint count places.old)) info flags keys counts pointers multiplicities windows contents result [] places.new }
 {
     let decoding = parameters::alloc_at(port, block, credential, hint, count);
     let mut value = 0;
@@ -143,7 +143,7 @@ pub extern "C" fn negvask_alloc_contig(
     count: u8,
     places: &mut [u16],
 ) -> u32
-    ensures { Effects (effectBy (allocContig port block credential.now hint count places.old)) info flags keys counts pointers multiplicities windows contents result [] places.new }
+    ensures { Effects (effect_by (alloc_contig port block credential.now hint count places.old)) info flags keys counts pointers multiplicities windows contents result [] places.new }
 {
     let decoding = parameters::alloc_contig_at(port, block, credential, hint, count);
     let mut value = 0;
@@ -181,7 +181,7 @@ pub extern "C" fn negvask_create(
     destination: u16,
     second: &[u8],
 ) -> u32
-    ensures { Effects (effectBy (create port source credential.now destination second.now)) info flags keys counts pointers multiplicities windows contents result [] [] }
+    ensures { Effects (effect_by (create port source credential.now destination second.now)) info flags keys counts pointers multiplicities windows contents result [] [] }
 {
     let decoding = parameters::create_at(port, source, credential, destination, second);
     let mut value = 0;
@@ -217,7 +217,7 @@ pub extern "C" fn negvask_delete(
     destination: u16,
     value: &mut u64,
 ) -> u32
-    ensures { EffectsGiving (λ v. effectBy (delete port source credential.now destination v)) info flags keys counts pointers multiplicities windows contents value result }
+    ensures { EffectsGiving (λ v. effect_by (delete port source credential.now destination v)) info flags keys counts pointers multiplicities windows contents value result }
 {
     let decoding = parameters::delete_at(port, source, credential, destination);
     adapter::perform_without_buffers(
@@ -252,7 +252,7 @@ pub extern "C" fn negvask_delete_tree(
     destination: u16,
     value: &mut u64,
 ) -> u32
-    ensures { EffectsGiving (λ v. effectBy (deleteTree port source credential.now destination v)) info flags keys counts pointers multiplicities windows contents value result }
+    ensures { EffectsGiving (λ v. effect_by (delete_tree port source credential.now destination v)) info flags keys counts pointers multiplicities windows contents value result }
 {
     let decoding = parameters::delete_tree_at(port, source, credential, destination);
     adapter::perform_without_buffers(
@@ -286,7 +286,7 @@ pub extern "C" fn negvask_key_read(
     credential: &[u8],
     key: &[u8],
 ) -> u32
-    ensures { Effects (effectBy (keyRead port block credential.now key.now)) info flags keys counts pointers multiplicities windows contents result [] [] }
+    ensures { Effects (effect_by (key_read port block credential.now key.now)) info flags keys counts pointers multiplicities windows contents result [] [] }
 {
     let decoding = parameters::key_at(Mode::Reading, port, block, credential, key);
     let mut value = 0;
@@ -321,7 +321,7 @@ pub extern "C" fn negvask_key_write(
     credential: &[u8],
     key: &[u8],
 ) -> u32
-    ensures { Effects (effectBy (keyWrite port block credential.now key.now)) info flags keys counts pointers multiplicities windows contents result [] [] }
+    ensures { Effects (effect_by (key_write port block credential.now key.now)) info flags keys counts pointers multiplicities windows contents result [] [] }
 {
     let decoding = parameters::key_at(Mode::Writing, port, block, credential, key);
     let mut value = 0;
@@ -356,7 +356,7 @@ pub extern "C" fn negvask_renew(
     key: &[u8],
     interval: u32,
 ) -> u32
-    ensures { Effects (effectBy (renew mode block key.now interval)) info flags keys counts pointers multiplicities windows contents result [] [] }
+    ensures { Effects (effect_by (renew mode block key.now interval)) info flags keys counts pointers multiplicities windows contents result [] [] }
 {
     let decoding = parameters::renew_call(mode, block, key, interval);
     let mut value = 0;
@@ -388,7 +388,7 @@ pub extern "C" fn negvask_force(
     contents: &mut [u8],
     block: u16,
 ) -> u32
-    ensures { Effects (effectBy (force block)) info flags keys counts pointers multiplicities windows contents result [] [] }
+    ensures { Effects (effect_by (force block)) info flags keys counts pointers multiplicities windows contents result [] [] }
 {
     let decoding = parameters::force_call(block);
     let mut value = 0;
@@ -421,7 +421,7 @@ pub extern "C" fn negvask_tick(
     seconds: u64,
     value: &mut u64,
 ) -> u32
-    ensures { EffectsGiving (λ v. effectBy (tick seconds v)) info flags keys counts pointers multiplicities windows contents value result }
+    ensures { EffectsGiving (λ v. effect_by (tick seconds v)) info flags keys counts pointers multiplicities windows contents value result }
 {
     let decoding = parameters::tick_call(seconds);
     adapter::perform_without_buffers(
@@ -452,7 +452,7 @@ pub extern "C" fn negvask_count_free(
     contents: &mut [u8],
     value: &mut u64,
 ) -> u32
-    ensures { EffectsGiving (λ v. effectBy (free v)) info flags keys counts pointers multiplicities windows contents value result }
+    ensures { EffectsGiving (λ v. effect_by (free v)) info flags keys counts pointers multiplicities windows contents value result }
 {
     let decoding = parameters::free_call();
     adapter::perform_without_buffers(
@@ -482,7 +482,7 @@ pub extern "C" fn negvask_audit(
     windows: &mut [u64],
     contents: &mut [u8],
 ) -> u32
-    ensures { Effects (effectBy audit) info flags keys counts pointers multiplicities windows contents result [] [] }
+    ensures { Effects (effect_by audit) info flags keys counts pointers multiplicities windows contents result [] [] }
 {
     let decoding = parameters::audit_call();
     let mut value = 0;
@@ -515,7 +515,7 @@ pub extern "C" fn negvask_rent(
     price: u32,
     cents: &mut u64,
 ) -> u32
-    ensures { EffectsGiving (λ v. effectBy (rent price v)) info flags keys counts pointers multiplicities windows contents cents result }
+    ensures { EffectsGiving (λ v. effect_by (rent price v)) info flags keys counts pointers multiplicities windows contents cents result }
 {
     let decoding = parameters::rent_call(price);
     adapter::perform_without_buffers(
@@ -547,7 +547,7 @@ pub extern "C" fn negvask_sweep(
     most: u32,
     swept: &mut u64,
 ) -> u32
-    ensures { EffectsGiving (λ v. effectBy (sweep most v)) info flags keys counts pointers multiplicities windows contents swept result }
+    ensures { EffectsGiving (λ v. effect_by (sweep most v)) info flags keys counts pointers multiplicities windows contents swept result }
 {
     let decoding = parameters::sweep_call(most);
     adapter::perform_without_buffers(
@@ -582,7 +582,7 @@ pub extern "C" fn negvask_format(
     roots: u64,
     bytes: u64,
 ) -> u32
-    ensures { Effects (formatEffect blocks roots bytes) info flags keys counts pointers multiplicities windows contents result [] [] }
+    ensures { Effects (format_effect blocks roots bytes) info flags keys counts pointers multiplicities windows contents result [] [] }
 {
     if info.len() != parameters::RECORD_LENGTH {
         return 1;
@@ -621,7 +621,7 @@ pub extern "C" fn negvask_reach(
     places: &mut [u16],
     value: &mut u64,
 ) -> u32
-    ensures { EffectsListing (reachEffect given.now) info flags keys counts pointers multiplicities windows contents places value result }
+    ensures { EffectsListing (reach_effect given.now) info flags keys counts pointers multiplicities windows contents places value result }
 {
     if info.len() != parameters::RECORD_LENGTH {
         return 1;
@@ -657,7 +657,7 @@ pub extern "C" fn negvask_unlocking(
     places: &mut [u16],
     value: &mut u64,
 ) -> u32
-    ensures { EffectsListing (unlockingEffect given.now block) info flags keys counts pointers multiplicities windows contents places value result }
+    ensures { EffectsListing (unlocking_effect given.now block) info flags keys counts pointers multiplicities windows contents places value result }
 {
     if info.len() != parameters::RECORD_LENGTH {
         return 1;
@@ -698,7 +698,7 @@ pub extern "C" fn negvask_serve(
     places: &mut [u16],
     value: &mut u64,
 ) -> u32
-    ensures { EffectsLent (λ o p v. effectBy (serve port kind body.now o p v)) info flags keys counts pointers multiplicities windows contents out places value result }
+    ensures { EffectsLent (λ o p v. effect_by (serve port kind body.now o p v)) info flags keys counts pointers multiplicities windows contents out places value result }
 {
     let parsed = parameters::decode_at(port, kind, body);
     let decoding = parsed.decoding;
@@ -725,7 +725,7 @@ pub extern "C" fn negvask_serve(
 
 // Why a batch stopped: 13, or numbers that no refusal has.
 fn stop_number(stop: Stop) -> u32
-    ensures { result ≡ stopNumber stop }
+    ensures { result ≡ stop_number stop }
 {
     match stop {
         Stop::Went => 0,

@@ -2,9 +2,9 @@
 ghost use Rattle.std.specs.Prelude.{◌≡◌, [], ◌+◌, ◌*◌, ◌≤◌, length, set};
 ghost use Rattle.card.specs.Lent.{Performs, lent};
 ghost use Rattle.card.specs.SoundCard.{SoundCard};
-ghost use Rattle.card.specs.Plan.{isPresent, high_word, low_word, otherMode, keyBit, keyedFlags, replaceKey};
+ghost use Rattle.card.specs.Plan.{is_present, high_word, low_word, other_mode, key_bit, keyed_flags, replace_key};
 ghost use Rattle.card.specs.Calls.{mode_of};
-ghost use Rattle.card.specs.Session.{keyCall, request, performSound};
+ghost use Rattle.card.specs.Session.{key_call, request, perform_sound};
 
 use card::{
     Call, Credential, ForceOperands, Info, KeyOperands, LONGEST_INTERVAL, Mode, NewKey, Outcome,
@@ -14,7 +14,7 @@ use card::{
 // ---- KEY_READ and KEY_WRITE
 
 fn is_present(key: NewKey) -> bool
-    ensures { result ≡ isPresent key }
+    ensures { result ≡ is_present key }
 {
     match key {
         NewKey::Absent => false,
@@ -42,7 +42,7 @@ fn low_word(key: NewKey) -> u64
 
 // The operation that is not this one.
 fn other_mode(mode: Mode) -> Mode
-    ensures { result ≡ otherMode mode }
+    ensures { result ≡ other_mode mode }
 {
     match mode {
         Mode::Reading => Mode::Writing,
@@ -52,7 +52,7 @@ fn other_mode(mode: Mode) -> Mode
 
 // The flag of a key for the mode: 0 where there is none.
 fn key_bit(mode: Mode, there: bool) -> u8
-    ensures { result ≡ keyBit mode there }
+    ensures { result ≡ key_bit mode there }
 {
     if !there {
         return 0;
@@ -65,7 +65,7 @@ fn key_bit(mode: Mode, there: bool) -> u8
 
 // An allocated block's flags byte once its key for the mode is set: the other key's flag is as it was.
 fn keyed_flags(flag: u8, mode: Mode, key: NewKey) -> u8
-    ensures { result ≡ keyedFlags flag mode key }
+    ensures { result ≡ keyed_flags flag mode key }
 {
     let other = other_mode(mode);
     let own_bit = key_bit(mode, is_present(key));
@@ -85,7 +85,7 @@ fn set_words(keys: &mut [u64], at: usize, key: NewKey)
 // The write key stands behind the read key.
 fn replace_key(keys: &mut [u64], mode: Mode, block: usize, key: NewKey)
     requires { 4 * block + 4 ≤ length keys.old }
-    ensures { keys.new ≡ replaceKey keys.old mode block key }
+    ensures { keys.new ≡ replace_key keys.old mode block key }
 {
     let read = 4 * block;
     let write = read + 2;
@@ -110,7 +110,7 @@ pub fn key_sound(
     o: KeyOperands,
 ) -> Outcome
     requires { SoundCard (lent info flags keys counts pointers multiplicities windows contents) }
-    ensures { Performs (λ c. performSound port c (request (keyCall mode o) [] [] [])) info flags keys counts pointers multiplicities windows contents result [] [] }
+    ensures { Performs (λ c. perform_sound port c (request (key_call mode o) [] [] [])) info flags keys counts pointers multiplicities windows contents result [] [] }
 {
     let block = o.block as usize;
     if access::missing(info, flags, block) {
@@ -165,7 +165,7 @@ pub fn renew_sound(
     o: RenewOperands,
 ) -> Outcome
     requires { SoundCard (lent info flags keys counts pointers multiplicities windows contents) }
-    ensures { (port : Port) → Performs (λ c. performSound port c (request (Call.Renew o) [] [] [])) info flags keys counts pointers multiplicities windows contents result [] [] }
+    ensures { (port : Port) → Performs (λ c. perform_sound port c (request (Call.Renew o) [] [] [])) info flags keys counts pointers multiplicities windows contents result [] [] }
 {
     let block = o.block as usize;
     let bad = (1 < o.mode) | (o.interval == 0) | (LONGEST_INTERVAL < o.interval);
@@ -208,7 +208,7 @@ pub fn force_sound(
     o: ForceOperands,
 ) -> Outcome
     requires { SoundCard (lent info flags keys counts pointers multiplicities windows contents) }
-    ensures { (port : Port) → Performs (λ c. performSound port c (request (Call.Force o) [] [] [])) info flags keys counts pointers multiplicities windows contents result [] [] }
+    ensures { (port : Port) → Performs (λ c. perform_sound port c (request (Call.Force o) [] [] [])) info flags keys counts pointers multiplicities windows contents result [] [] }
 {
     let block = o.block as usize;
     if access::missing(info, flags, block) {

@@ -9,40 +9,40 @@ use lib.Seq.{get_or_at}
 use native.Mathlib.Omega.{arith}
 use borrow.Author.Tests.{ltb-true, ltb-false}
 use borrow.Table.Elements.{length_app}
-use Rattle.card.specs.Lists.{numbersBelow}
+use Rattle.card.specs.Lists.{numbers_below}
 use Rattle.card.specs.declared.Port.{Port}
 use Rattle.card.specs.declared.Port.TheVariants.{Host, Service}
-use Rattle.kinds.specs.Kinds.{row, names, kindNumber, among, kind_of, kindLength, bodyLength}
+use Rattle.kinds.specs.Kinds.{row, names, kind_number, among, kind_of, kind_length, body_length}
 use Rattle.kinds.specs.AllKinds.{expected}
 use Rattle.kinds.specs.declared.Length.{Length}
 use Rattle.kinds.specs.declared.Length.TheVariants.{Unknown}
 use Rattle.kinds.proofs.AllKinds.{all_kinds}
 
-count-all : (n : ℕ) → length (numbersBelow (λ kind. true) n) ≡ n
-unfolding numbersBelow
-count-all zero = refl
-count-all (suc n) = omega (arith, length_app (numbersBelow (λ kind. true) n) (n ∷ []), count-all n)
+count_all : (n : ℕ) → length (numbers_below (λ kind. true) n) ≡ n
+unfolding numbers_below
+count_all zero = refl
+count_all (suc n) = omega (arith, length_app (numbers_below (λ kind. true) n) (n ∷ []), count_all n)
 
-number_at : (n k : ℕ) → k < n → get_or (numbersBelow (λ kind. true) n) k 0 ≡ k
-unfolding numbersBelow
+number_at : (n k : ℕ) → k < n → get_or (numbers_below (λ kind. true) n) k 0 ≡ k
+unfolding numbers_below
 number_at zero k h = absurd (omega arith)
 number_at (suc n) k h = go (ltb k n) refl (number_at n k)
   where
-    go : (t : Bool) → ltb k n ≡ t → (k < n → get_or (numbersBelow (λ kind. true) n) k 0 ≡ k) → get_or (numbersBelow (λ kind. true) n ++ (n ∷ [])) k 0 ≡ k
+    go : (t : Bool) → ltb k n ≡ t → (k < n → get_or (numbers_below (λ kind. true) n) k 0 ≡ k) → get_or (numbers_below (λ kind. true) n ++ (n ∷ [])) k 0 ≡ k
     go true e before =
         let low : k < n = ltb-true k n e in
-        get_or-append (numbersBelow (λ kind. true) n) (n ∷ []) 0 k (omega (arith, count-all n)) ∙ before low
+        get_or-append (numbers_below (λ kind. true) n) (n ∷ []) 0 k (omega (arith, count_all n)) ∙ before low
     go false e before =
         let last : k ≡ n = omega (arith, ltb-false k n e) in
-        rw last (get_or_at (numbersBelow (λ kind. true) n) n [] 0 n (count-all n))
+        rw last (get_or_at (numbers_below (λ kind. true) n) n [] 0 n (count_all n))
 
-no-kind-0 : (wire : Port) → bodyLength wire 0 ≡ Unknown
-unfolding row names kindNumber among kind_of kindLength bodyLength
-no-kind-0 Host = refl
-no-kind-0 Service = refl
+no_kind_0 : (wire : Port) → body_length wire 0 ≡ Unknown
+unfolding row names kind_number among kind_of kind_length body_length
+no_kind_0 Host = refl
+no_kind_0 Service = refl
 
-pub expected-at : (wire : Port) (kind : ℕ) → kind < 256 → get_or (expected wire) kind Unknown ≡ bodyLength wire kind
-expected-at wire kind h =
+pub expected_at : (wire : Port) (kind : ℕ) → kind < 256 → get_or (expected wire) kind Unknown ≡ body_length wire kind
+expected_at wire kind h =
     ap (λ (lengths : List Length). get_or lengths kind Unknown) (sym (all_kinds wire))
-    ∙ subst (λ (none : Length). get_or (map (bodyLength wire) (numbersBelow (λ kind. true) 256)) kind none ≡ bodyLength wire (get_or (numbersBelow (λ kind. true) 256) kind 0)) (no-kind-0 wire) (get_or-map (bodyLength wire) (numbersBelow (λ kind. true) 256) kind 0)
-    ∙ ap (bodyLength wire) (number_at 256 kind h)
+    ∙ subst (λ (none : Length). get_or (map (body_length wire) (numbers_below (λ kind. true) 256)) kind none ≡ body_length wire (get_or (numbers_below (λ kind. true) 256) kind 0)) (no_kind_0 wire) (get_or-map (body_length wire) (numbers_below (λ kind. true) 256) kind 0)
+    ∙ ap (body_length wire) (number_at 256 kind h)

@@ -1,83 +1,83 @@
--- `all_kinds` and `lengths-worked-out` as tests, and a row for each mistake in the rules of kinds that a must-fail edit makes: true by the theorem, and
+-- `all_kinds` and `lengths_worked_out` as tests, and a row for each mistake in the rules of kinds that a must-fail edit makes: true by the theorem, and
 -- false with the mistake.
 use Prim.Native.Nat.{ℕ, ◌+◌}
 use mathlib.Core.Path.{◌≡◌, refl, ap}
 use mathlib.Core.Bool.{Bool, true}
 use mathlib.Core.List.{List, map}
-use Rattle.card.specs.Lists.{numbersBelow}
+use Rattle.card.specs.Lists.{numbers_below}
 use Rattle.card.proofs.Computed.Same.{same_list}
 use Rattle.card.proofs.Computed.Row.{Row, refutes, nothing}
-use Rattle.card.proofs.Computed.TestLaws.{true-sameList}
+use Rattle.card.proofs.Computed.TestLaws.{true_same_list}
 use Rattle.card.specs.declared.Port.{Port}
 use Rattle.card.specs.declared.Port.TheVariants.{Host, Service}
-use Rattle.kinds.specs.Kinds.{row, names, kindNumber, length_of, among, kind_of, kindLength, bodyLength}
-use Rattle.kinds.specs.Arithmetic.{number_of, hasCredential, part_of, behindCredential, withoutCredential, operandsAt, lengthsNumbered, lengthsAt}
-use Rattle.kinds.specs.AllKinds.{expected, AllKinds, workedOut, LengthsWorkedOut}
+use Rattle.kinds.specs.Kinds.{row, names, kind_number, length_of, among, kind_of, kind_length, body_length}
+use Rattle.kinds.specs.Arithmetic.{number_of, has_credential, part_of, behind_credential, without_credential, operands_at, lengths_numbered, lengths_at}
+use Rattle.kinds.specs.AllKinds.{expected, AllKinds, worked_out, LengthsWorkedOut}
 use Rattle.kinds.specs.declared.Length.{Length}
 use Rattle.kinds.specs.declared.Length.TheVariants.{Bytes, Unknown}
 
 -- A length as a number, 0 where there is none.
-abbrev lengthNumber : Length → ℕ
-lengthNumber (Bytes n) = n + 1
-lengthNumber Unknown = 0
+abbrev length_number : Length → ℕ
+length_number (Bytes n) = n + 1
+length_number Unknown = 0
 
 abbrev numbers : List Length → List ℕ
-numbers lengths = map lengthNumber lengths
+numbers lengths = map length_number lengths
 
-abbrev expectedOf : (ℕ → Length) → Port → Bool
-expectedOf lengthOfKind wire = same_list (numbers (map lengthOfKind (numbersBelow (λ kind. true) 256))) (numbers (expected wire))
+abbrev expected_of : (ℕ → Length) → Port → Bool
+expected_of lengthOfKind wire = same_list (numbers (map lengthOfKind (numbers_below (λ kind. true) 256))) (numbers (expected wire))
 
-abbrev pub allKindsTest : Port → Bool
-allKindsTest wire = expectedOf (bodyLength wire) wire
+abbrev pub all_kinds_test : Port → Bool
+all_kinds_test wire = expected_of (body_length wire) wire
 
-pub all-kinds-tests : AllKinds → (wire : Port) → allKindsTest wire ≡ true
-all-kinds-tests statement wire = true-sameList (ap numbers (statement wire))
+pub all_kinds_tests : AllKinds → (wire : Port) → all_kinds_test wire ≡ true
+all_kinds_tests statement wire = true_same_list (ap numbers (statement wire))
 
-abbrev allKindsRow : Port → Row AllKinds
-allKindsRow wire = record { test = allKindsTest wire; follows = λ statement. all-kinds-tests statement wire }
+abbrev all_kinds_row : Port → Row AllKinds
+all_kinds_row wire = record { test = all_kinds_test wire; follows = λ statement. all_kinds_tests statement wire }
 
-abbrev pub lengthsWorkedOutTest : Port → Bool
-lengthsWorkedOutTest wire = expectedOf (workedOut wire) wire
+abbrev pub lengths_worked_out_test : Port → Bool
+lengths_worked_out_test wire = expected_of (worked_out wire) wire
 
-pub lengths-worked-out-tests : LengthsWorkedOut → (wire : Port) → lengthsWorkedOutTest wire ≡ true
-lengths-worked-out-tests statement wire = true-sameList (ap numbers (statement wire))
+pub lengths_worked_out_tests : LengthsWorkedOut → (wire : Port) → lengths_worked_out_test wire ≡ true
+lengths_worked_out_tests statement wire = true_same_list (ap numbers (statement wire))
 
-abbrev lengthsWorkedOutRow : Port → Row LengthsWorkedOut
-lengthsWorkedOutRow wire = record { test = lengthsWorkedOutTest wire; follows = λ statement. lengths-worked-out-tests statement wire }
+abbrev lengths_worked_out_row : Port → Row LengthsWorkedOut
+lengths_worked_out_row wire = record { test = lengths_worked_out_test wire; follows = λ statement. lengths_worked_out_tests statement wire }
 
 -- ---- rows
 
 -- To compute a row, its proof unfolds this one name.
 unfoldable computing : Unit {0}
-unfolding numbersBelow same_list row names kindNumber length_of among kind_of kindLength bodyLength number_of hasCredential part_of behindCredential withoutCredential operandsAt lengthsNumbered lengthsAt
+unfolding numbers_below same_list row names kind_number length_of among kind_of kind_length body_length number_of has_credential part_of behind_credential without_credential operands_at lengths_numbered lengths_at
 computing = tt
 
-abbrev renew-at-the-service-port : Row AllKinds
-renew-at-the-service-port = allKindsRow Service
+abbrev renew_at_the_service_port : Row AllKinds
+renew_at_the_service_port = all_kinds_row Service
 
-abbrev service-kinds-exist-at-the-host-port : Row AllKinds
-service-kinds-exist-at-the-host-port = allKindsRow Host
+abbrev service_kinds_exist_at_the_host_port : Row AllKinds
+service_kinds_exist_at_the_host_port = all_kinds_row Host
 
-abbrev alloc-contig-of-kind-13 : Row AllKinds
-alloc-contig-of-kind-13 = allKindsRow Host
+abbrev alloc_contig_of_kind_13 : Row AllKinds
+alloc_contig_of_kind_13 = all_kinds_row Host
 
-abbrev key-write-of-kind-15 : Row AllKinds
-key-write-of-kind-15 = allKindsRow Host
+abbrev key_write_of_kind_15 : Row AllKinds
+key_write_of_kind_15 = all_kinds_row Host
 
-abbrev key-body-of-53 : Row AllKinds
-key-body-of-53 = allKindsRow Host
+abbrev key_body_of_53 : Row AllKinds
+key_body_of_53 = all_kinds_row Host
 
-abbrev key-write-for-hosts-alone : Row AllKinds
-key-write-for-hosts-alone = allKindsRow Service
+abbrev key_write_for_hosts_alone : Row AllKinds
+key_write_for_hosts_alone = all_kinds_row Service
 
-abbrev alloc-one-byte-short : Row LengthsWorkedOut
-alloc-one-byte-short = lengthsWorkedOutRow Service
+abbrev alloc_one_byte_short : Row LengthsWorkedOut
+alloc_one_byte_short = lengths_worked_out_row Service
 
-abbrev renew-one-byte-short : Row LengthsWorkedOut
-renew-one-byte-short = lengthsWorkedOutRow Host
+abbrev renew_one_byte_short : Row LengthsWorkedOut
+renew_one_byte_short = lengths_worked_out_row Host
 
-abbrev service-length-of-the-next-call : Row LengthsWorkedOut
-service-length-of-the-next-call = lengthsWorkedOutRow Service
+abbrev service_length_of_the_next_call : Row LengthsWorkedOut
+service_length_of_the_next_call = lengths_worked_out_row Service
 
 -- ---- the row of an edit
 

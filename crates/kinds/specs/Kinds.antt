@@ -44,34 +44,34 @@ abbrev pub kind_at : Port → Row → ℕ
 kind_at Host (kind body length payload extra) = kind
 kind_at Service (kind body length payload extra) = 128 + kind
 
-abbrev pub rowLength : Row → ℕ
-rowLength (kind body length payload extra) = length
+abbrev pub row_length : Row → ℕ
+row_length (kind body length payload extra) = length
 
-abbrev pub rowPayload : Row → ℕ
-rowPayload (kind body length payload extra) = extra
+abbrev pub row_payload : Row → ℕ
+row_payload (kind body length payload extra) = extra
 
-unfoldable pub kindNumber : Port → Name → ℕ
-kindNumber port name = kind_at port (row name)
+unfoldable pub kind_number : Port → Name → ℕ
+kind_number port name = kind_at port (row name)
 
 unfoldable pub length_of : Name → ℕ
-length_of name = rowLength (row name)
+length_of name = row_length (row name)
 
-unfoldable pub dataLength : Name → ℕ
-dataLength name = rowPayload (row name)
+unfoldable pub data_length : Name → ℕ
+data_length name = row_payload (row name)
 
 -- The length of a call's operands, which come first in its body.
-unfoldable pub operandsLength : Name → ℕ
-operandsLength name = length_of name - dataLength name
+unfoldable pub operands_length : Name → ℕ
+operands_length name = length_of name - data_length name
 
-abbrev pub lengthsAre : ℕ → ℕ → Lengths
-lengthsAre operands whole = record { operands = operands; body = whole }
+abbrev pub lengths_are : ℕ → ℕ → Lengths
+lengths_are operands whole = record { operands = operands; body = whole }
 
-unfoldable pub lengthsOf : Name → Lengths
-lengthsOf name = lengthsAre (operandsLength name) (length_of name)
+unfoldable pub lengths_of : Name → Lengths
+lengths_of name = lengths_are (operands_length name) (length_of name)
 
 -- The call has a kind at the port.
-unfoldable pub hasKind : Port → Name → Bool
-hasKind port name = contains (kindNumber port name) (map (kindNumber port) (names port))
+unfoldable pub has_kind : Port → Name → Bool
+has_kind port name = contains (kind_number port name) (map (kind_number port) (names port))
 
 -- A record that arrives at the port may be a call at the other: all are taken at the service port, a host's alone at the host port.
 unfoldable pub takes : Port → Port → Bool
@@ -82,7 +82,7 @@ takes Service port = true
 -- The call among those of a port whose kind is the number, or else another answer.
 unfoldable pub among : ℕ → Port → List Name → Kind → Kind
 among kind port [] other = other
-among kind port (name ∷ rest) other = cond (eqb kind (kindNumber port name)) (Known port name) (among kind port rest other)
+among kind port (name ∷ rest) other = cond (eqb kind (kind_number port name)) (Known port name) (among kind port rest other)
 
 -- What a byte of kind says that arrives at a port: the port of its call, and the call.
 -- At the service port both sorts are taken; at the host port a kind of the service port is a kind that does not exist.
@@ -90,10 +90,10 @@ unfoldable pub kind_of : Port → ℕ → Kind
 kind_of Host kind = among kind Host (names Host) Unknown
 kind_of Service kind = among kind Host (names Host) (among kind Service (names Service) Unknown)
 
-unfoldable pub kindLength : Kind → Length
-kindLength (Known port name) = Bytes (length_of name)
-kindLength Unknown = UnknownLength
+unfoldable pub kind_length : Kind → Length
+kind_length (Known port name) = Bytes (length_of name)
+kind_length Unknown = UnknownLength
 
 -- The length of a kind's body, where there is such a kind at the port.
-unfoldable pub bodyLength : Port → ℕ → Length
-bodyLength wire kind = kindLength (kind_of wire kind)
+unfoldable pub body_length : Port → ℕ → Length
+body_length wire kind = kind_length (kind_of wire kind)

@@ -12,53 +12,53 @@ use Rattle.card.specs.Contents.{overwrite, part, fill}
 -- ---- overwrite
 
 module _ (xs : List ℕ) (at : ℕ) (ys : List ℕ) (fits : at + length ys ≤ length xs) where
-  pub overwrite-length : length (overwrite xs at ys) ≡ length xs
+  pub overwrite_length : length (overwrite xs at ys) ≡ length xs
   unfolding overwrite
-  overwrite-length = simp (length-append, length-take, length-drop) (omega arith)
+  overwrite_length = simp (length-append, length-take, length-drop) (omega arith)
 
   -- Before the part.
-  overwrite-before : (i : ℕ) → i < at → get_or (overwrite xs at ys) i 0 ≡ get_or xs i 0
+  overwrite_before : (i : ℕ) → i < at → get_or (overwrite xs at ys) i 0 ≡ get_or xs i 0
   unfolding overwrite
-  overwrite-before i h =
+  overwrite_before i h =
       get_or-append (take at xs) (ys ++ drop (at + length ys) xs) 0 i (simp length-take (omega arith)) ∙ get_or-take at xs i 0 h
 
   -- At place k of the part.
-  pub overwrite-within : (k : ℕ) → k < length ys → get_or (overwrite xs at ys) (at + k) 0 ≡ get_or ys k 0
+  pub overwrite_within : (k : ℕ) → k < length ys → get_or (overwrite xs at ys) (at + k) 0 ≡ get_or ys k 0
   unfolding overwrite
-  overwrite-within k h =
+  overwrite_within k h =
       let long : length (take at xs) ≡ at = length-take-le at xs (omega arith) in
       subst (λ (n : ℕ). get_or (take at xs ++ (ys ++ drop (at + length ys) xs)) (n + k) 0 ≡ get_or ys k 0) long
       (get_or-append-add (take at xs) (ys ++ drop (at + length ys) xs) k 0 ∙ get_or-append ys (drop (at + length ys) xs) 0 k h)
 
   -- Behind the part.
-  behind-add : (k : ℕ) → get_or (overwrite xs at ys) (at + (length ys + k)) 0 ≡ get_or xs (at + length ys + k) 0
+  behind_add : (k : ℕ) → get_or (overwrite xs at ys) (at + (length ys + k)) 0 ≡ get_or xs (at + length ys + k) 0
   unfolding overwrite
-  behind-add k =
+  behind_add k =
       let long : length (take at xs) ≡ at = length-take-le at xs (omega arith) in
       subst (λ (n : ℕ). get_or (take at xs ++ (ys ++ drop (at + length ys) xs)) (n + (length ys + k)) 0 ≡ get_or xs (at + length ys + k) 0) long
       (get_or-append-add (take at xs) (ys ++ drop (at + length ys) xs) (length ys + k) 0
       ∙ get_or-append-add ys (drop (at + length ys) xs) k 0
       ∙ get_or-drop (at + length ys) xs k 0)
 
-  pub overwrite-behind : (i : ℕ) → at + length ys ≤ i → get_or (overwrite xs at ys) i 0 ≡ get_or xs i 0
-  overwrite-behind i h =
+  pub overwrite_behind : (i : ℕ) → at + length ys ≤ i → get_or (overwrite xs at ys) i 0 ≡ get_or xs i 0
+  overwrite_behind i h =
       let k : ℕ = i - (at + length ys) in
       let e : at + (length ys + k) ≡ i = omega arith in
       let f : at + length ys + k ≡ i = omega arith in
-      ap (λ (n : ℕ). get_or (overwrite xs at ys) n 0) (sym e) ∙ behind-add k ∙ ap (λ (n : ℕ). get_or xs n 0) f
+      ap (λ (n : ℕ). get_or (overwrite xs at ys) n 0) (sym e) ∙ behind_add k ∙ ap (λ (n : ℕ). get_or xs n 0) f
 
   -- The part itself.
-  pub overwrite-part : take (length ys) (drop at (overwrite xs at ys)) ≡ ys
+  pub overwrite_part : take (length ys) (drop at (overwrite xs at ys)) ≡ ys
   unfolding overwrite
-  overwrite-part =
+  overwrite_part =
       ap (take (length ys)) (drop_at (take at xs) (ys ++ drop (at + length ys) xs) at (length-take-le at xs (omega arith)))
       ∙ take_at ys (drop (at + length ys) xs) (length ys) refl
 
 -- ---- a block's part
 
 -- A block below N lies within contents of N × B bytes.
-pub block-fits : {b blocks : ℕ} (bytes : ℕ) → b < blocks → b * bytes + bytes ≤ blocks * bytes
-block-fits {b} {blocks} bytes h = subst (λ (n : ℕ). n ≤ blocks * bytes) (suc-mul b bytes) (mul-le-mul_right bytes h)
+pub block_fits : {b blocks : ℕ} (bytes : ℕ) → b < blocks → b * bytes + bytes ≤ blocks * bytes
+block_fits {b} {blocks} bytes h = subst (λ (n : ℕ). n ≤ blocks * bytes) (suc-mul b bytes) (mul-le-mul_right bytes h)
 
 pub part_length : (bytes : ℕ) (contents : List ℕ) (b : ℕ) → b * bytes + bytes ≤ length contents → length (part bytes contents b) ≡ bytes
 unfolding part
@@ -82,28 +82,28 @@ module _ (bytes : ℕ) (contents : List ℕ) (b : ℕ) (ys : List ℕ) (fits : b
   within : b * bytes + length ys ≤ length contents
   within = omega arith
 
-  pub fill-length : length (fill bytes contents b ys) ≡ length contents
+  pub fill_length : length (fill bytes contents b ys) ≡ length contents
   unfolding fill
-  fill-length = overwrite-length contents (b * bytes) ys within
+  fill_length = overwrite_length contents (b * bytes) ys within
 
   -- The block that is filled.
-  pub part-fill-same : part bytes (fill bytes contents b ys) b ≡ ys
+  pub part_fill_same : part bytes (fill bytes contents b ys) b ≡ ys
   unfolding fill part
-  part-fill-same =
+  part_fill_same =
       subst (λ (n : ℕ). take n (drop (b * bytes) (overwrite contents (b * bytes) ys)) ≡ ys) whole
-      (overwrite-part contents (b * bytes) ys within)
+      (overwrite_part contents (b * bytes) ys within)
 
   -- Another block.
-  pub part-fill-other : (a : ℕ) → (a ≡ b → ⊥) → part bytes (fill bytes contents b ys) a ≡ part bytes contents a
+  pub part_fill_other : (a : ℕ) → (a ≡ b → ⊥) → part bytes (fill bytes contents b ys) a ≡ part bytes contents a
   unfolding fill
-  part-fill-other a other =
-      part_same bytes (overwrite contents (b * bytes) ys) contents a (overwrite-length contents (b * bytes) ys within)
+  part_fill_other a other =
+      part_same bytes (overwrite contents (b * bytes) ys) contents a (overwrite_length contents (b * bytes) ys within)
       (λ i l u.
       ⊎_elim
-      (λ (h : a < b). overwrite-before contents (b * bytes) ys within i (omega (arith, block-fits bytes h)))
+      (λ (h : a < b). overwrite_before contents (b * bytes) ys within i (omega (arith, block_fits bytes h)))
       (λ (h : b ≤ a).
       let g : b < a = omega arith in
-      overwrite-behind contents (b * bytes) ys within i (omega (arith, block-fits bytes g)))
+      overwrite_behind contents (b * bytes) ys within i (omega (arith, block_fits bytes g)))
       (below_or_not a b))
 
 -- Where byte i stands: in a block, and at a place of its part.

@@ -2,38 +2,38 @@
 use Rattle.std.specs.Prelude.{ℕ, ◌≤◌, ◌<◌, ◌≡◌, refl, ◌⊎◌, Bool, true, false, not, cond, [], ◌∷◌, eqb, ltb, leb}
 use Rattle.std.proofs.Common.{ap, inl, inr, ⊎_elim, arith, lt-ltb, le-ltb, le-leb, eq-eqb, ne_eqb, ltb-false, leb-true, eqb-true}
 use Rattle.std.proofs.lemmas.Bool.{eqb-false, not-true}
-use Rattle.laws.specs.ListsLaws.{and_left, and_right, and-true, or_cases, false-unless, absurd-test, every_true, true-every}
+use Rattle.laws.specs.ListsLaws.{and_left, and_right, and_true, or_cases, false_unless, absurd_test, every_true, true_every}
 use Rattle.card.specs.Pointers.{source, destination}
-use Rattle.card.specs.Card.{Public, Card, flag, allocatedFlag, allocated, waiting, free, isRoot, highestMultiplicity}
-use Rattle.card.specs.Soundness.{shape, pointerRight, multiplicityRight, sound, verdict}
+use Rattle.card.specs.Card.{Public, Card, flag, allocated_flag, allocated, waiting, free, is_root, highest_multiplicity}
+use Rattle.card.specs.Soundness.{shape, pointer_right, multiplicity_right, sound, verdict}
 use Rattle.card.specs.SoundCard.{RightPointer, Consistent, SoundCard}
 use Rattle.card.specs.declared.Verdict.{Verdict}
 use Rattle.card.specs.declared.Verdict.TheVariants.{Misshapen, Unsound, Sound}
-pub use Rattle.card.proofs.Computed.SoundLaws.{absentKeyZero-true, allocated-below, keyZero-true, lengths-true, pointedTo-true, ranges-true, rootAllocated-true, shape-true, sound-true, true-absentKeyZero, true-keyZero, true-lengths, true-pointedTo, true-ranges, true-rootAllocated, true-shape, true-sound, true-unallocatedEmpty, unallocatedEmpty-true}
-pub use Rattle.card.proofs.Computed.TestLaws.{free-below, waiting-below}
+pub use Rattle.card.proofs.Computed.SoundLaws.{absent_key_zero_true, allocated_below, key_zero_true, lengths_true, pointed_to_true, ranges_true, root_allocated_true, shape_true, sound_true, true_absent_key_zero, true_key_zero, true_lengths, true_pointed_to, true_ranges, true_root_allocated, true_shape, true_sound, true_unallocated_empty, unallocated_empty_true}
+pub use Rattle.card.proofs.Computed.TestLaws.{free_below, waiting_below}
 
 -- ---- soundness
 
-pub pointerRight-true : (p : Public) (w : ℕ) → pointerRight p w ≡ true → RightPointer p w
-unfolding pointerRight
-pointerRight-true p w e =
-    let h = every_true (allocated p (source w) ∷ allocated p (destination w) ∷ not (isRoot p (destination w)) ∷ not (eqb (source w) (destination w)) ∷ []) e in
+pub pointer_right_true : (p : Public) (w : ℕ) → pointer_right p w ≡ true → RightPointer p w
+unfolding pointer_right
+pointer_right_true p w e =
+    let h = every_true (allocated p (source w) ∷ allocated p (destination w) ∷ not (is_root p (destination w)) ∷ not (eqb (source w) (destination w)) ∷ []) e in
     record {
-      sourceAllocated = h.0;
-      destinationAllocated = h.1.0;
-      noRoot = ltb-false _ _ (not-true _ h.1.1.0);
+      source_allocated = h.0;
+      destination_allocated = h.1.0;
+      no_root = ltb-false _ _ (not-true _ h.1.1.0);
       different = eqb-false _ _ (not-true _ h.1.1.1.0);
     }
 
-pub true-pointerRight : {p : Public} {w : ℕ} → RightPointer p w → pointerRight p w ≡ true
-unfolding pointerRight
-true-pointerRight h =
-    true-every _ (
-      h.sourceAllocated,
+pub true_pointer_right : {p : Public} {w : ℕ} → RightPointer p w → pointer_right p w ≡ true
+unfolding pointer_right
+true_pointer_right h =
+    true_every _ (
+      h.source_allocated,
       (
-        h.destinationAllocated,
+        h.destination_allocated,
         (
-          ap not (le-ltb _ _ h.noRoot),
+          ap not (le-ltb _ _ h.no_root),
           (
             ap not (ne_eqb _ _ h.different),
             tt,
@@ -43,101 +43,101 @@ true-pointerRight h =
     )
 
 -- A right multiplicity is from 1 to 65,535.
-pub multiplicityRight-low : (n : ℕ) → multiplicityRight n ≡ true → 1 ≤ n
-unfolding multiplicityRight
-multiplicityRight-low n e = leb-true _ _ (and_left _ _ e)
+pub multiplicity_right_low : (n : ℕ) → multiplicity_right n ≡ true → 1 ≤ n
+unfolding multiplicity_right
+multiplicity_right_low n e = leb-true _ _ (and_left _ _ e)
 
-pub multiplicityRight-high : (n : ℕ) → multiplicityRight n ≡ true → n ≤ highestMultiplicity
-unfolding multiplicityRight
-multiplicityRight-high n e = leb-true _ _ (and_right (leb 1 n) _ e)
+pub multiplicity_right_high : (n : ℕ) → multiplicity_right n ≡ true → n ≤ highest_multiplicity
+unfolding multiplicity_right
+multiplicity_right_high n e = leb-true _ _ (and_right (leb 1 n) _ e)
 
-pub true-multiplicityRight : (n : ℕ) → 1 ≤ n → n ≤ highestMultiplicity → multiplicityRight n ≡ true
-unfolding multiplicityRight
-true-multiplicityRight n low high = and-true _ _ (le-leb _ _ low) (le-leb _ _ high)
+pub true_multiplicity_right : (n : ℕ) → 1 ≤ n → n ≤ highest_multiplicity → multiplicity_right n ≡ true
+unfolding multiplicity_right
+true_multiplicity_right n low high = and_true _ _ (le-leb _ _ low) (le-leb _ _ high)
 
 -- ---- what soundness gives
 
-pub allocated-flag : (p : Public) (b : ℕ) → allocated p b ≡ true → allocatedFlag (flag p b) ≡ true
+pub allocated_flag_law : (p : Public) (b : ℕ) → allocated p b ≡ true → allocated_flag (flag p b) ≡ true
 unfolding allocated
-allocated-flag p b e = and_right (ltb b p.info.blocks) _ e
+allocated_flag_law p b e = and_right (ltb b p.info.blocks) _ e
 
-pub flag-allocated : (p : Public) (b : ℕ) → b < p.info.blocks → allocatedFlag (flag p b) ≡ true → allocated p b ≡ true
+pub flag_allocated : (p : Public) (b : ℕ) → b < p.info.blocks → allocated_flag (flag p b) ≡ true → allocated p b ≡ true
 unfolding allocated
-flag-allocated p b l e = and-true _ _ (lt-ltb _ _ l) e
+flag_allocated p b l e = and_true _ _ (lt-ltb _ _ l) e
 
-pub free-flag : (p : Public) (b : ℕ) → free p b ≡ true → flag p b ≡ 0
+pub free_flag : (p : Public) (b : ℕ) → free p b ≡ true → flag p b ≡ 0
 unfolding free
-free-flag p b e = eqb-true _ _ (and_right (ltb b p.info.blocks) _ e)
+free_flag p b e = eqb-true _ _ (and_right (ltb b p.info.blocks) _ e)
 
-pub flag-free : (p : Public) (b : ℕ) → b < p.info.blocks → flag p b ≡ 0 → free p b ≡ true
+pub flag_free : (p : Public) (b : ℕ) → b < p.info.blocks → flag p b ≡ 0 → free p b ≡ true
 unfolding free
-flag-free p b l e = and-true _ _ (lt-ltb _ _ l) (eq-eqb _ _ e)
+flag_free p b l e = and_true _ _ (lt-ltb _ _ l) (eq-eqb _ _ e)
 
-pub waiting-flag : (p : Public) (b : ℕ) → waiting p b ≡ true → flag p b ≡ 8
+pub waiting_flag_law : (p : Public) (b : ℕ) → waiting p b ≡ true → flag p b ≡ 8
 unfolding waiting
-waiting-flag p b e = eqb-true _ _ (and_right (ltb b p.info.blocks) _ e)
+waiting_flag_law p b e = eqb-true _ _ (and_right (ltb b p.info.blocks) _ e)
 
-pub flag-waiting : (p : Public) (b : ℕ) → b < p.info.blocks → flag p b ≡ 8 → waiting p b ≡ true
+pub flag_waiting : (p : Public) (b : ℕ) → b < p.info.blocks → flag p b ≡ 8 → waiting p b ≡ true
 unfolding waiting
-flag-waiting p b l e = and-true _ _ (lt-ltb _ _ l) (eq-eqb _ _ e)
+flag_waiting p b l e = and_true _ _ (lt-ltb _ _ l) (eq-eqb _ _ e)
 
-pub free-unallocated : (p : Public) (b : ℕ) → free p b ≡ true → allocated p b ≡ false
+pub free_unallocated : (p : Public) (b : ℕ) → free p b ≡ true → allocated p b ≡ false
 unfolding allocated
-free-unallocated p b e = rw (free-flag p b e, lt-ltb _ _ (free-below p b e)) refl
+free_unallocated p b e = rw (free_flag p b e, lt-ltb _ _ (free_below p b e)) refl
 
-pub waiting-unallocated : (p : Public) (b : ℕ) → waiting p b ≡ true → allocated p b ≡ false
+pub waiting_unallocated : (p : Public) (b : ℕ) → waiting p b ≡ true → allocated p b ≡ false
 unfolding allocated
-waiting-unallocated p b e = rw (waiting-flag p b e, lt-ltb _ _ (waiting-below p b e)) refl
+waiting_unallocated p b e = rw (waiting_flag_law p b e, lt-ltb _ _ (waiting_below p b e)) refl
 
 -- A block of a sound card that is not allocated waits or is free.
-pub unallocated-cases : {c : Card} → Consistent c → (b : ℕ) → b < c.public.info.blocks → allocated c.public b ≡ false
+pub unallocated_cases : {c : Card} → Consistent c → (b : ℕ) → b < c.public.info.blocks → allocated c.public b ≡ false
     → (waiting c.public b ≡ true) ⊎ (free c.public b ≡ true)
-unallocated-cases {c} s b l e =
-    let flagged : allocatedFlag (flag c.public b) ≡ false = false-unless _ (λ a. absurd-test (flag-allocated c.public b l a) e) in
+unallocated_cases {c} s b l e =
+    let flagged : allocated_flag (flag c.public b) ≡ false = false_unless _ (λ a. absurd_test (flag_allocated c.public b l a) e) in
     ⊎_elim
-    (λ z. inr (flag-free c.public b l (eqb-true _ _ z)))
-    (λ w. inl (flag-waiting c.public b l (eqb-true _ _ w)))
-    (or_cases _ _ (s.unallocated b l flagged).freeOrWaiting)
+    (λ z. inr (flag_free c.public b l (eqb-true _ _ z)))
+    (λ w. inl (flag_waiting c.public b l (eqb-true _ _ w)))
+    (or_cases _ _ (s.unallocated b l flagged).free_or_waiting)
 
 -- ---- what each verdict says, and when it is given
 
 -- The verdict on two tests.
-abbrev verdictOn : Bool → Bool → Verdict
-verdictOn s t = cond s (cond t Sound Unsound) Misshapen
+abbrev verdict_on : Bool → Bool → Verdict
+verdict_on s t = cond s (cond t Sound Unsound) Misshapen
 
-on-sound : (s t : Bool) → verdictOn s t ≡ Sound → (s ≡ true) × (t ≡ true)
-on-sound true true e = (refl, refl)
-on-sound true false e = let z : ◌≡◌ {A = ℕ} 0 1 = cc in absurd (omega arith)
-on-sound false t e = let z : ◌≡◌ {A = ℕ} 0 1 = cc in absurd (omega arith)
+on_sound : (s t : Bool) → verdict_on s t ≡ Sound → (s ≡ true) × (t ≡ true)
+on_sound true true e = (refl, refl)
+on_sound true false e = let z : ◌≡◌ {A = ℕ} 0 1 = cc in absurd (omega arith)
+on_sound false t e = let z : ◌≡◌ {A = ℕ} 0 1 = cc in absurd (omega arith)
 
-on-unsound : (s t : Bool) → verdictOn s t ≡ Unsound → (s ≡ true) × (t ≡ false)
-on-unsound true true e = let z : ◌≡◌ {A = ℕ} 0 1 = cc in absurd (omega arith)
-on-unsound true false e = (refl, refl)
-on-unsound false t e = let z : ◌≡◌ {A = ℕ} 0 1 = cc in absurd (omega arith)
+on_unsound : (s t : Bool) → verdict_on s t ≡ Unsound → (s ≡ true) × (t ≡ false)
+on_unsound true true e = let z : ◌≡◌ {A = ℕ} 0 1 = cc in absurd (omega arith)
+on_unsound true false e = (refl, refl)
+on_unsound false t e = let z : ◌≡◌ {A = ℕ} 0 1 = cc in absurd (omega arith)
 
-on-misshapen : (s t : Bool) → verdictOn s t ≡ Misshapen → s ≡ false
-on-misshapen true true e = let z : ◌≡◌ {A = ℕ} 0 1 = cc in absurd (omega arith)
-on-misshapen true false e = let z : ◌≡◌ {A = ℕ} 0 1 = cc in absurd (omega arith)
-on-misshapen false t e = refl
+on_misshapen : (s t : Bool) → verdict_on s t ≡ Misshapen → s ≡ false
+on_misshapen true true e = let z : ◌≡◌ {A = ℕ} 0 1 = cc in absurd (omega arith)
+on_misshapen true false e = let z : ◌≡◌ {A = ℕ} 0 1 = cc in absurd (omega arith)
+on_misshapen false t e = refl
 
-pub verdict-sound : (c : Card) → verdict c ≡ Sound → SoundCard c
+pub verdict_sound : (c : Card) → verdict c ≡ Sound → SoundCard c
 unfolding verdict
-verdict-sound c e =
-    let h = on-sound (shape c) (sound c) e in
-    record { shaped = shape-true c h.0; isSound = sound-true c h.1 }
+verdict_sound c e =
+    let h = on_sound (shape c) (sound c) e in
+    record { shaped = shape_true c h.0; is_sound = sound_true c h.1 }
 
-pub verdict-unsound : (c : Card) → verdict c ≡ Unsound → (shape c ≡ true) × (sound c ≡ false)
+pub verdict_unsound : (c : Card) → verdict c ≡ Unsound → (shape c ≡ true) × (sound c ≡ false)
 unfolding verdict
-verdict-unsound c e = on-unsound (shape c) (sound c) e
+verdict_unsound c e = on_unsound (shape c) (sound c) e
 
-pub verdict-misshapen : (c : Card) → verdict c ≡ Misshapen → shape c ≡ false
+pub verdict_misshapen : (c : Card) → verdict c ≡ Misshapen → shape c ≡ false
 unfolding verdict
-verdict-misshapen c e = on-misshapen (shape c) (sound c) e
+verdict_misshapen c e = on_misshapen (shape c) (sound c) e
 
-pub sound-verdict : {c : Card} → SoundCard c → verdict c ≡ Sound
+pub sound_verdict : {c : Card} → SoundCard c → verdict c ≡ Sound
 unfolding verdict
-sound-verdict h = rw (true-shape h.shaped, true-sound h.isSound) refl
+sound_verdict h = rw (true_shape h.shaped, true_sound h.is_sound) refl
 
-pub misshapen-verdict : (c : Card) → shape c ≡ false → verdict c ≡ Misshapen
+pub misshapen_verdict : (c : Card) → shape c ≡ false → verdict c ≡ Misshapen
 unfolding verdict
-misshapen-verdict c e = rw e refl
+misshapen_verdict c e = rw e refl

@@ -6,9 +6,9 @@ use mathlib.Core.List.{List, [], ◌∷◌}
 use lib.Dec.{eqb, leb}
 use native.Mathlib.Omega.{arith}
 use borrow.Author.Tests.{ne_eqb, lt-ltb, le-ltb}
-use Rattle.kinds.specs.Kinds.{row, names, kindNumber, length_of, lengthsOf, among, kind_of, kindLength, bodyLength}
-use Rattle.kinds.specs.Arithmetic.{number_of, hasCredential, part_of, behindCredential, withoutCredential, operandsAt, lengthsAt}
-use Rattle.kinds.specs.ArithmeticLaws.{kind-lengths}
+use Rattle.kinds.specs.Kinds.{row, names, kind_number, length_of, lengths_of, among, kind_of, kind_length, body_length}
+use Rattle.kinds.specs.Arithmetic.{number_of, has_credential, part_of, behind_credential, without_credential, operands_at, lengths_at}
+use Rattle.kinds.specs.ArithmeticLaws.{kind_lengths}
 use Rattle.kinds.specs.declared.Name.{Name}
 use Rattle.kinds.specs.declared.Lengths.{Lengths}
 use Rattle.kinds.specs.declared.Kind.{Kind}
@@ -18,25 +18,25 @@ use Rattle.card.specs.declared.Port.{Port}
 use Rattle.card.specs.declared.Port.TheVariants.{Host, Service}
 
 -- To compute by the table, a proof unfolds this one name.
-unfoldable pub tableRules : Unit {0}
-unfolding row names kindNumber length_of among kind_of
-tableRules = tt
+unfoldable pub table_rules : Unit {0}
+unfolding row names kind_number length_of among kind_of
+table_rules = tt
 
-pub at-kind : (wire : Port) {k n : ℕ} → k ≡ n → kind_of wire n ≡ kind_of wire k
-at-kind wire e = ap (kind_of wire) (sym e)
+pub at_kind : (wire : Port) {k n : ℕ} → k ≡ n → kind_of wire n ≡ kind_of wire k
+at_kind wire e = ap (kind_of wire) (sym e)
 
 -- By the port that was found.
-pub at-wire : (k : ℕ) {wire port : Port} {r : Kind} → wire ≡ port → r ≡ kind_of port k → r ≡ kind_of wire k
-at-wire k e h = h ∙ ap (λ (p : Port). kind_of p k) (sym e)
+pub at_wire : (k : ℕ) {wire port : Port} {r : Kind} → wire ≡ port → r ≡ kind_of port k → r ≡ kind_of wire k
+at_wire k e h = h ∙ ap (λ (p : Port). kind_of p k) (sym e)
 
 -- The number is none of the list, the last first.
 abbrev pub Apart : ℕ → List ℕ → Type 0
 Apart k [] = Unit {0}
 Apart k (n ∷ ns) = Apart k ns × (k ≡ n → ⊥)
 
-pub unknown-host : (k : ℕ) → Apart k (14 ∷ 13 ∷ 12 ∷ 11 ∷ 10 ∷ 9 ∷ 8 ∷ 7 ∷ 6 ∷ 5 ∷ 4 ∷ 3 ∷ 2 ∷ 1 ∷ []) → Unknown ≡ kind_of Host k
-unfolding tableRules
-unknown-host k h =
+pub unknown_host : (k : ℕ) → Apart k (14 ∷ 13 ∷ 12 ∷ 11 ∷ 10 ∷ 9 ∷ 8 ∷ 7 ∷ 6 ∷ 5 ∷ 4 ∷ 3 ∷ 2 ∷ 1 ∷ []) → Unknown ≡ kind_of Host k
+unfolding table_rules
+unknown_host k h =
     rw (
       ne_eqb k 1 h.0.0.0.0.0.0.0.0.0.0.0.0.0.1,
       ne_eqb k 2 h.0.0.0.0.0.0.0.0.0.0.0.0.1,
@@ -55,9 +55,9 @@ unknown-host k h =
     )
 
 -- Below 128 a kind is the same at both ports.
-pub same-below : (k : ℕ) {r : Kind} → k < 128 → r ≡ kind_of Host k → r ≡ kind_of Service k
-unfolding tableRules
-same-below k l e =
+pub same_below : (k : ℕ) {r : Kind} → k < 128 → r ≡ kind_of Host k → r ≡ kind_of Service k
+unfolding table_rules
+same_below k l e =
     e
     ∙ rw (
       ne_eqb k 129 (λ (e : k ≡ 129). omega arith),
@@ -71,9 +71,9 @@ same-below k l e =
       ne_eqb k 142 (λ (e : k ≡ 142). omega arith),
     )
 
-pub unknown-service : (k : ℕ) → 128 ≤ k → Apart k (142 ∷ 141 ∷ 140 ∷ 134 ∷ 133 ∷ 132 ∷ 131 ∷ 130 ∷ 129 ∷ []) → Unknown ≡ kind_of Service k
-unfolding tableRules
-unknown-service k l h =
+pub unknown_service : (k : ℕ) → 128 ≤ k → Apart k (142 ∷ 141 ∷ 140 ∷ 134 ∷ 133 ∷ 132 ∷ 131 ∷ 130 ∷ 129 ∷ []) → Unknown ≡ kind_of Service k
+unfolding table_rules
+unknown_service k l h =
     rw (
       ne_eqb k 1 (λ (e : k ≡ 1). omega arith),
       ne_eqb k 2 (λ (e : k ≡ 2). omega arith),
@@ -102,46 +102,46 @@ unknown-service k l h =
 
 -- ---- the length of a kind's body
 
-pub number-below : (k : ℕ) → k < 128 → k ≡ number_of k
+pub number_below : (k : ℕ) → k < 128 → k ≡ number_of k
 unfolding number_of
-number-below k l = rw (lt-ltb k 128 l)
+number_below k l = rw (lt-ltb k 128 l)
 
-pub number-above : (k : ℕ) → 128 ≤ k → k - 128 ≡ number_of k
+pub number_above : (k : ℕ) → 128 ≤ k → k - 128 ≡ number_of k
 unfolding number_of
-number-above k l = rw (le-ltb k 128 l)
+number_above k l = rw (le-ltb k 128 l)
 
 -- What a part adds is at most its size.
-pub part-most : (has : Bool) (size : ℕ) {r : ℕ} → r ≡ part_of has size → r ≤ size
+pub part_most : (has : Bool) (size : ℕ) {r : ℕ} → r ≡ part_of has size → r ≤ size
 unfolding part_of
-part-most true size e = omega arith
-part-most false size e = omega arith
+part_most true size e = omega arith
+part_most false size e = omega arith
 
-pub behind-most : (call : ℕ) {r : ℕ} → r ≡ behindCredential call → r ≤ 45
-unfolding behindCredential
-behind-most call e =
+pub behind_most : (call : ℕ) {r : ℕ} → r ≡ behind_credential call → r ≤ 45
+unfolding behind_credential
+behind_most call e =
     omega (
       arith,
-      part-most (leb call 2) 4 refl,
-      part-most (eqb call 3 || eqb call 12) 3 refl,
-      part-most (eqb call 4) 19 refl,
-      part-most (eqb call 5 || eqb call 14) 2 refl,
-      part-most (eqb call 6 || eqb call 13) 17 refl,
+      part_most (leb call 2) 4 refl,
+      part_most (eqb call 3 || eqb call 12) 3 refl,
+      part_most (eqb call 4) 19 refl,
+      part_most (eqb call 5 || eqb call 14) 2 refl,
+      part_most (eqb call 6 || eqb call 13) 17 refl,
     )
 
-pub without-most : (call : ℕ) {r : ℕ} → r ≡ withoutCredential call → r ≤ 33
-unfolding withoutCredential
-without-most call e = omega (arith, part-most (eqb call 7) 23 refl, part-most (eqb call 8) 2 refl, part-most (eqb call 10) 8 refl)
+pub without_most : (call : ℕ) {r : ℕ} → r ≡ without_credential call → r ≤ 33
+unfolding without_credential
+without_most call e = omega (arith, part_most (eqb call 7) 23 refl, part_most (eqb call 8) 2 refl, part_most (eqb call 10) 8 refl)
 
-pub operands-most : (call : ℕ) {r : ℕ} → r ≡ operandsAt call → r ≤ 97
-unfolding operandsAt
-operands-most call e = omega (arith, part-most (hasCredential call) 19 refl, behind-most call refl, without-most call refl)
+pub operands_most : (call : ℕ) {r : ℕ} → r ≡ operands_at call → r ≤ 97
+unfolding operands_at
+operands_most call e = omega (arith, part_most (has_credential call) 19 refl, behind_most call refl, without_most call refl)
 
-pub known-length : (wire : Port) (k : ℕ) {l : Lengths} {r : Kind} {port : Port} {name : Name}
-    → r ≡ kind_of wire k → r ≡ Known port name → l ≡ lengthsAt k
-    → Bytes l.body ≡ bodyLength wire k
-unfolding bodyLength kindLength lengthsOf
-known-length wire k e q h = rw (← e, q, kind-lengths wire k e q h)
+pub known_length : (wire : Port) (k : ℕ) {l : Lengths} {r : Kind} {port : Port} {name : Name}
+    → r ≡ kind_of wire k → r ≡ Known port name → l ≡ lengths_at k
+    → Bytes l.body ≡ body_length wire k
+unfolding body_length kind_length lengths_of
+known_length wire k e q h = rw (← e, q, kind_lengths wire k e q h)
 
-pub unknown-length : (wire : Port) (k : ℕ) {r : Kind} → r ≡ kind_of wire k → r ≡ Unknown → UnknownLength ≡ bodyLength wire k
-unfolding bodyLength kindLength
-unknown-length wire k e q = rw (← e, q)
+pub unknown_length : (wire : Port) (k : ℕ) {r : Kind} → r ≡ kind_of wire k → r ≡ Unknown → UnknownLength ≡ body_length wire k
+unfolding body_length kind_length
+unknown_length wire k e q = rw (← e, q)

@@ -2,8 +2,8 @@
 // What is right is defined in crates/kinds/specs/.
 ghost use Rattle.std.specs.Prelude.{◌≡◌, ◌≤◌};
 ghost use Rattle.card.specs.declared.Port.TheVariants.{Host, Service};
-ghost use Rattle.kinds.specs.Kinds.{kind_of, bodyLength};
-ghost use Rattle.kinds.specs.Arithmetic.{number_of, hasCredential, part_of, behindCredential, withoutCredential, operandsAt, lengthsAt};
+ghost use Rattle.kinds.specs.Kinds.{kind_of, body_length};
+ghost use Rattle.kinds.specs.Arithmetic.{number_of, has_credential, part_of, behind_credential, without_credential, operands_at, lengths_at};
 
 use card::Port;
 use kinds::{Kind, Length, Lengths, Name};
@@ -106,7 +106,7 @@ fn number_of(kind: u8) -> u8
 
 // READ to KEY_READ, ALLOC_CONTIG, KEY_WRITE and DELETE_TREE have one, for the block that they name first.
 fn has_credential(call: u8) -> bool
-    ensures { result ≡ hasCredential call }
+    ensures { result ≡ has_credential call }
 {
     (call <= 6) | (12 <= call)
 }
@@ -120,7 +120,7 @@ fn part_of(has: bool, size: usize) -> usize
 
 // What follows the credential: of READ and WRITE, ALLOC and ALLOC_CONTIG, CREATE, DELETE and DELETE_TREE, KEY_READ and KEY_WRITE.
 fn behind_credential(call: u8) -> usize
-    ensures { result ≡ behindCredential call }
+    ensures { result ≡ behind_credential call }
 {
     part_of(call <= 2, INTERVAL)
         + part_of((call == 3) | (call == 12), BLOCK + COUNT)
@@ -131,7 +131,7 @@ fn behind_credential(call: u8) -> usize
 
 // The operands of RENEW, of FORCE and of TICK.
 fn without_credential(call: u8) -> usize
-    ensures { result ≡ withoutCredential call }
+    ensures { result ≡ without_credential call }
 {
     part_of(call == 7, MODE + BLOCK + BARE_KEY + INTERVAL)
         + part_of(call == 8, BLOCK)
@@ -139,7 +139,7 @@ fn without_credential(call: u8) -> usize
 }
 
 fn operands_length(call: u8) -> usize
-    ensures { result ≡ operandsAt call }
+    ensures { result ≡ operands_at call }
 {
     part_of(has_credential(call), BLOCK + CREDENTIAL)
         + behind_credential(call)
@@ -148,7 +148,7 @@ fn operands_length(call: u8) -> usize
 
 // The lengths of a kind's operands, which come first in its body, and of the body. WRITE's data follow its operands.
 pub fn lengths_at(kind: u8) -> Lengths
-    ensures { result ≡ lengthsAt kind }
+    ensures { result ≡ lengths_at kind }
 {
     let call = number_of(kind);
     let operands = operands_length(call);
@@ -160,7 +160,7 @@ pub fn lengths_at(kind: u8) -> Lengths
 
 // The length of a kind's body, where there is such a kind at the port.
 pub fn body_length(wire: Port, kind: u8) -> Length
-    ensures { result ≡ bodyLength wire kind }
+    ensures { result ≡ body_length wire kind }
 {
     let known = kind_of(wire, kind);
     match known {

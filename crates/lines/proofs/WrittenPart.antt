@@ -8,26 +8,26 @@ use native.Mathlib.Numerals.{add-one}
 use lib.ListN.{length, take, get_or, length-append}
 use lib.Seq.{take-suc, take_all}
 use Rattle.lines.specs.Lines.{digit, space, decimal, spaced}
-use Rattle.lines.specs.LinesLaws.{decimal-small, decimal-large, spaced-one, spaced-more}
+use Rattle.lines.specs.LinesLaws.{decimal_small, decimal_large, spaced_one, spaced_more}
 use Rattle.lines.specs.Written.{Written}
-use Rattle.lines.specs.WrittenLaws.{written_none, written-join, written-length}
+use Rattle.lines.specs.WrittenLaws.{written_none, written_join, written_length}
 
 -- ---- numbers written
 
 pub written_small : {xs ys : List ℕ} {at behind : ℕ} (n : ℕ) → n < 10 → Written xs at (digit n ∷ []) ys behind → Written xs at (decimal n) ys behind
-written_small n h w = rw (decimal-small n h) w
+written_small n h w = rw (decimal_small n h) w
 
-pub written-large : {before middle after : List ℕ} {at next behind : ℕ} (n : ℕ) → 10 ≤ n → n < 2 ^ 64 → at + length (decimal n) ≤ length before
+pub written_large : {before middle after : List ℕ} {at next behind : ℕ} (n : ℕ) → 10 ≤ n → n < 2 ^ 64 → at + length (decimal n) ≤ length before
     → Written before at (decimal (n / 10)) middle next → Written middle next (digit (n % 10) ∷ []) after behind → Written before at (decimal n) after behind
-written-large n h l fits a b =
-    rw (decimal-large n h l) (written-join a b (omega (arith, ap length (decimal-large n h l), length-append (decimal (n / 10)) (digit (n % 10) ∷ []))))
+written_large n h l fits a b =
+    rw (decimal_large n h l) (written_join a b (omega (arith, ap length (decimal_large n h l), length-append (decimal (n / 10)) (digit (n % 10) ∷ []))))
 
 -- Room for a number is room for its front, and one byte behind that.
-pub room-front : (n at size : ℕ) → 10 ≤ n → n < 2 ^ 64 → at + length (decimal n) ≤ size → at + length (decimal (n / 10)) + 1 ≤ size
-room-front n at size h l fits = omega (arith, ap length (decimal-large n h l), length-append (decimal (n / 10)) (digit (n % 10) ∷ []))
+pub room_front : (n at size : ℕ) → 10 ≤ n → n < 2 ^ 64 → at + length (decimal n) ≤ size → at + length (decimal (n / 10)) + 1 ≤ size
+room_front n at size h l fits = omega (arith, ap length (decimal_large n h l), length-append (decimal (n / 10)) (digit (n % 10) ∷ []))
 
-pub room-one : (n at size : ℕ) → n < 10 → at + length (decimal n) ≤ size → at + 1 ≤ size
-room-one n at size h fits = omega (arith, ap length (decimal-small n h))
+pub room_one : (n at size : ℕ) → n < 10 → at + length (decimal n) ≤ size → at + 1 ≤ size
+room_one n at size h fits = omega (arith, ap length (decimal_small n h))
 
 -- ---- a table written one element after the other
 
@@ -42,17 +42,17 @@ module _ (each count : ℕ) (bytes : ℕ → List ℕ) (before : List ℕ) (at :
   pub part_none : bytes 0 ≡ [] → at + each * count ≤ length before → WrittenPart each count bytes before at before at 0
   part_none e h = record { passed = omega arith; kept = refl; written = rw e (written_none before at); room = rw sub-zero h }
 
-  pub part-more : {to after : List ℕ} {next behind i : ℕ} (more : List ℕ) → WrittenPart each count bytes before at to next i → i < count → length more ≤ each
+  pub part_more : {to after : List ℕ} {next behind i : ℕ} (more : List ℕ) → WrittenPart each count bytes before at to next i → i < count → length more ≤ each
       → bytes (i + 1) ≡ bytes i ++ more → Written to next more after behind → WrittenPart each count bytes before at after behind (i + 1)
-  part-more {to} {after} {next} {behind} {i} more f h short e w =
+  part_more {to} {after} {next} {behind} {i} more f h short e w =
       let left : each * (count - i) ≡ each * (count - (i + 1)) + each =
       ap (λ (n : ℕ). each * n) (omega arith) ∙ mul-suc each (count - (i + 1)) in
       let fits : next + length more ≤ length to = omega (arith, f.room) in
       record {
         passed = omega arith;
-        kept = written-length w fits ∙ f.kept;
-        written = rw e (written-join f.written w (omega (arith, f.written.ends, f.kept)));
-        room = omega (arith, w.ends, f.room, written-length w fits);
+        kept = written_length w fits ∙ f.kept;
+        written = rw e (written_join f.written w (omega (arith, f.written.ends, f.kept)));
+        room = omega (arith, w.ends, f.room, written_length w fits);
       }
 
 -- One more byte of a text.
@@ -64,21 +64,21 @@ take_more xs i h = rw add-one (take-suc xs i 0 h)
 abbrev pub Spacing : List ℕ → List ℕ → ℕ → List ℕ → ℕ → ℕ → Type 0
 Spacing values = WrittenPart 21 (length values) (λ k. spaced (take k values))
 
-pub spacing-none : (values before : List ℕ) (at : ℕ) → at + 21 * length values ≤ length before → Spacing values before at before at 0
+pub spacing_none : (values before : List ℕ) (at : ℕ) → at + 21 * length values ≤ length before → Spacing values before at before at 0
 unfolding spaced
-spacing-none values before at h = part_none 21 (length values) (λ k. spaced (take k values)) before at refl h
+spacing_none values before at h = part_none 21 (length values) (λ k. spaced (take k values)) before at refl h
 
-pub spacing-room : (values : List ℕ) {before to : List ℕ} {at next i : ℕ} → Spacing values before at to next i → i < length values → next + 21 ≤ length to
-spacing-room values f h = omega (arith, f.room)
+pub spacing_room : (values : List ℕ) {before to : List ℕ} {at next i : ℕ} → Spacing values before at to next i → i < length values → next + 21 ≤ length to
+spacing_room values f h = omega (arith, f.room)
 
-pub spacing-more : (values before : List ℕ) (at : ℕ) {to after : List ℕ} {next behind i n : ℕ} → Spacing values before at to next i → i < length values
+pub spacing_more : (values before : List ℕ) (at : ℕ) {to after : List ℕ} {next behind i n : ℕ} → Spacing values before at to next i → i < length values
     → n ≡ get_or values i 0 → Written to next (space ∷ decimal n) after behind → Spacing values before at after behind (i + 1)
-spacing-more values before at {i = i} {n = n} f h e w =
-    part-more 21 (length values) (λ k. spaced (take k values)) before at (space ∷ decimal n) f h (spaced-one n)
-    (spaced-more values i h ∙ ap (λ (k : ℕ). spaced (take i values) ++ (space ∷ decimal k)) (sym e)) w
+spacing_more values before at {i = i} {n = n} f h e w =
+    part_more 21 (length values) (λ k. spaced (take k values)) before at (space ∷ decimal n) f h (spaced_one n)
+    (spaced_more values i h ∙ ap (λ (k : ℕ). spaced (take i values) ++ (space ∷ decimal k)) (sym e)) w
 
-pub spacing-done : (values : List ℕ) {before to : List ℕ} {at next i : ℕ} → Spacing values before at to next i → length values ≤ i → Written before at (spaced values) to next
-spacing-done values {before} {to} {at} {next} {i} f h =
+pub spacing_done : (values : List ℕ) {before to : List ℕ} {at next i : ℕ} → Spacing values before at to next i → length values ≤ i → Written before at (spaced values) to next
+spacing_done values {before} {to} {at} {next} {i} f h =
     subst (λ (xs : List ℕ). Written before at (spaced xs) to next) (take_all i values h) f.written
 
 -- ---- a text
@@ -86,16 +86,16 @@ spacing-done values {before} {to} {at} {next} {i} f h =
 abbrev pub Copying : List ℕ → List ℕ → ℕ → List ℕ → ℕ → ℕ → Type 0
 Copying text = WrittenPart 1 (length text) (λ k. take k text)
 
-pub copying-none : (text before : List ℕ) (at : ℕ) → at + length text ≤ length before → Copying text before at before at 0
-copying-none text before at h = part_none 1 (length text) (λ k. take k text) before at refl (omega arith)
+pub copying_none : (text before : List ℕ) (at : ℕ) → at + length text ≤ length before → Copying text before at before at 0
+copying_none text before at h = part_none 1 (length text) (λ k. take k text) before at refl (omega arith)
 
-pub copying-room : {text before to : List ℕ} {at next i : ℕ} → Copying text before at to next i → i < length text → next + 1 ≤ length to
-copying-room f h = omega (arith, f.room)
+pub copying_room : {text before to : List ℕ} {at next i : ℕ} → Copying text before at to next i → i < length text → next + 1 ≤ length to
+copying_room f h = omega (arith, f.room)
 
-pub copying-more : (text before : List ℕ) (at : ℕ) {to after : List ℕ} {next behind i : ℕ} → Copying text before at to next i → i < length text
+pub copying_more : (text before : List ℕ) (at : ℕ) {to after : List ℕ} {next behind i : ℕ} → Copying text before at to next i → i < length text
     → Written to next (get_or text i 0 ∷ []) after behind → Copying text before at after behind (i + 1)
-copying-more text before at {i = i} f h w =
-    part-more 1 (length text) (λ k. take k text) before at (get_or text i 0 ∷ []) f h (omega arith) (take_more text i h) w
+copying_more text before at {i = i} f h w =
+    part_more 1 (length text) (λ k. take k text) before at (get_or text i 0 ∷ []) f h (omega arith) (take_more text i h) w
 
-pub copying-done : {text before to : List ℕ} {at next i : ℕ} → Copying text before at to next i → length text ≤ i → Written before at text to next
-copying-done {text} {before} {to} {at} {next} {i} f h = subst (λ (xs : List ℕ). Written before at xs to next) (take_all i text h) f.written
+pub copying_done : {text before to : List ℕ} {at next i : ℕ} → Copying text before at to next i → length text ≤ i → Written before at text to next
+copying_done {text} {before} {to} {at} {next} {i} f h = subst (λ (xs : List ℕ). Written before at xs to next) (take_all i text h) f.written

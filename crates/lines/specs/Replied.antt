@@ -16,23 +16,23 @@ pub record BuffersFit (out places : List ℕ) : Type 0 where
   pub numbers : length places ≤ 64
 
 -- Which lent buffer a done call fills.
-abbrev pub filledBy : Call → Filled
-filledBy (Read o) = Bytes
-filledBy (Write o) = Neither
-filledBy (Alloc o) = Blocks o.count
-filledBy (AllocContig o) = Blocks o.count
-filledBy (Create o) = Neither
-filledBy (Delete o) = Neither
-filledBy (DeleteTree o) = Neither
-filledBy (KeyRead o) = Neither
-filledBy (KeyWrite o) = Neither
-filledBy (Renew o) = Neither
-filledBy (Force o) = Neither
-filledBy Free = Neither
-filledBy (Tick o) = Neither
-filledBy Audit = Neither
-filledBy (Rent o) = Neither
-filledBy (Sweep o) = Neither
+abbrev pub filled_by : Call → Filled
+filled_by (Read o) = Bytes
+filled_by (Write o) = Neither
+filled_by (Alloc o) = Blocks o.count
+filled_by (AllocContig o) = Blocks o.count
+filled_by (Create o) = Neither
+filled_by (Delete o) = Neither
+filled_by (DeleteTree o) = Neither
+filled_by (KeyRead o) = Neither
+filled_by (KeyWrite o) = Neither
+filled_by (Renew o) = Neither
+filled_by (Force o) = Neither
+filled_by Free = Neither
+filled_by (Tick o) = Neither
+filled_by Audit = Neither
+filled_by (Rent o) = Neither
+filled_by (Sweep o) = Neither
 
 abbrev pub values_of : Filled → List ℕ → List ℕ → List ℕ
 values_of Neither out places = []

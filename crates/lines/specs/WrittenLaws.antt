@@ -4,7 +4,7 @@ use Rattle.std.proofs.Common.{sym, ap, ap₂, ◌∙◌, append_assoc, arith, le
 use Rattle.std.proofs.lemmas.List.{set_split}
 use Rattle.card.specs.Contents.{overwrite}
 use Rattle.lines.specs.Written.{Written}
-use Rattle.laws.specs.ContentsLaws.{overwrite-length}
+use Rattle.laws.specs.ContentsLaws.{overwrite_length}
 
 pub written_one : (xs : List ℕ) (at byte : ℕ) → at + 1 ≤ length xs → Written xs at (byte ∷ []) (set xs at byte) (at + 1)
 unfolding overwrite
@@ -16,10 +16,10 @@ unfolding overwrite
 written_none xs at = record { holds = rw add-zero (sym (take-append-drop at xs)); ends = omega arith }
 
 -- What is written behind what was written.
-pub overwrite-join : (xs : List ℕ) (at : ℕ) (ys zs : List ℕ) → at + length ys + length zs ≤ length xs
+pub overwrite_join : (xs : List ℕ) (at : ℕ) (ys zs : List ℕ) → at + length ys + length zs ≤ length xs
     → overwrite (overwrite xs at ys) (at + length ys) zs ≡ overwrite xs at (ys ++ zs)
 unfolding overwrite
-overwrite-join xs at ys zs h =
+overwrite_join xs at ys zs h =
     let head : List ℕ = take at xs ++ ys in
     let tail : List ℕ = drop (at + length ys) xs in
     let regroup : take at xs ++ (ys ++ tail) ≡ head ++ tail = sym (append_assoc (take at xs) ys tail) in
@@ -35,12 +35,12 @@ overwrite-join xs at ys zs h =
     ∙ ap (λ (us : List ℕ). take at xs ++ us) (sym (append_assoc ys zs (drop (at + length ys + length zs) xs)))
     ∙ ap (λ (n : ℕ). take at xs ++ ((ys ++ zs) ++ drop n xs)) total
 
-pub written-join : {before middle after : List ℕ} {at next behind : ℕ} {ys zs : List ℕ} → Written before at ys middle next → Written middle next zs after behind
+pub written_join : {before middle after : List ℕ} {at next behind : ℕ} {ys zs : List ℕ} → Written before at ys middle next → Written middle next zs after behind
     → at + length ys + length zs ≤ length before → Written before at (ys ++ zs) after behind
-written-join {before} {middle} {after} {at} {next} {behind} {ys} {zs} a b h = record {
-  holds = b.holds ∙ rw (a.holds, a.ends) (overwrite-join before at ys zs h);
+written_join {before} {middle} {after} {at} {next} {behind} {ys} {zs} a b h = record {
+  holds = b.holds ∙ rw (a.holds, a.ends) (overwrite_join before at ys zs h);
   ends = rw (length-append ys zs) (omega (arith, b.ends, a.ends));
 }
 
-pub written-length : {before after : List ℕ} {at behind : ℕ} {ys : List ℕ} → Written before at ys after behind → at + length ys ≤ length before → length after ≡ length before
-written-length {before} {after} {at} {behind} {ys} w h = ap length w.holds ∙ overwrite-length before at ys h
+pub written_length : {before after : List ℕ} {at behind : ℕ} {ys : List ℕ} → Written before at ys after behind → at + length ys ≤ length before → length after ≡ length before
+written_length {before} {after} {at} {behind} {ys} w h = ap length w.holds ∙ overwrite_length before at ys h

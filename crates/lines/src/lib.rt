@@ -2,9 +2,9 @@
 // Each function writes from a place on and returns the place behind what it wrote.
 ghost use Rattle.std.specs.Prelude.{◌≡◌, [], ◌∷◌, ◌+◌, ◌*◌, ◌≤◌, length, take};
 ghost use Rattle.card.specs.Session.{reported};
-ghost use Rattle.card.specs.Calls.{refusalNumber};
-ghost use Rattle.lines.specs.Lines.{space, decimal, spaced, line, lineRoom, lastLine};
-ghost use Rattle.lines.specs.Replied.{BuffersFit, filledBy, values_of, replied};
+ghost use Rattle.card.specs.Calls.{refusal_number};
+ghost use Rattle.lines.specs.Lines.{space, decimal, spaced, line, line_room, last_line};
+ghost use Rattle.lines.specs.Replied.{BuffersFit, filled_by, values_of, replied};
 ghost use Rattle.lines.specs.Written.{Written};
 
 use card::{Answer, Call, Refusal};
@@ -96,7 +96,7 @@ pub fn put_text(to: &mut [u8], at: usize, text: &[u8]) -> usize
 
 // The number of a refusal, of document 01 or of a request.
 pub fn refusal_number(r: Refusal) -> u64
-    ensures { result ≡ refusalNumber r }
+    ensures { result ≡ refusal_number r }
 {
     match r {
         Refusal::Misshapen => 1,
@@ -128,7 +128,7 @@ pub enum Filled {
 
 // READ fills the bytes, ALLOC and ALLOC_CONTIG so many block numbers, and no other call fills either.
 pub fn filled_by(call: Call) -> Filled
-    ensures { result ≡ filledBy call }
+    ensures { result ≡ filled_by call }
 {
     match call {
         Call::Read(_) => Filled::Bytes,
@@ -202,7 +202,7 @@ pub fn put_line(
     places: &[u16],
 ) -> usize
     requires fact_1 { BuffersFit out.now places.now }
-    requires fact_2 { at + lineRoom ≤ length to.old }
+    requires fact_2 { at + line_room ≤ length to.old }
     ensures { Written to.old at (line ordinal kind call (replied answer out.now places.now)) to.new result }
 {
     let next = put_number(to, at, ordinal);
@@ -213,8 +213,8 @@ pub fn put_line(
 
 // The last line: the records before the end or the refused one, then 0 or 13.
 pub fn put_last_line(to: &mut [u8], at: usize, records: u64, number: u64) -> usize
-    requires { at + lineRoom ≤ length to.old }
-    ensures { Written to.old at (lastLine records number) to.new result }
+    requires { at + line_room ≤ length to.old }
+    ensures { Written to.old at (last_line records number) to.new result }
 {
     let next = put_text(to, at, b"end");
     let behind = put_spaced(to, next, records);

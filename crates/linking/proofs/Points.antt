@@ -4,27 +4,27 @@ use mathlib.Core.Path.{◌≡◌, refl, sym, ap, ◌∙◌}
 use mathlib.Core.Bool.{Bool, true, false, not, ◌||◌}
 use mathlib.Core.List.{[]}
 use lib.Dec.{eqb}
-use Rattle.card.specs.Card.{Card, card, multiplicity, pointsTo}
+use Rattle.card.specs.Card.{Card, card, multiplicity, points_to}
 use Rattle.card.specs.SoundCard.{SoundCard}
-use Rattle.laws.proofs.PointerSteps.{points-times}
+use Rattle.laws.proofs.PointerSteps.{points_times}
 
 -- The number is the multiplicity of a pointer, by the tables that hold it.
 abbrev pub Times : Card → ℕ → ℕ → ℕ → Type 0
 Times c n a b = n ≡ multiplicity (card c.public.info [] [] [] c.public.pointers c.public.multiplicities [] []).public a b
 
 module _ (c : Card) {n : ℕ} (a b : ℕ) (e : Times c n a b) where
-  pub times-whole : multiplicity c.public a b ≡ n
+  pub times_whole : multiplicity c.public a b ≡ n
   unfolding multiplicity
-  times-whole = sym e
+  times_whole = sym e
 
   -- The pointer is there where the number is not 0.
-  pub points-whole : SoundCard c → pointsTo c.public a b ≡ not (eqb n 0)
-  points-whole s = points-times a b s ∙ ap (λ (k : ℕ). not (eqb k 0)) times-whole
+  pub points_whole : SoundCard c → points_to c.public a b ≡ not (eqb n 0)
+  points_whole s = points_times a b s ∙ ap (λ (k : ℕ). not (eqb k 0)) times_whole
 
 -- A test's value after a test that comes first.
-pub told-or : (s : Bool) {t u v : Bool} → u ≡ t → s || t ≡ v → s || u ≡ v
-told-or s e h = ap (λ (x : Bool). s || x) e ∙ h
+pub told_or : (s : Bool) {t u v : Bool} → u ≡ t → s || t ≡ v → s || u ≡ v
+told_or s e h = ap (λ (x : Bool). s || x) e ∙ h
 
-pub not-not : (t : Bool) → not (not t) ≡ t
-not-not true = refl
-not-not false = refl
+pub not_not : (t : Bool) → not (not t) ≡ t
+not_not true = refl
+not_not false = refl

@@ -3,10 +3,10 @@ use Rattle.std.specs.Prelude.{List}
 use Rattle.card.specs.Card.{Card}
 use Rattle.card.specs.Access.{admits}
 use Rattle.card.specs.Plan.{Check}
-use Rattle.card.specs.Calls.{removalChecks}
+use Rattle.card.specs.Calls.{removal_checks}
 use Rattle.card.specs.declared.Port.{Port}
 use Rattle.card.specs.declared.Mode.TheVariants.{Writing}
 use Rattle.card.specs.declared.DeleteOperands.{DeleteOperands}
 
 abbrev pub removal : Port → Card → DeleteOperands → List Check
-removal port c o = removalChecks port c.public (admits port c Writing o.source o.credential) o
+removal port c o = removal_checks port c.public (admits port c Writing o.source o.credential) o

@@ -4,9 +4,9 @@ ghost use Rattle.card.specs.Lent.{Performs, lent, at_entry};
 ghost use Rattle.card.specs.Card.{card, multiplicity};
 ghost use Rattle.card.specs.SoundCard.{SoundCard};
 ghost use Rattle.card.specs.Plan.{first};
-ghost use Rattle.card.specs.Session.{request, performSound};
+ghost use Rattle.card.specs.Session.{request, perform_sound};
 ghost use Rattle.card.specs.declared.Call.TheVariants.{Create, Delete};
-ghost use Rattle.checks.specs.Checked.{byRefusal, checked};
+ghost use Rattle.checks.specs.Checked.{by_refusal, checked};
 ghost use Rattle.tables.specs.InUse.{Sorted, Paired};
 ghost use Rattle.linking.specs.Removal.{removal};
 
@@ -115,7 +115,7 @@ pub fn create_sound(
     o: CreateOperands,
 ) -> Outcome
     requires { SoundCard (lent info flags keys counts pointers multiplicities windows contents) }
-    ensures { Performs (λ c. performSound port c (request (Create o) [] [] [])) info flags keys counts pointers multiplicities windows contents result [] [] }
+    ensures { Performs (λ c. perform_sound port c (request (Create o) [] [] [])) info flags keys counts pointers multiplicities windows contents result [] [] }
 {
     match create_check(
         info,
@@ -155,7 +155,7 @@ pub fn removal_check(
     o: DeleteOperands,
 ) -> Checked
     requires { SoundCard (lent info flags keys counts pointers multiplicities windows contents) }
-    ensures { result ≡ byRefusal (first (removal port (at_entry info flags keys counts pointers multiplicities windows contents) o)) }
+    ensures { result ≡ by_refusal (first (removal port (at_entry info flags keys counts pointers multiplicities windows contents) o)) }
 {
     let credential = o.credential;
     let from = o.source as usize;
@@ -243,7 +243,7 @@ pub fn delete_sound(
     o: DeleteOperands,
 ) -> Outcome
     requires { SoundCard (lent info flags keys counts pointers multiplicities windows contents) }
-    ensures { Performs (λ c. performSound port c (request (Delete o) [] [] [])) info flags keys counts pointers multiplicities windows contents result [] [] }
+    ensures { Performs (λ c. perform_sound port c (request (Delete o) [] [] [])) info flags keys counts pointers multiplicities windows contents result [] [] }
 {
     match delete_check(
         info,

@@ -1,33 +1,33 @@
 -- Laws of the record and of ports as numbers.
 use Rattle.std.specs.Prelude.{ℕ, ◌<◌, ◌≡◌, refl, List, [], ◌∷◌, length, get_or, set}
 use Rattle.std.proofs.Common.{ap, ◌∙◌, arith, length-set}
-use Rattle.card.specs.Plan.{withUsed, withTime}
-use Rattle.card.specs.Calls.{freshInfo}
+use Rattle.card.specs.Plan.{with_used, with_time}
+use Rattle.card.specs.Calls.{fresh_info}
 use Rattle.card.specs.declared.Info.{Info}
 use Rattle.card.specs.declared.Port.{Port}
 use Rattle.card.specs.declared.Call.{Call}
-use Rattle.decoding.specs.Decode.{decodeBody}
+use Rattle.decoding.specs.Decode.{decode_body}
 use Rattle.decoding.specs.Parsed.{ParsedIs}
 use Rattle.decoding.specs.declared.Decoding.{Decoding}
 use Rattle.decoding.specs.declared.Decoding.TheVariants.{Decoded, Bad}
 use Rattle.decoding.specs.declared.Parsed.{Parsed}
-use Rattle.parameters.specs.Numbers.{recordLength, recordOf, numbersOf, wireOf, call_at, atPort, decodeAt}
+use Rattle.parameters.specs.Numbers.{record_length, record_of, numbers_of, wire_of, call_at, at_port, decode_at}
 use Rattle.parameters.specs.declared.Wire.{Wire}
 use Rattle.parameters.specs.declared.Wire.TheVariants.{At, Nowhere}
 
-pub loaded : (xs : List ℕ) {fresh used timed : Info} → fresh ≡ freshInfo (get_or xs 0 0) (get_or xs 1 0) (get_or xs 2 0) → used ≡ withUsed fresh (get_or xs 3 0) → timed ≡ withTime used (get_or xs 4 0) (get_or xs 5 0)
-    → timed ≡ recordOf xs
-loaded xs f u t = t ∙ ap (λ (i : Info). withTime i (get_or xs 4 0) (get_or xs 5 0)) (u ∙ ap (λ (i : Info). withUsed i (get_or xs 3 0)) f)
+pub loaded : (xs : List ℕ) {fresh used timed : Info} → fresh ≡ fresh_info (get_or xs 0 0) (get_or xs 1 0) (get_or xs 2 0) → used ≡ with_used fresh (get_or xs 3 0) → timed ≡ with_time used (get_or xs 4 0) (get_or xs 5 0)
+    → timed ≡ record_of xs
+loaded xs f u t = t ∙ ap (λ (i : Info). with_time i (get_or xs 4 0) (get_or xs 5 0)) (u ∙ ap (λ (i : Info). with_used i (get_or xs 3 0)) f)
 
 -- There is a fifth place behind the four that were stored to, and a sixth behind five.
-module _ (xs : List ℕ) (a b c d : ℕ) (h : length xs ≡ recordLength) where
-  pub still-fifth : 4 < length (set (set (set (set xs 0 a) 1 b) 2 c) 3 d)
-  still-fifth = rw (length-set, length-set, length-set, length-set, h) (omega arith)
+module _ (xs : List ℕ) (a b c d : ℕ) (h : length xs ≡ record_length) where
+  pub still_fifth : 4 < length (set (set (set (set xs 0 a) 1 b) 2 c) 3 d)
+  still_fifth = rw (length-set, length-set, length-set, length-set, h) (omega arith)
 
-  pub still-sixth : (e : ℕ) → 5 < length (set (set (set (set (set xs 0 a) 1 b) 2 c) 3 d) 4 e)
-  still-sixth e = rw (length-set, length-set, length-set, length-set, length-set, h) (omega arith)
+  pub still_sixth : (e : ℕ) → 5 < length (set (set (set (set (set xs 0 a) 1 b) 2 c) 3 d) 4 e)
+  still_sixth e = rw (length-set, length-set, length-set, length-set, length-set, h) (omega arith)
 
-pub stored : (xs : List ℕ) (i : Info) → length xs ≡ recordLength → set (set (set (set (set (set xs 0 i.blocks) 1 i.roots) 2 i.bytes) 3 i.used) 4 i.time) 5 i.total ≡ numbersOf i
+pub stored : (xs : List ℕ) (i : Info) → length xs ≡ record_length → set (set (set (set (set (set xs 0 i.blocks) 1 i.roots) 2 i.bytes) 3 i.used) 4 i.time) 5 i.total ≡ numbers_of i
 stored (a ∷ b ∷ c ∷ d ∷ e ∷ f ∷ []) i h = refl
 stored [] i h = absurd (omega arith)
 stored (a ∷ []) i h = absurd (omega arith)
@@ -38,36 +38,36 @@ stored (a ∷ b ∷ c ∷ d ∷ e ∷ []) i h = absurd (omega arith)
 stored (a ∷ b ∷ c ∷ d ∷ e ∷ f ∷ g ∷ xs) i h = absurd (omega arith)
 
 -- The record of its numbers has these numbers.
-pub numbers-record : (xs : List ℕ) → length xs ≡ recordLength → numbersOf (recordOf xs) ≡ xs
-numbers-record (a ∷ b ∷ c ∷ d ∷ e ∷ f ∷ []) h = refl
-numbers-record [] h = absurd (omega arith)
-numbers-record (a ∷ []) h = absurd (omega arith)
-numbers-record (a ∷ b ∷ []) h = absurd (omega arith)
-numbers-record (a ∷ b ∷ c ∷ []) h = absurd (omega arith)
-numbers-record (a ∷ b ∷ c ∷ d ∷ []) h = absurd (omega arith)
-numbers-record (a ∷ b ∷ c ∷ d ∷ e ∷ []) h = absurd (omega arith)
-numbers-record (a ∷ b ∷ c ∷ d ∷ e ∷ f ∷ g ∷ xs) h = absurd (omega arith)
+pub numbers_record : (xs : List ℕ) → length xs ≡ record_length → numbers_of (record_of xs) ≡ xs
+numbers_record (a ∷ b ∷ c ∷ d ∷ e ∷ f ∷ []) h = refl
+numbers_record [] h = absurd (omega arith)
+numbers_record (a ∷ []) h = absurd (omega arith)
+numbers_record (a ∷ b ∷ []) h = absurd (omega arith)
+numbers_record (a ∷ b ∷ c ∷ []) h = absurd (omega arith)
+numbers_record (a ∷ b ∷ c ∷ d ∷ []) h = absurd (omega arith)
+numbers_record (a ∷ b ∷ c ∷ d ∷ e ∷ []) h = absurd (omega arith)
+numbers_record (a ∷ b ∷ c ∷ d ∷ e ∷ f ∷ g ∷ xs) h = absurd (omega arith)
 
 -- ---- ports
 
-module _ (port : ℕ) {w : Wire} (found : w ≡ wireOf port) where
-  pub call-nowhere : {d : Decoding} {at : Port} {call : Call} → d ≡ Decoded at call → w ≡ Nowhere → Bad ≡ atPort port d
-  unfolding atPort call_at
-  call-nowhere e n = rw (e, ← found, n)
+module _ (port : ℕ) {w : Wire} (found : w ≡ wire_of port) where
+  pub call_nowhere : {d : Decoding} {at : Port} {call : Call} → d ≡ Decoded at call → w ≡ Nowhere → Bad ≡ at_port port d
+  unfolding at_port call_at
+  call_nowhere e n = rw (e, ← found, n)
 
-  pub call-at : {d : Decoding} {at wire : Port} {call : Call} → d ≡ Decoded at call → w ≡ At wire → Decoded wire call ≡ atPort port d
-  unfolding atPort call_at
-  call-at e a = rw (e, ← found, a)
+  pub call_at_law : {d : Decoding} {at wire : Port} {call : Call} → d ≡ Decoded at call → w ≡ At wire → Decoded wire call ≡ at_port port d
+  unfolding at_port call_at
+  call_at_law e a = rw (e, ← found, a)
 
-  pub decodes-nowhere : (kind : ℕ) (xs : List ℕ) → w ≡ Nowhere → Bad ≡ decodeAt (wireOf port) kind xs
-  unfolding decodeAt
-  decodes-nowhere kind xs n = rw (← found, n)
+  pub decodes_nowhere : (kind : ℕ) (xs : List ℕ) → w ≡ Nowhere → Bad ≡ decode_at (wire_of port) kind xs
+  unfolding decode_at
+  decodes_nowhere kind xs n = rw (← found, n)
 
-  pub decodes-at : (kind : ℕ) (xs : List ℕ) {wire : Port} {r : Parsed} → w ≡ At wire → ParsedIs (decodeBody wire kind xs) xs r → ParsedIs (decodeAt (wireOf port) kind xs) xs r
-  unfolding decodeAt
-  decodes-at kind xs a p = rw (← found, a) p
+  pub decodes_at : (kind : ℕ) (xs : List ℕ) {wire : Port} {r : Parsed} → w ≡ At wire → ParsedIs (decode_body wire kind xs) xs r → ParsedIs (decode_at (wire_of port) kind xs) xs r
+  unfolding decode_at
+  decodes_at kind xs a p = rw (← found, a) p
 
 -- There is no call.
-pub call-bad : (port : ℕ) {d : Decoding} → d ≡ Bad → Bad ≡ atPort port d
-unfolding atPort
-call-bad port e = rw e
+pub call_bad : (port : ℕ) {d : Decoding} → d ≡ Bad → Bad ≡ at_port port d
+unfolding at_port
+call_bad port e = rw e

@@ -2,10 +2,10 @@
 ghost use Rattle.std.specs.Prelude.{◌≡◌, length};
 ghost use Rattle.card.specs.declared.Port.TheVariants.{Host};
 ghost use Rattle.card.specs.declared.Call.TheVariants.{Force, Tick, Free, Audit, Rent, Sweep};
-ghost use Rattle.decoding.specs.Decode.{readWith, writeWith, allocWith, allocContigWith, createWith, deleteWith, deleteTreeWith, keyWith, renewWith};
+ghost use Rattle.decoding.specs.Decode.{read_with, write_with, alloc_with, alloc_contig_with, create_with, delete_with, delete_tree_with, key_with, renew_with};
 ghost use Rattle.decoding.specs.Parsed.{ParsedIs};
 ghost use Rattle.decoding.specs.declared.Decoding.TheVariants.{Decoded};
-ghost use Rattle.parameters.specs.Numbers.{recordLength, recordOf, numbersOf, credentialOf, newKeyOf, wireOf, atPort, decodeAt};
+ghost use Rattle.parameters.specs.Numbers.{record_length, record_of, numbers_of, credential_of, new_key_of, wire_of, at_port, decode_at};
 
 use card::{Call, ForceOperands, Info, Mode, Port, RentOperands, SweepOperands, TickOperands};
 use decoding::{Decoding, Parsed};
@@ -20,8 +20,8 @@ const CREDENTIAL_LENGTH: usize = 17;
 // ---- the record
 
 pub fn load(numbers: &[u64]) -> Info
-    requires { length numbers.now ≡ recordLength }
-    ensures { result ≡ recordOf numbers.now }
+    requires { length numbers.now ≡ record_length }
+    ensures { result ≡ record_of numbers.now }
 {
     let fresh = tables::fresh(
         numbers[0] as usize,
@@ -33,8 +33,8 @@ pub fn load(numbers: &[u64]) -> Info
 }
 
 pub fn store(numbers: &mut [u64], info: Info)
-    requires { length numbers.old ≡ recordLength }
-    ensures { numbers.new ≡ numbersOf info }
+    requires { length numbers.old ≡ record_length }
+    ensures { numbers.new ≡ numbers_of info }
 {
     numbers[0] = info.blocks as u64;
     numbers[1] = info.roots as u64;
@@ -47,7 +47,7 @@ pub fn store(numbers: &mut [u64], info: Info)
 // ---- operands
 
 pub fn credential_of(bytes: &[u8]) -> ParsedCredential
-    ensures { result ≡ credentialOf bytes.now }
+    ensures { result ≡ credential_of bytes.now }
 {
     if bytes.len() != CREDENTIAL_LENGTH {
         return ParsedCredential::Invalid;
@@ -56,7 +56,7 @@ pub fn credential_of(bytes: &[u8]) -> ParsedCredential
 }
 
 pub fn new_key_of(bytes: &[u8]) -> ParsedKey
-    ensures { result ≡ newKeyOf bytes.now }
+    ensures { result ≡ new_key_of bytes.now }
 {
     if bytes.len() != CREDENTIAL_LENGTH {
         return ParsedKey::Invalid;
@@ -73,7 +73,7 @@ pub enum Wire {
 
 // The port of a number: 0 is the host's, 1 the service port.
 pub fn wire_of(port: u8) -> Wire
-    ensures { result ≡ wireOf port }
+    ensures { result ≡ wire_of port }
 {
     match port {
         0 => Wire::At(Port::Host),
@@ -84,7 +84,7 @@ pub fn wire_of(port: u8) -> Wire
 
 // The call at the port of a number.
 pub fn at_port(port: u8, made: Decoding) -> Decoding
-    ensures { result ≡ atPort port made }
+    ensures { result ≡ at_port port made }
 {
     let Decoding::Decoded(_, call) = made else {
         return Decoding::Bad;
@@ -97,7 +97,7 @@ pub fn at_port(port: u8, made: Decoding) -> Decoding
 
 // What a kind and the bytes behind it hold that arrive at the port of a number.
 pub fn decode_at(port: u8, kind: u8, body: &[u8]) -> Parsed
-    ensures { ParsedIs (decodeAt (wireOf port) kind body.now) body.now result }
+    ensures { ParsedIs (decode_at (wire_of port) kind body.now) body.now result }
 {
     let Wire::At(wire) = wire_of(port) else {
         return records::bad();
@@ -108,7 +108,7 @@ pub fn decode_at(port: u8, kind: u8, body: &[u8]) -> Parsed
 // ---- the calls of what C passes
 
 pub fn read_at(port: u8, block: u16, credential: &[u8], interval: u32) -> Decoding
-    ensures { result ≡ atPort port (readWith Host block (credentialOf credential.now) interval) }
+    ensures { result ≡ at_port port (read_with Host block (credential_of credential.now) interval) }
 {
     let parsed = credential_of(credential);
     let made = records::read_with(Port::Host, block, parsed, interval);
@@ -116,7 +116,7 @@ pub fn read_at(port: u8, block: u16, credential: &[u8], interval: u32) -> Decodi
 }
 
 pub fn write_at(port: u8, block: u16, credential: &[u8], interval: u32) -> Decoding
-    ensures { result ≡ atPort port (writeWith Host block (credentialOf credential.now) interval) }
+    ensures { result ≡ at_port port (write_with Host block (credential_of credential.now) interval) }
 {
     let parsed = credential_of(credential);
     let made = records::write_with(Port::Host, block, parsed, interval);
@@ -124,7 +124,7 @@ pub fn write_at(port: u8, block: u16, credential: &[u8], interval: u32) -> Decod
 }
 
 pub fn alloc_at(port: u8, block: u16, credential: &[u8], hint: u16, count: u8) -> Decoding
-    ensures { result ≡ atPort port (allocWith Host block (credentialOf credential.now) hint count) }
+    ensures { result ≡ at_port port (alloc_with Host block (credential_of credential.now) hint count) }
 {
     let parsed = credential_of(credential);
     let made = records::alloc_with(Port::Host, block, parsed, hint, count);
@@ -132,7 +132,7 @@ pub fn alloc_at(port: u8, block: u16, credential: &[u8], hint: u16, count: u8) -
 }
 
 pub fn alloc_contig_at(port: u8, block: u16, credential: &[u8], hint: u16, count: u8) -> Decoding
-    ensures { result ≡ atPort port (allocContigWith Host block (credentialOf credential.now) hint count) }
+    ensures { result ≡ at_port port (alloc_contig_with Host block (credential_of credential.now) hint count) }
 {
     let parsed = credential_of(credential);
     let made = records::alloc_contig_with(Port::Host, block, parsed, hint, count);
@@ -146,7 +146,7 @@ pub fn create_at(
     destination: u16,
     second: &[u8],
 ) -> Decoding
-    ensures { result ≡ atPort port (createWith Host source (credentialOf credential.now) destination (credentialOf second.now)) }
+    ensures { result ≡ at_port port (create_with Host source (credential_of credential.now) destination (credential_of second.now)) }
 {
     let first = credential_of(credential);
     let other = credential_of(second);
@@ -155,7 +155,7 @@ pub fn create_at(
 }
 
 pub fn delete_at(port: u8, source: u16, credential: &[u8], destination: u16) -> Decoding
-    ensures { result ≡ atPort port (deleteWith Host source (credentialOf credential.now) destination) }
+    ensures { result ≡ at_port port (delete_with Host source (credential_of credential.now) destination) }
 {
     let parsed = credential_of(credential);
     let made = records::delete_with(Port::Host, source, parsed, destination);
@@ -163,7 +163,7 @@ pub fn delete_at(port: u8, source: u16, credential: &[u8], destination: u16) -> 
 }
 
 pub fn delete_tree_at(port: u8, source: u16, credential: &[u8], destination: u16) -> Decoding
-    ensures { result ≡ atPort port (deleteTreeWith Host source (credentialOf credential.now) destination) }
+    ensures { result ≡ at_port port (delete_tree_with Host source (credential_of credential.now) destination) }
 {
     let parsed = credential_of(credential);
     let made = records::delete_tree_with(Port::Host, source, parsed, destination);
@@ -172,7 +172,7 @@ pub fn delete_tree_at(port: u8, source: u16, credential: &[u8], destination: u16
 
 // KEY_READ or KEY_WRITE, by the mode whose key it sets.
 pub fn key_at(mode: Mode, port: u8, block: u16, credential: &[u8], key: &[u8]) -> Decoding
-    ensures { result ≡ atPort port (keyWith Host mode block (credentialOf credential.now) (newKeyOf key.now)) }
+    ensures { result ≡ at_port port (key_with Host mode block (credential_of credential.now) (new_key_of key.now)) }
 {
     let parsed = credential_of(credential);
     let new = new_key_of(key);
@@ -181,7 +181,7 @@ pub fn key_at(mode: Mode, port: u8, block: u16, credential: &[u8], key: &[u8]) -
 }
 
 pub fn renew_call(mode: u8, block: u16, key: &[u8], interval: u32) -> Decoding
-    ensures { result ≡ renewWith Host mode block (credentialOf key.now) interval }
+    ensures { result ≡ renew_with Host mode block (credential_of key.now) interval }
 {
     let parsed = credential_of(key);
     records::renew_with(Port::Host, mode, block, parsed, interval)

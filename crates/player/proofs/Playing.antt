@@ -8,28 +8,28 @@ use lib.ListN.{length, drop, length-append, length-drop}
 use Rattle.card.specs.Card.{Card, card}
 use Rattle.card.specs.declared.Info.{Info}
 use Rattle.decoding.specs.Decode.{Next, ended, refused, sent, decode}
-use Rattle.lines.specs.Lines.{lineRoom}
+use Rattle.lines.specs.Lines.{line_room}
 use Rattle.lines.specs.Written.{Written}
-use Rattle.lines.specs.WrittenLaws.{written_none, written-join, written-length}
-use Rattle.input.specs.Play.{playerPort, Turn, turn_of, turn, Play, outputBefore, play}
-use Rattle.input.specs.PlayLaws.{play-full, play-went, play-stopped, turn-left}
-use Rattle.input.specs.Played.{TurnIs, PlayedIs, isWent}
-use Rattle.input.specs.PlayedLaws.{is-went, not-went}
+use Rattle.lines.specs.WrittenLaws.{written_none, written_join, written_length}
+use Rattle.input.specs.Play.{player_port, Turn, turn_of, turn, Play, output_before, play}
+use Rattle.input.specs.PlayLaws.{play_full, play_went, play_stopped, turn_left}
+use Rattle.input.specs.Played.{TurnIs, PlayedIs, is_went}
+use Rattle.input.specs.PlayedLaws.{is_went_law, not_went}
 use Rattle.input.proofs.SameTables.{SameTables}
 use Rattle.input.specs.declared.Stop.{Stop}
 use Rattle.input.specs.declared.Stop.TheVariants.{Went, Full}
 
 -- ---- a turn that did not go changes nothing
 
-next-halts : (ordinal : ℕ) (c : Card) (xs : List ℕ) (n : Next) → isWent (turn_of ordinal c xs n).stop ≡ false → ((turn_of ordinal c xs n).after ≡ c) × ((turn_of ordinal c xs n).left ≡ xs) × ((turn_of ordinal c xs n).output ≡ [])
+next_halts : (ordinal : ℕ) (c : Card) (xs : List ℕ) (n : Next) → is_went (turn_of ordinal c xs n).stop ≡ false → ((turn_of ordinal c xs n).after ≡ c) × ((turn_of ordinal c xs n).left ≡ xs) × ((turn_of ordinal c xs n).output ≡ [])
 unfolding turn_of
-next-halts ordinal c xs ended e = (refl, refl, refl)
-next-halts ordinal c xs refused e = (refl, refl, refl)
-next-halts ordinal c xs (sent port call payload rest) e = absurd (mathlib.Core.Bool.true≢false e)
+next_halts ordinal c xs ended e = (refl, refl, refl)
+next_halts ordinal c xs refused e = (refl, refl, refl)
+next_halts ordinal c xs (sent port call payload rest) e = absurd (mathlib.Core.Bool.true≢false e)
 
-turn-halts : (ordinal : ℕ) (c : Card) (xs : List ℕ) → isWent (turn ordinal c xs).stop ≡ false → ((turn ordinal c xs).after ≡ c) × ((turn ordinal c xs).left ≡ xs) × ((turn ordinal c xs).output ≡ [])
+turn_halts : (ordinal : ℕ) (c : Card) (xs : List ℕ) → is_went (turn ordinal c xs).stop ≡ false → ((turn ordinal c xs).after ≡ c) × ((turn ordinal c xs).left ≡ xs) × ((turn ordinal c xs).output ≡ [])
 unfolding turn
-turn-halts ordinal c xs e = next-halts ordinal c xs (decode playerPort xs) e
+turn_halts ordinal c xs e = next_halts ordinal c xs (decode player_port xs) e
 
 -- ---- what the loop has reached
 
@@ -40,11 +40,11 @@ pub record Playing (records₀ : ℕ) (c₀ : Card) (xs out₀ : List ℕ) (coun
   pub counted : count ≤ records₀ + from
   pub fits : length done ≤ length out₀
   pub written : Written out₀ 0 done out at
-  pub total : play records₀ c₀ xs (length out₀) ≡ outputBefore done (play count c (drop from xs) (length out₀ - length done))
+  pub total : play records₀ c₀ xs (length out₀) ≡ output_before done (play count c (drop from xs) (length out₀ - length done))
 
 module _ (records₀ : ℕ) (c₀ : Card) (xs out₀ : List ℕ) where
-  pub playing-none : Playing records₀ c₀ xs out₀ records₀ c₀ 0 0 out₀
-  playing-none = record {
+  pub playing_none : Playing records₀ c₀ xs out₀ records₀ c₀ 0 0 out₀
+  playing_none = record {
     done = [];
     within = omega arith;
     counted = omega arith;
@@ -55,30 +55,30 @@ module _ (records₀ : ℕ) (c₀ : Card) (xs out₀ : List ℕ) where
 
   module _ {count : ℕ} {c : Card} {from at : ℕ} {out : List ℕ} (p : Playing records₀ c₀ xs out₀ count c from at out) where
     kept : length out ≡ length out₀
-    kept = written-length p.written (omega (arith, p.fits))
+    kept = written_length p.written (omega (arith, p.fits))
 
     reached : at ≡ length p.done
     reached = p.written.ends ∙ native.Mathlib.Nat.zero-add (length p.done)
 
-    pub playing-at : at ≤ length out
-    playing-at = omega (arith, reached, kept, p.fits)
+    pub playing_at : at ≤ length out
+    playing_at = omega (arith, reached, kept, p.fits)
 
     -- No room for another line.
-    pub playing-full : length out - at < lineRoom → PlayedIs (play records₀ c₀ xs (length out₀)) Full count c xs from out₀ out at
-    playing-full h =
-        let e = p.total ∙ ap (outputBefore p.done) (play-full count c (drop from xs) (length out₀ - length p.done) (omega (arith, reached, kept))) in
+    pub playing_full : length out - at < line_room → PlayedIs (play records₀ c₀ xs (length out₀)) Full count c xs from out₀ out at
+    playing_full h =
+        let e = p.total ∙ ap (output_before p.done) (play_full count c (drop from xs) (length out₀ - length p.done) (omega (arith, reached, kept))) in
         rw e (record { stops = refl; counts = refl; leaves = refl; rests = refl; within = p.within; writes = rw (mathlib.Core.List.append-nil p.done) p.written })
 
-    module _ {stop : Stop} {after : Card} {next next-at : ℕ} {to : List ℕ} (room : lineRoom ≤ length out - at)
-        (t : TurnIs (turn (count + 1) c (drop from xs)) lineRoom stop after xs next out at to next-at) where
-      here : lineRoom ≤ length out₀ - length p.done
+    module _ {stop : Stop} {after : Card} {next next-at : ℕ} {to : List ℕ} (room : line_room ≤ length out - at)
+        (t : TurnIs (turn (count + 1) c (drop from xs)) line_room stop after xs next out at to next-at) where
+      here : line_room ≤ length out₀ - length p.done
       here = omega (arith, reached, kept, room)
 
       -- The turn did not go: so the play stops.
-      pub playing-stopped : isWent stop ≡ false → PlayedIs (play records₀ c₀ xs (length out₀)) stop count after xs next out₀ to next-at
-      playing-stopped n =
-          let halts = turn-halts (count + 1) c (drop from xs) (ap isWent (sym t.stops) ∙ n) in
-          let e = p.total ∙ ap (outputBefore p.done) (play-stopped count c (drop from xs) (length out₀ - length p.done) here stop (not-went stop n) (sym t.stops) halts.0 halts.1) in
+      pub playing_stopped : is_went stop ≡ false → PlayedIs (play records₀ c₀ xs (length out₀)) stop count after xs next out₀ to next-at
+      playing_stopped n =
+          let halts = turn_halts (count + 1) c (drop from xs) (ap is_went (sym t.stops) ∙ n) in
+          let e = p.total ∙ ap (output_before p.done) (play_stopped count c (drop from xs) (length out₀ - length p.done) here stop (not_went stop n) (sym t.stops) halts.0 halts.1) in
           rw e
           (record {
             stops = refl;
@@ -86,39 +86,39 @@ module _ (records₀ : ℕ) (c₀ : Card) (xs out₀ : List ℕ) where
             leaves = t.leaves ∙ halts.0;
             rests = t.rests ∙ halts.1;
             within = t.within;
-            writes = written-join p.written (subst (λ (ls : List ℕ). Written out at ls to next-at) halts.2 t.writes) (omega (arith, p.fits));
+            writes = written_join p.written (subst (λ (ls : List ℕ). Written out at ls to next-at) halts.2 t.writes) (omega (arith, p.fits));
           })
 
-      went : isWent stop ≡ true → (turn (count + 1) c (drop from xs)).stop ≡ Went
-      went w = sym t.stops ∙ is-went stop w
+      went : is_went stop ≡ true → (turn (count + 1) c (drop from xs)).stop ≡ Went
+      went w = sym t.stops ∙ is_went_law stop w
 
       -- Each record takes a byte at least.
-      pub playing-further : isWent stop ≡ true → from < next
-      playing-further w =
-          let shorter = turn-left (count + 1) c (drop from xs) (went w) in
+      pub playing_further : is_went stop ≡ true → from < next
+      playing_further w =
+          let shorter = turn_left (count + 1) c (drop from xs) (went w) in
           omega (arith, shorter, ap length t.rests, length-drop next xs, length-drop from xs, t.within, p.within)
 
       -- The turn went: its line stands behind the others.
-      pub playing-more : isWent stop ≡ true → Playing records₀ c₀ xs out₀ (count + 1) after next next-at to
-      playing-more w =
+      pub playing_more : is_went stop ≡ true → Playing records₀ c₀ xs out₀ (count + 1) after next next-at to
+      playing_more w =
           let one : Turn = turn (count + 1) c (drop from xs) in
           let rest : Play = play (count + 1) one.after one.left (length out₀ - length p.done - length one.output) in
           let long : length (p.done ++ one.output) ≡ length p.done + length one.output = length-append p.done one.output in
-          let room-left : length out₀ - length p.done - length one.output ≡ length out₀ - length (p.done ++ one.output) = omega arith in
+          let room_left : length out₀ - length p.done - length one.output ≡ length out₀ - length (p.done ++ one.output) = omega arith in
           let same : rest ≡ play (count + 1) after (drop next xs) (length out₀ - length (p.done ++ one.output)) =
           ap₂ (λ (d : Card) (ys : List ℕ). play (count + 1) d ys (length out₀ - length p.done - length one.output)) (sym t.leaves) (sym t.rests)
-          ∙ ap (play (count + 1) after (drop next xs)) room-left in
+          ∙ ap (play (count + 1) after (drop next xs)) room_left in
           record {
             done = p.done ++ one.output;
             within = t.within;
-            counted = omega (arith, p.counted, playing-further w);
+            counted = omega (arith, p.counted, playing_further w);
             fits = omega (arith, here, p.fits, t.short);
-            written = written-join p.written t.writes (omega (arith, here, p.fits, t.short));
+            written = written_join p.written t.writes (omega (arith, here, p.fits, t.short));
             total =
                 p.total
-                ∙ ap (outputBefore p.done) (play-went count c (drop from xs) (length out₀ - length p.done) here (went w))
+                ∙ ap (output_before p.done) (play_went count c (drop from xs) (length out₀ - length p.done) here (went w))
                 ∙ ap (λ (ls : List ℕ). record { stop = rest.stop; output = ls; records = rest.records; after = rest.after; left = rest.left }) (sym (append_assoc p.done one.output rest.output))
-                ∙ ap (outputBefore (p.done ++ one.output)) same;
+                ∙ ap (output_before (p.done ++ one.output)) same;
           }
 
 -- ---- the loop's invariant
@@ -127,5 +127,5 @@ module _ (records₀ : ℕ) (c₀ : Card) (xs out₀ : List ℕ) where
 pub record PlayLoop (info₀ : Info) (flags₀ keys₀ counts₀ pointers₀ multiplicities₀ windows₀ contents₀ : List ℕ) (records₀ : ℕ) (input output₀ : List ℕ)
     (info : Info) (flags keys counts pointers multiplicities windows contents output : List ℕ) (count from at : ℕ) : Type 0 where
   pub tables : SameTables flags₀ keys₀ counts₀ pointers₀ multiplicities₀ windows₀ contents₀ flags keys counts pointers multiplicities windows contents
-  pub sameOutput : length output ≡ length output₀
+  pub same_output : length output ≡ length output₀
   pub playing : Playing records₀ (card info₀ flags₀ keys₀ counts₀ pointers₀ multiplicities₀ windows₀ contents₀) input output₀ count (card info flags keys counts pointers multiplicities windows contents) from at output

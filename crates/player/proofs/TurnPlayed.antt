@@ -10,13 +10,13 @@ use Rattle.card.specs.Promises.{Is}
 use Rattle.card.specs.Session.{Reply, reply}
 use Rattle.card.specs.declared.Call.{Call}
 use Rattle.card.specs.declared.Answer.{Answer}
-use Rattle.lines.specs.Lines.{line, lineRoom}
+use Rattle.lines.specs.Lines.{line, line_room}
 use Rattle.lines.specs.Replied.{BuffersFit, replied}
-use Rattle.lines.proofs.AnswersWritten.{line-short}
+use Rattle.lines.proofs.AnswersWritten.{line_short}
 use Rattle.lines.specs.Written.{Written}
-use Rattle.input.specs.Play.{playerPort, played, turn_of, turn}
+use Rattle.input.specs.Play.{player_port, played, turn_of, turn}
 use Rattle.input.specs.Played.{WroteIs, TurnIs}
-use Rattle.input.specs.PlayedLaws.{turn-nothing, turn-whole}
+use Rattle.input.specs.PlayedLaws.{turn_nothing, turn_whole}
 use Rattle.input.specs.Found.{WholeIs, FoundIs}
 use Rattle.input.specs.declared.Stop.{Stop}
 use Rattle.input.specs.declared.Stop.TheVariants.{Went}
@@ -26,27 +26,27 @@ use Rattle.input.specs.declared.Found.TheVariants.{Whole, Nothing}
 
 pub call_played : (ordinal kind : ℕ) (call : Call) {want : Result} {answer : Answer} {after : Card} {out places before to : List ℕ} {at behind : ℕ} → BuffersFit out places
     → Is want answer after out places → Written before at (line ordinal kind call (replied answer out places)) to behind
-    → WroteIs want.after (line ordinal kind call (reply want)) lineRoom after before at to behind
+    → WroteIs want.after (line ordinal kind call (reply want)) line_room after before at to behind
 call_played ordinal kind call {want} {answer} {after} {out} {places} {before} {to} {at} {behind} fit i w =
-    let same : replied answer out places ≡ reply want = λ k. record { answer = i.answers k; out = i.fillsOut k; places = i.fillsPlaces k } in
+    let same : replied answer out places ≡ reply want = λ k. record { answer = i.answers k; out = i.fills_out k; places = i.fills_places k } in
     record {
       leaves = i.leaves;
       writes = subst (λ (r : Reply). Written before at (line ordinal kind call r) to behind) same w;
-      short = subst (λ (r : Reply). length (line ordinal kind call r) ≤ lineRoom) same (line-short ordinal kind call answer out places fit);
+      short = subst (λ (r : Reply). length (line ordinal kind call r) ≤ line_room) same (line_short ordinal kind call answer out places fit);
     }
 
 -- ---- a turn, by what was found
 
 module _ (ordinal : ℕ) (c : Card) (input : List ℕ) (from : ℕ) (fits : from ≤ length input) (before : List ℕ) (at : ℕ) where
-  pub nothing-played : {found : Found} {stop : Stop} → FoundIs playerPort input from found → found ≡ Nothing stop → TurnIs (turn ordinal c (drop from input)) lineRoom stop c input from before at before at
+  pub nothing_played : {found : Found} {stop : Stop} → FoundIs player_port input from found → found ≡ Nothing stop → TurnIs (turn ordinal c (drop from input)) line_room stop c input from before at before at
   unfolding turn turn_of
-  nothing-played f e = turn-nothing playerPort (turn ordinal c (drop from input)) lineRoom c input from fits before at (λ d. rw d) (λ d. rw d) f e
+  nothing_played f e = turn_nothing player_port (turn ordinal c (drop from input)) line_room c input from fits before at (λ d. rw d) (λ d. rw d) f e
 
-  pub whole-played : {found : Found} {r : Record} {after : Card} {to : List ℕ} {behind : ℕ} → FoundIs playerPort input from found → found ≡ Whole r
+  pub whole_played : {found : Found} {r : Record} {after : Card} {to : List ℕ} {behind : ℕ} → FoundIs player_port input from found → found ≡ Whole r
       → let want = played r.port c r.call (take (r.next - r.payload) (drop r.payload input)) in
-      WroteIs want.after (line ordinal r.kind r.call (reply want)) lineRoom after before at to behind
-      → TurnIs (turn ordinal c (drop from input)) lineRoom Went after input r.next before at to behind
+      WroteIs want.after (line ordinal r.kind r.call (reply want)) line_room after before at to behind
+      → TurnIs (turn ordinal c (drop from input)) line_room Went after input r.next before at to behind
   unfolding turn turn_of
-  whole-played {r = r} f e h =
-      let w : WholeIs playerPort input from r = subst (FoundIs playerPort input from) e f in
-      turn-whole playerPort (turn ordinal c (drop from input)) lineRoom c input from fits before at (rw (w.decodes, w.hasKind)) w.nextWithin (omega arith) h
+  whole_played {r = r} f e h =
+      let w : WholeIs player_port input from r = subst (FoundIs player_port input from) e f in
+      turn_whole player_port (turn ordinal c (drop from input)) line_room c input from fits before at (rw (w.decodes, w.has_kind)) w.next_within (omega arith) h

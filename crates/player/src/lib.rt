@@ -1,6 +1,6 @@
 // Plays call records on lent tables: decodes each, performs it, and writes its line.
 ghost use Rattle.std.specs.Prelude.{◌+◌, ◌≤◌, ◌<◌, length};
-ghost use Rattle.lines.specs.Lines.{line, lineRoom};
+ghost use Rattle.lines.specs.Lines.{line, line_room};
 ghost use Rattle.input.specs.Play.{played, turn, play};
 ghost use Rattle.input.specs.Played.{Writes, Turns, Plays};
 
@@ -25,8 +25,8 @@ fn play_call(
     to: &mut [u8],
     at: usize,
 ) -> Wrote
-    requires { at + lineRoom ≤ length to.old }
-    ensures { Writes (λ c. played port c call payload.now) (line ordinal kind call) lineRoom info flags keys counts pointers multiplicities windows contents to at result }
+    requires { at + line_room ≤ length to.old }
+    ensures { Writes (λ c. played port c call payload.now) (line ordinal kind call) line_room info flags keys counts pointers multiplicities windows contents to at result }
 {
     let mut out = [0u8; 512];
     let mut places = [0u16; MOST_BLOCKS as usize];
@@ -71,8 +71,8 @@ fn play_turn(
     at: usize,
 ) -> Turned
     requires fact_1 { from ≤ length input.now }
-    requires fact_2 { at + lineRoom ≤ length to.old }
-    ensures { Turns (turn ordinal) lineRoom info flags keys counts pointers multiplicities windows contents input from to at result }
+    requires fact_2 { at + line_room ≤ length to.old }
+    ensures { Turns (turn ordinal) line_room info flags keys counts pointers multiplicities windows contents input from to at result }
 {
     let found = input::find(Port::Service, input, from);
     match found {

@@ -8,40 +8,40 @@ use lib.ListN.{length}
 use borrow.Author.Tests.{lt-ltb, le-ltb}
 use Rattle.card.specs.Contents.{overwrite}
 use Rattle.card.specs.Card.{Card}
-use Rattle.card.specs.Plan.{here, later, judgeSound}
+use Rattle.card.specs.Plan.{here, later, judge_sound}
 use Rattle.card.specs.Promises.{Is}
-use Rattle.laws.specs.PromisesLaws.{is-refused}
+use Rattle.laws.specs.PromisesLaws.{is_refused}
 use Rattle.card.specs.declared.Answer.{Answer}
 use Rattle.card.specs.declared.Answer.TheVariants.{Refused, Value}
 use Rattle.card.specs.declared.Refusal.TheVariants.{BadOperand}
-use Rattle.report.specs.Report.{given, badKeys, withinReach, listing, reachPlan, lentPlaces}
-use Rattle.report.specs.ReportLaws.{listing-done}
-use Rattle.walks.specs.Walk.{markedBelow}
+use Rattle.report.specs.Report.{given, bad_keys, within_reach, listing, reach_plan, lent_places}
+use Rattle.report.specs.ReportLaws.{listing_done}
+use Rattle.walks.specs.Walk.{marked_below}
 use Rattle.reach.specs.Within.{Within}
 
 module _ (words places : List ℕ) (c : Card) where
   -- The report's answer, and its places at exit.
   abbrev Reports : Answer → List ℕ → Type 0
-  Reports r places' = Is (judgeSound c (lentPlaces places) (reachPlan words (length places) c)) r c [] places'
+  Reports r places' = Is (judge_sound c (lent_places places) (reach_plan words (length places) c)) r c [] places'
 
-  pub keys-refused : {t : Bool} → t ≡ badKeys words → t ≡ true → Reports (Refused BadOperand) places
-  unfolding reachPlan listing
-  keys-refused h e = is-refused c (lentPlaces places) (reachPlan words (length places) c) (here (sym h ∙ e))
+  pub keys_refused : {t : Bool} → t ≡ bad_keys words → t ≡ true → Reports (Refused BadOperand) places
+  unfolding reach_plan listing
+  keys_refused h e = is_refused c (lent_places places) (reach_plan words (length places) c) (here (sym h ∙ e))
 
-  module _ {t : Bool} (h : t ≡ badKeys words) (e : t ≡ false) {shut marks : List ℕ} {count : ℕ} (w : Within words c shut marks count) where
-    pub places-refused : length places < count → Reports (Refused BadOperand) places
-    unfolding reachPlan listing
-    places-refused l =
-        is-refused c (lentPlaces places) (reachPlan words (length places) c)
-        (later (sym h ∙ e) (here (lt-ltb (length places) (length (withinReach (given words) c)) (omega (arith, w.counted)))))
+  module _ {t : Bool} (h : t ≡ bad_keys words) (e : t ≡ false) {shut marks : List ℕ} {count : ℕ} (w : Within words c shut marks count) where
+    pub places_refused : length places < count → Reports (Refused BadOperand) places
+    unfolding reach_plan listing
+    places_refused l =
+        is_refused c (lent_places places) (reach_plan words (length places) c)
+        (later (sym h ∙ e) (here (lt-ltb (length places) (length (within_reach (given words) c)) (omega (arith, w.counted)))))
 
-    pub places-enough : count ≤ length places → length (markedBelow marks c.public.info.blocks) ≤ length places
-    places-enough l = omega (arith, ap length w.isMarked, w.counted)
+    pub places_enough : count ≤ length places → length (marked_below marks c.public.info.blocks) ≤ length places
+    places_enough l = omega (arith, ap length w.is_marked, w.counted)
 
-    pub list-answered : {places' : List ℕ} → count ≤ length places → places' ≡ overwrite places 0 (markedBelow marks c.public.info.blocks) → Reports (Value count) places'
-    unfolding reachPlan
-    list-answered l p =
-        listing-done c places _ (withinReach (given words) c)
-        (sym h ∙ e, (le-ltb (length places) (length (withinReach (given words) c)) (omega (arith, w.counted)), tt))
+    pub list_answered : {places' : List ℕ} → count ≤ length places → places' ≡ overwrite places 0 (marked_below marks c.public.info.blocks) → Reports (Value count) places'
+    unfolding reach_plan
+    list_answered l p =
+        listing_done c places _ (within_reach (given words) c)
+        (sym h ∙ e, (le-ltb (length places) (length (within_reach (given words) c)) (omega (arith, w.counted)), tt))
         w.counted
-        (p ∙ ap (λ (ns : List ℕ). overwrite places 0 ns) w.isMarked)
+        (p ∙ ap (λ (ns : List ℕ). overwrite places 0 ns) w.is_marked)

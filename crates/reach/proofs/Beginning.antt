@@ -8,81 +8,81 @@ use native.Mathlib.Nat.{not-suc-le-zero}
 use native.Mathlib.Omega.{arith}
 use lib.ListN.{length, get_or, set, length-set, length-replicate}
 use lib.Seq.{get_or-set_same, get_or-set_other}
-use Rattle.laws.specs.ListsLaws.{absurd-test, same-or-other}
+use Rattle.laws.specs.ListsLaws.{absurd_test, same_or_other}
 use Rattle.card.specs.Card.{Card}
 use Rattle.card.specs.Reach.{sealed}
-use Rattle.report.specs.Report.{given, withinByItself}
+use Rattle.report.specs.Report.{given, within_by_itself}
 use Rattle.walks.specs.Walk.{mark, Walking, Entered}
-use Rattle.walks.specs.WalkLaws.{walking-none, walking-room, walking-enter, entered-marks, entered-kept, entered-cases}
+use Rattle.walks.specs.WalkLaws.{walking_none, walking_room, walking_enter, entered_marks, entered_kept, entered_cases}
 use Rattle.reach.specs.Within.{Fresh, StandingOf, Shut, Begun}
 use Rattle.reach.specs.declared.Standing.{Standing}
 
-begun-none : (words : List ℕ) (c : Card) {shut marks queue : List ℕ} → Fresh shut marks queue → Begun words c 0 shut marks queue 0
-begun-none words c {marks = marks} f =
-    let w : Walking (λ a b. ⊥) marks _ 0 0 = walking-none f.noneMarked f.hasQueue in
+begun_none : (words : List ℕ) (c : Card) {shut marks queue : List ℕ} → Fresh shut marks queue → Begun words c 0 shut marks queue 0
+begun_none words c {marks = marks} f =
+    let w : Walking (λ a b. ⊥) marks _ 0 0 = walking_none f.none_marked f.has_queue in
     record {
-      hasShut = ap length f.noneShut ∙ length-replicate {A = ℕ} 4096 0;
-      shutBelow = record { isShut = λ b l e. absurd (not-suc-le-zero l); isOpen = λ b l e. absurd (not-suc-le-zero l) };
+      has_shut = ap length f.none_shut ∙ length-replicate {A = ℕ} 4096 0;
+      shut_below = record { is_shut = λ b l e. absurd (not-suc-le-zero l); is_open = λ b l e. absurd (not-suc-le-zero l) };
       walking = w;
-      isMarked = λ b l e. absurd (not-suc-le-zero l);
+      is_marked = λ b l e. absurd (not-suc-le-zero l);
       only = λ b e. absurd (not-suc-le-zero (w.queued b e).low);
     }
 
 module _ {words : List ℕ} {c : Card} {b : ℕ} {shut marks queue : List ℕ} {tail : ℕ} (h : Begun words c b shut marks queue tail) (l : b < 4096) {r : Standing}
     (s : StandingOf words c b r) where
   long : b < length marks
-  long = omega (arith, h.walking.hasMarks)
+  long = omega (arith, h.walking.has_marks)
 
   here : get_or (set shut b r.shut) b 0 ≡ cond (sealed (given words) c b) 1 0
-  here = get_or-set_same shut b r.shut 0 (omega (arith, h.hasShut)) ∙ s.isShut
+  here = get_or-set_same shut b r.shut 0 (omega (arith, h.has_shut)) ∙ s.is_shut
 
-  shut-more : Shut words c (b + 1) (set shut b r.shut)
-  shut-more = record {
-    isShut = λ x m e.
+  shut_more : Shut words c (b + 1) (set shut b r.shut)
+  shut_more = record {
+    is_shut = λ x m e.
         ⊎_elim
         (λ (q : x ≡ b). rw q (here ∙ rw (rw q at e)))
-        (λ (o : x ≡ b → ⊥). get_or-set_other shut b x r.shut 0 o ∙ h.shutBelow.isShut x (omega arith) e)
-        (same-or-other x b);
-    isOpen = λ x m e.
+        (λ (o : x ≡ b → ⊥). get_or-set_other shut b x r.shut 0 o ∙ h.shut_below.is_shut x (omega arith) e)
+        (same_or_other x b);
+    is_open = λ x m e.
         ⊎_elim
         (λ (q : x ≡ b). rw q (here ∙ rw (rw q at e)))
-        (λ (o : x ≡ b → ⊥). get_or-set_other shut b x r.shut 0 o ∙ h.shutBelow.isOpen x (omega arith) e)
-        (same-or-other x b);
+        (λ (o : x ≡ b → ⊥). get_or-set_other shut b x r.shut 0 o ∙ h.shut_below.is_open x (omega arith) e)
+        (same_or_other x b);
   }
 
-  begun-in : {marks' queue' : List ℕ} {tail' : ℕ} → r.within ≡ true → Entered marks queue tail b marks' queue' tail'
+  begun_in : {marks' queue' : List ℕ} {tail' : ℕ} → r.within ≡ true → Entered marks queue tail b marks' queue' tail'
       → Begun words c (b + 1) (set shut b r.shut) marks' queue' tail'
-  begun-in e n =
-      let yes : withinByItself (given words) c b ≡ true = sym s.isWithin ∙ e in
+  begun_in e n =
+      let yes : within_by_itself (given words) c b ≡ true = sym s.is_within ∙ e in
       record {
-        hasShut = length-set shut b r.shut ∙ h.hasShut;
-        shutBelow = shut-more;
-        walking = walking-enter h.walking l n;
-        isMarked = λ x m i.
+        has_shut = length-set shut b r.shut ∙ h.has_shut;
+        shut_below = shut_more;
+        walking = walking_enter h.walking l n;
+        is_marked = λ x m i.
             ⊎_elim
-            (λ (q : x ≡ b). rw q (entered-marks n long))
-            (λ (o : x ≡ b → ⊥). entered-kept n long x (h.isMarked x (omega arith) i))
-            (same-or-other x b);
+            (λ (q : x ≡ b). rw q (entered_marks n long))
+            (λ (o : x ≡ b → ⊥). entered_kept n long x (h.is_marked x (omega arith) i))
+            (same_or_other x b);
         only = λ x i.
             ⊎_elim
             (λ (q : x ≡ b). (omega arith, rw q yes))
-            (λ (j : mark marks x ≡ 1). let o : (x < b) × (withinByItself (given words) c x ≡ true) = h.only x j in (omega (arith, o.0), o.1))
-            (entered-cases n x i);
+            (λ (j : mark marks x ≡ 1). let o : (x < b) × (within_by_itself (given words) c x ≡ true) = h.only x j in (omega (arith, o.0), o.1))
+            (entered_cases n x i);
       }
 
-  begun-out : r.within ≡ false → Begun words c (b + 1) (set shut b r.shut) marks queue tail
-  begun-out e =
-      let no : withinByItself (given words) c b ≡ false = sym s.isWithin ∙ e in
+  begun_out : r.within ≡ false → Begun words c (b + 1) (set shut b r.shut) marks queue tail
+  begun_out e =
+      let no : within_by_itself (given words) c b ≡ false = sym s.is_within ∙ e in
       record {
-        hasShut = length-set shut b r.shut ∙ h.hasShut;
-        shutBelow = shut-more;
+        has_shut = length-set shut b r.shut ∙ h.has_shut;
+        shut_below = shut_more;
         walking = h.walking;
-        isMarked = λ x m i.
+        is_marked = λ x m i.
             ⊎_elim
-            (λ (q : x ≡ b). absurd-test (rw q at i) no)
-            (λ (o : x ≡ b → ⊥). h.isMarked x (omega arith) i)
-            (same-or-other x b);
-        only = λ x i. let o : (x < b) × (withinByItself (given words) c x ≡ true) = h.only x i in (omega (arith, o.0), o.1);
+            (λ (q : x ≡ b). absurd_test (rw q at i) no)
+            (λ (o : x ≡ b → ⊥). h.is_marked x (omega arith) i)
+            (same_or_other x b);
+        only = λ x i. let o : (x < b) × (within_by_itself (given words) c x ≡ true) = h.only x i in (omega (arith, o.0), o.1);
       }
 
 -- ---- the blocks below n
@@ -92,28 +92,28 @@ pub record Beginning (words : List ℕ) (c : Card) (n b : ℕ) (shut marks queue
   pub few : n ≤ 4096
   pub begun : Begun words c b shut marks queue tail
 
-pub beginning-none : (words : List ℕ) (c : Card) (n : ℕ) {shut marks queue : List ℕ} → n ≤ 4096 → Fresh shut marks queue → Beginning words c n 0 shut marks queue 0
-beginning-none words c n few f = record { most = omega arith; few = few; begun = begun-none words c f }
+pub beginning_none : (words : List ℕ) (c : Card) (n : ℕ) {shut marks queue : List ℕ} → n ≤ 4096 → Fresh shut marks queue → Beginning words c n 0 shut marks queue 0
+beginning_none words c n few f = record { most = omega arith; few = few; begun = begun_none words c f }
 
 module _ {words : List ℕ} {c : Card} {n b : ℕ} {shut marks queue : List ℕ} {tail : ℕ} (h : Beginning words c n b shut marks queue tail) where
-  pub beginning-low : b < n → b < 4096
-  beginning-low l = omega (arith, h.few)
+  pub beginning_low : b < n → b < 4096
+  beginning_low l = omega (arith, h.few)
 
-  pub beginning-room : b < n → (mark marks b ≡ 1 → ⊥) → tail < 4096
-  beginning-room l = walking-room h.begun.walking b (beginning-low l)
+  pub beginning_room : b < n → (mark marks b ≡ 1 → ⊥) → tail < 4096
+  beginning_room l = walking_room h.begun.walking b (beginning_low l)
 
   -- One block more, which is queued or not.
-  pub beginning-more : {r : Standing} {marks' queue' : List ℕ} {tail' : ℕ} → b < n → StandingOf words c b r
+  pub beginning_more : {r : Standing} {marks' queue' : List ℕ} {tail' : ℕ} → b < n → StandingOf words c b r
       → ((r.within ≡ true) × Entered marks queue tail b marks' queue' tail') ⊎ ((r.within ≡ false) × ((marks' ≡ marks) × ((queue' ≡ queue) × (tail' ≡ tail))))
       → Beginning words c n (b + 1) (set shut b r.shut) marks' queue' tail'
-  beginning-more l s i = record {
+  beginning_more l s i = record {
     most = omega arith;
     few = h.few;
     begun = ⊎_elim
-        (λ w. begun-in h.begun (beginning-low l) s w.0 w.1)
-        (λ w. rw (w.1.0, w.1.1.0, w.1.1.1) (begun-out h.begun (beginning-low l) s w.0))
+        (λ w. begun_in h.begun (beginning_low l) s w.0 w.1)
+        (λ w. rw (w.1.0, w.1.1.0, w.1.1.1) (begun_out h.begun (beginning_low l) s w.0))
         i;
   }
 
-  pub beginning-whole : n ≤ b → Begun words c n shut marks queue tail
-  beginning-whole l = let e : b ≡ n = omega (arith, h.most) in rw e at h.begun
+  pub beginning_whole : n ≤ b → Begun words c n shut marks queue tail
+  beginning_whole l = let e : b ≡ n = omega (arith, h.most) in rw e at h.begun

@@ -11,37 +11,37 @@ use lib.Dec.{eqb}
 use lib.ListN.{length, drop, set, length-set, length-append}
 use borrow.Author.Tests.{eq-eqb, ne_eqb}
 use Rattle.laws.specs.ListsLaws.{below_or_not}
-use Rattle.card.specs.Lists.{numbersBelow}
+use Rattle.card.specs.Lists.{numbers_below}
 use Rattle.card.specs.Contents.{overwrite}
-use Rattle.laws.specs.NumbersLaws.{numbers_more, numbers-most}
-use Rattle.walks.specs.Walk.{mark, markedBelow}
+use Rattle.laws.specs.NumbersLaws.{numbers_more, numbers_most}
+use Rattle.walks.specs.Walk.{mark, marked_below}
 
 -- ---- places
 
-put-end : (ys xs : List ℕ) (y : ℕ) → length ys < length xs
+put_end : (ys xs : List ℕ) (y : ℕ) → length ys < length xs
     → set (ys ++ drop (length ys) xs) (length ys) y ≡ (ys ++ (y ∷ [])) ++ drop (length (ys ++ (y ∷ []))) xs
-put-end [] [] y l = absurd (not-suc-le-zero l)
-put-end [] (x ∷ xs) y l = refl
-put-end (z ∷ ys) [] y l = absurd (not-suc-le-zero l)
-put-end (z ∷ ys) (x ∷ xs) y l = ap (λ (ns : List ℕ). z ∷ ns) (put-end ys xs y (le_of_suc-le-suc l))
+put_end [] [] y l = absurd (not-suc-le-zero l)
+put_end [] (x ∷ xs) y l = refl
+put_end (z ∷ ys) [] y l = absurd (not-suc-le-zero l)
+put_end (z ∷ ys) (x ∷ xs) y l = ap (λ (ns : List ℕ). z ∷ ns) (put_end ys xs y (le_of_suc-le-suc l))
 
 -- ---- one block more
 
 module _ (marks : List ℕ) (b : ℕ) where
-  below_in : mark marks b ≡ 1 → markedBelow marks (b + 1) ≡ markedBelow marks b ++ (b ∷ [])
-  unfolding numbersBelow
+  below_in : mark marks b ≡ 1 → marked_below marks (b + 1) ≡ marked_below marks b ++ (b ∷ [])
+  unfolding numbers_below
   below_in e = rw (add-one b) (rw (eq-eqb (mark marks b) 1 e))
 
-  below_out : (mark marks b ≡ 1 → ⊥) → markedBelow marks (b + 1) ≡ markedBelow marks b
-  unfolding numbersBelow
+  below_out : (mark marks b ≡ 1 → ⊥) → marked_below marks (b + 1) ≡ marked_below marks b
+  unfolding numbers_below
   below_out e = rw (add-one b) (rw (ne_eqb (mark marks b) 1 e) (append-nil _))
 
 -- The more blocks, the more may be marked.
-numbers-grow : (q : ℕ → Bool) (m n : ℕ) → m ≤ n → length (numbersBelow q m) ≤ length (numbersBelow q n)
-numbers-grow q m zero l = let e : m ≡ 0 = omega arith in rw e (omega arith)
-numbers-grow q m (suc n) l =
+numbers_grow : (q : ℕ → Bool) (m n : ℕ) → m ≤ n → length (numbers_below q m) ≤ length (numbers_below q n)
+numbers_grow q m zero l = let e : m ≡ 0 = omega arith in rw e (omega arith)
+numbers_grow q m (suc n) l =
     ⊎_elim
-    (λ (k : m < suc n). omega (arith, numbers-grow q m n (omega arith), numbers_more q n))
+    (λ (k : m < suc n). omega (arith, numbers_grow q m n (omega arith), numbers_more q n))
     (λ (k : suc n ≤ m). let e : m ≡ suc n = omega arith in rw e (omega arith))
     (below_or_not m (suc n))
 
@@ -49,24 +49,24 @@ numbers-grow q m (suc n) l =
 pub record Listed (marks places₀ places : List ℕ) (n b listed : ℕ) : Type 0 where
   pub most : b ≤ n
   pub few : n ≤ 4096
-  pub fits : length (markedBelow marks n) ≤ length places₀
-  pub counted : listed ≡ length (markedBelow marks b)
-  pub whole : places ≡ markedBelow marks b ++ drop (length (markedBelow marks b)) places₀
-  pub samePlaces : length places ≡ length places₀
+  pub fits : length (marked_below marks n) ≤ length places₀
+  pub counted : listed ≡ length (marked_below marks b)
+  pub whole : places ≡ marked_below marks b ++ drop (length (marked_below marks b)) places₀
+  pub same_places : length places ≡ length places₀
 
-pub listed-none : (marks places₀ : List ℕ) (n : ℕ) → n ≤ 4096 → length (markedBelow marks n) ≤ length places₀ → Listed marks places₀ places₀ n 0 0
-unfolding numbersBelow
-listed-none marks places₀ n few fits = record { most = omega arith; few = few; fits = fits; counted = refl; whole = refl; samePlaces = refl }
+pub listed_none : (marks places₀ : List ℕ) (n : ℕ) → n ≤ 4096 → length (marked_below marks n) ≤ length places₀ → Listed marks places₀ places₀ n 0 0
+unfolding numbers_below
+listed_none marks places₀ n few fits = record { most = omega arith; few = few; fits = fits; counted = refl; whole = refl; same_places = refl }
 
 module _ {marks places₀ places : List ℕ} {n b listed : ℕ} (h : Listed marks places₀ places n b listed) (l : b < n) where
-  more : mark marks b ≡ 1 → length (markedBelow marks (b + 1)) ≡ listed + 1
-  more e = ap length (below_in marks b e) ∙ length-append (markedBelow marks b) (b ∷ []) ∙ ap (λ (k : ℕ). k + 1) (sym h.counted)
+  more : mark marks b ≡ 1 → length (marked_below marks (b + 1)) ≡ listed + 1
+  more e = ap length (below_in marks b e) ∙ length-append (marked_below marks b) (b ∷ []) ∙ ap (λ (k : ℕ). k + 1) (sym h.counted)
 
-  pub listed-few : listed ≤ 4096
-  listed-few = omega (arith, h.counted, numbers-most (λ x. eqb (mark marks x) 1) b, h.few)
+  pub listed_few : listed ≤ 4096
+  listed_few = omega (arith, h.counted, numbers_most (λ x. eqb (mark marks x) 1) b, h.few)
 
-  pub listed-room : mark marks b ≡ 1 → listed < length places
-  listed-room e = omega (arith, more e, numbers-grow (λ x. eqb (mark marks x) 1) (b + 1) n (omega arith), h.fits, h.samePlaces)
+  pub listed_room : mark marks b ≡ 1 → listed < length places
+  listed_room e = omega (arith, more e, numbers_grow (λ x. eqb (mark marks x) 1) (b + 1) n (omega arith), h.fits, h.same_places)
 
   listed_in : mark marks b ≡ 1 → Listed marks places₀ (set places listed b) n (b + 1) (listed + 1)
   listed_in e = record {
@@ -76,30 +76,30 @@ module _ {marks places₀ places : List ℕ} {n b listed : ℕ} (h : Listed mark
     counted = sym (more e);
     whole =
         rw (h.whole, h.counted, below_in marks b e)
-        (put-end (markedBelow marks b) places₀ b (omega (arith, listed-room e, h.counted, h.samePlaces)));
-    samePlaces = length-set places listed b ∙ h.samePlaces;
+        (put_end (marked_below marks b) places₀ b (omega (arith, listed_room e, h.counted, h.same_places)));
+    same_places = length-set places listed b ∙ h.same_places;
   }
 
-  listed-out : (mark marks b ≡ 1 → ⊥) → Listed marks places₀ places n (b + 1) listed
-  listed-out e = record {
+  listed_out : (mark marks b ≡ 1 → ⊥) → Listed marks places₀ places n (b + 1) listed
+  listed_out e = record {
     most = omega arith;
     few = h.few;
     fits = h.fits;
     counted = h.counted ∙ ap length (sym (below_out marks b e));
     whole = rw (below_out marks b e) h.whole;
-    samePlaces = h.samePlaces;
+    same_places = h.same_places;
   }
 
   pub listed_more : {places' : List ℕ} {listed' : ℕ}
       → ((mark marks b ≡ 1) × ((places' ≡ set places listed b) × (listed' ≡ listed + 1))) ⊎ ((mark marks b ≡ 1 → ⊥) × ((places' ≡ places) × (listed' ≡ listed)))
       → Listed marks places₀ places' n (b + 1) listed'
-  listed_more = ⊎_elim (λ w. rw (w.1.0, w.1.1) (listed_in w.0)) (λ w. rw (w.1.0, w.1.1) (listed-out w.0))
+  listed_more = ⊎_elim (λ w. rw (w.1.0, w.1.1) (listed_in w.0)) (λ w. rw (w.1.0, w.1.1) (listed_out w.0))
 
-pub listed-whole : {marks places₀ places : List ℕ} {n b listed : ℕ} → Listed marks places₀ places n b listed → n ≤ b → places ≡ overwrite places₀ 0 (markedBelow marks n)
+pub listed_whole : {marks places₀ places : List ℕ} {n b listed : ℕ} → Listed marks places₀ places n b listed → n ≤ b → places ≡ overwrite places₀ 0 (marked_below marks n)
 unfolding overwrite
-listed-whole {marks} {places₀} {n = n} {b = b} h l =
+listed_whole {marks} {places₀} {n = n} {b = b} h l =
     let e : b ≡ n = omega (arith, h.most) in
-    let all : length (markedBelow marks n) ≡ 0 + length (markedBelow marks n) = omega arith in
+    let all : length (marked_below marks n) ≡ 0 + length (marked_below marks n) = omega arith in
     h.whole
-    ∙ ap (λ (k : ℕ). markedBelow marks k ++ drop (length (markedBelow marks k)) places₀) e
-    ∙ ap (λ (k : ℕ). markedBelow marks n ++ drop k places₀) all
+    ∙ ap (λ (k : ℕ). marked_below marks k ++ drop (length (marked_below marks k)) places₀) e
+    ∙ ap (λ (k : ℕ). marked_below marks n ++ drop k places₀) all

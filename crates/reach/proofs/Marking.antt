@@ -10,75 +10,75 @@ use lib.ListN.{length}
 use borrow.Author.Tests.{eq-eqb, eqb-true}
 use Rattle.laws.specs.ListsLaws.{same_test}
 use Rattle.card.specs.Pointers.{contains}
-use Rattle.card.specs.Card.{Card, card, allocated, has_key, windowOpen, inUse}
+use Rattle.card.specs.Card.{Card, card, allocated, has_key, window_open, in_use}
 use Rattle.card.specs.SoundCard.{SoundCard}
-use Rattle.card.specs.Reach.{keyPresented, sealed}
+use Rattle.card.specs.Reach.{key_presented, sealed}
 use Rattle.card.specs.declared.Info.{Info}
-use Rattle.report.specs.Report.{given, rootUnsealed, someKey, someWindow, withinByItself, withinReach}
-use Rattle.report.specs.ReportLaws.{within-itself, within_step, within_in, within-own}
-use Rattle.walks.specs.Walk.{Edge, mark, markedBelow, Walking, Led, begins, leads, Spread}
-use Rattle.walks.specs.WalkLaws.{marked-below}
+use Rattle.report.specs.Report.{given, root_unsealed, some_key, some_window, within_by_itself, within_reach}
+use Rattle.report.specs.ReportLaws.{within_itself, within_step, within_in, within_own}
+use Rattle.walks.specs.Walk.{Edge, mark, marked_below, Walking, Led, begins, leads, Spread}
+use Rattle.walks.specs.WalkLaws.{marked_below_law}
 use Rattle.walks.specs.declared.Direction.TheVariants.{Along}
 use Rattle.reach.specs.Within.{Begun, Within}
-use Rattle.reach.specs.WithinLaws.{Opens, along-opens, opens-along}
+use Rattle.reach.specs.WithinLaws.{Opens, along_opens, opens_along}
 
 -- With nothing settled yet, a walk may go along any edges.
 pub walking_start : {edge : ℕ → ℕ → Type 0} {marks queue : List ℕ} {tail : ℕ} → Walking (λ a b. ⊥) marks queue 0 tail → Walking edge marks queue 0 tail
 walking_start h = record {
-  hasMarks = h.hasMarks;
-  hasQueue = h.hasQueue;
+  has_marks = h.has_marks;
+  has_queue = h.has_queue;
   order = h.order;
   counted = h.counted;
-  isMarked = h.isMarked;
+  is_marked = h.is_marked;
   queued = h.queued;
   settled = λ k b l e. absurd (not-suc-le-zero l);
 }
 
 -- What is said of a block by itself looks at no other tables.
-begun-card : (words : List ℕ) (info : Info) (flags keys counts pointers multiplicities windows contents : List ℕ) (n : ℕ) {shut marks queue : List ℕ} {tail : ℕ}
+begun_card : (words : List ℕ) (info : Info) (flags keys counts pointers multiplicities windows contents : List ℕ) (n : ℕ) {shut marks queue : List ℕ} {tail : ℕ}
     → Begun words (card info flags keys [] [] [] windows []) n shut marks queue tail → Begun words (card info flags keys counts pointers multiplicities windows contents) n shut marks queue tail
-unfolding sealed keyPresented has_key withinByItself rootUnsealed someKey someWindow allocated windowOpen
-begun-card words info flags keys counts pointers multiplicities windows contents n h = record {
-  hasShut = h.hasShut;
-  shutBelow = record { isShut = h.shutBelow.isShut; isOpen = h.shutBelow.isOpen };
+unfolding sealed key_presented has_key within_by_itself root_unsealed some_key some_window allocated window_open
+begun_card words info flags keys counts pointers multiplicities windows contents n h = record {
+  has_shut = h.has_shut;
+  shut_below = record { is_shut = h.shut_below.is_shut; is_open = h.shut_below.is_open };
   walking = h.walking;
-  isMarked = h.isMarked;
+  is_marked = h.is_marked;
   only = h.only;
 }
 
 module _ {words : List ℕ} {c : Card} (s : SoundCard c) {shut marks queue : List ℕ} {tail : ℕ} (h : Begun words c c.public.info.blocks shut marks queue tail) where
-  led-within : {b : ℕ} → Led (Edge Along shut (inUse c.public)) marks b → contains b (withinReach (given words) c) ≡ true
-  led-within (begins {b = b} e) = within-itself (given words) c b (h.only b e).1
-  led-within (leads {a = a} {b = b} r e) =
-      let o : Opens c s h.shutBelow a b = along-opens c s h.shutBelow e in
-      within_step (given words) c a b (led-within r) o.points o.isDestination o.unsealed
+  led_within : {b : ℕ} → Led (Edge Along shut (in_use c.public)) marks b → contains b (within_reach (given words) c) ≡ true
+  led_within (begins {b = b} e) = within_itself (given words) c b (h.only b e).1
+  led_within (leads {a = a} {b = b} r e) =
+      let o : Opens c s h.shut_below a b = along_opens c s h.shut_below e in
+      within_step (given words) c a b (led_within r) o.points o.is_destination o.unsealed
 
-  within-led : (b : ℕ) → contains b (withinReach (given words) c) ≡ true → Led (Edge Along shut (inUse c.public)) marks b
-  within-led =
-      within_in (given words) c (Led (Edge Along shut (inUse c.public)) marks)
-      (λ b l e. begins (h.isMarked b l e))
-      (λ a b l r p held open'. leads r (opens-along c s h.shutBelow a b l p open'))
+  within_led : (b : ℕ) → contains b (within_reach (given words) c) ≡ true → Led (Edge Along shut (in_use c.public)) marks b
+  within_led =
+      within_in (given words) c (Led (Edge Along shut (in_use c.public)) marks)
+      (λ b l e. begins (h.is_marked b l e))
+      (λ a b l r p held open'. leads r (opens_along c s h.shut_below a b l p open'))
 
-  below : (b : ℕ) → contains b (withinReach (given words) c) ≡ true → b < c.public.info.blocks
+  below : (b : ℕ) → contains b (within_reach (given words) c) ≡ true → b < c.public.info.blocks
   below = within_in (given words) c (λ b. b < c.public.info.blocks) (λ b l e. l) (λ a b l r p held open'. l)
 
-  walked : {marks' queue' : List ℕ} {count : ℕ} → Spread (Edge Along shut (inUse c.public)) marks marks' queue' count → Within words c shut marks' count
+  walked : {marks' queue' : List ℕ} {count : ℕ} → Spread (Edge Along shut (in_use c.public)) marks marks' queue' count → Within words c shut marks' count
   walked {marks'} w =
-      let list : markedBelow marks' c.public.info.blocks ≡ withinReach (given words) c =
-      within-own (given words) c (λ b. eqb (mark marks' b) 1)
+      let list : marked_below marks' c.public.info.blocks ≡ within_reach (given words) c =
+      within_own (given words) c (λ b. eqb (mark marks' b) 1)
       (λ b l.
       same_test _ _
-      (λ e. led-within (w.led b (eqb-true (mark marks' b) 1 e)))
-      (λ e. eq-eqb (mark marks' b) 1 (w.reached b (within-led b e)))) in
-      let few : c.public.info.blocks ≤ length marks' = omega (arith, s.shaped.inRanges.blocksHigh, w.walking.hasMarks) in
+      (λ e. led_within (w.led b (eqb-true (mark marks' b) 1 e)))
+      (λ e. eq-eqb (mark marks' b) 1 (w.reached b (within_led b e)))) in
+      let few : c.public.info.blocks ≤ length marks' = omega (arith, s.shaped.in_ranges.blocks_high, w.walking.has_marks) in
       record {
-        shutBelow = h.shutBelow;
-        isMarked = list;
-        counted = w.walking.counted ∙ marked-below marks' c.public.info.blocks few (λ b e. below b (led-within (w.led b e))) ∙ ap length list;
+        shut_below = h.shut_below;
+        is_marked = list;
+        counted = w.walking.counted ∙ marked_below_law marks' c.public.info.blocks few (λ b e. below b (led_within (w.led b e))) ∙ ap length list;
       }
 
-pub walked-within : (words : List ℕ) (info : Info) (flags keys counts pointers multiplicities windows contents : List ℕ) {shut marks marks' queue queue' : List ℕ} {tail count : ℕ}
+pub walked_within : (words : List ℕ) (info : Info) (flags keys counts pointers multiplicities windows contents : List ℕ) {shut marks marks' queue queue' : List ℕ} {tail count : ℕ}
     → SoundCard (card info flags keys counts pointers multiplicities windows contents) → Begun words (card info flags keys [] [] [] windows []) info.blocks shut marks queue tail
-    → Spread (Edge Along shut (inUse (card info flags keys counts pointers multiplicities windows contents).public)) marks marks' queue' count
+    → Spread (Edge Along shut (in_use (card info flags keys counts pointers multiplicities windows contents).public)) marks marks' queue' count
     → Within words (card info flags keys counts pointers multiplicities windows contents) shut marks' count
-walked-within words info flags keys counts pointers multiplicities windows contents s h w = walked s (begun-card words info flags keys counts pointers multiplicities windows contents info.blocks h) w
+walked_within words info flags keys counts pointers multiplicities windows contents s h w = walked s (begun_card words info flags keys counts pointers multiplicities windows contents info.blocks h) w

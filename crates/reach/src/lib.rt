@@ -4,10 +4,10 @@ ghost use Rattle.card.specs.Card.{Card, card};
 ghost use Rattle.card.specs.Contents.{overwrite};
 ghost use Rattle.card.specs.Lent.{lent, at_entry};
 ghost use Rattle.card.specs.SoundCard.{SoundCard};
-ghost use Rattle.card.specs.Reach.{keyPresented};
-ghost use Rattle.report.specs.Report.{given, badKeys, reachReport};
-ghost use Rattle.report.specs.Contracts.{reachSound, Reports};
-ghost use Rattle.walks.specs.Walk.{markedBelow};
+ghost use Rattle.card.specs.Reach.{key_presented};
+ghost use Rattle.report.specs.Report.{given, bad_keys, reach_report};
+ghost use Rattle.report.specs.Contracts.{reach_sound, Reports};
+ghost use Rattle.walks.specs.Walk.{marked_below};
 ghost use Rattle.reach.specs.Within.{StandingOf, Sized, Begun, Within, Fresh};
 
 use card::{Answer, Info, Mode, Refusal, Verdict};
@@ -20,7 +20,7 @@ const MOST_WORDS: usize = 128;
 
 // The words make no whole number of keys, or more than 64.
 pub fn bad_keys(words: &[u64]) -> bool
-    ensures { result ≡ badKeys words.now }
+    ensures { result ≡ bad_keys words.now }
 {
     let length = words.len();
     (length % 2 != 0) | (MOST_WORDS < length)
@@ -44,7 +44,7 @@ fn given(words: &[u64], high: u64, low: u64) -> bool
 // The block, of which this is the flags byte, has a key for the mode, and that key is given.
 fn key_given(flag: u8, keys: &[u64], words: &[u64], mode: Mode, block: usize) -> bool
     requires { 4 * block + 4 ≤ length keys.now }
-    ensures { (c : Card) → c.keys ≡ keys.now → get_or c.public.flags block 0 ≡ flag → result ≡ keyPresented (given words.now) c mode block }
+    ensures { (c : Card) → c.keys ≡ keys.now → get_or c.public.flags block 0 ≡ flag → result ≡ key_presented (given words.now) c mode block }
 {
     if !flags::has_key(flag, mode) {
         return false;
@@ -157,8 +157,8 @@ pub fn mark_within(
 // The marked blocks go into the first places, ascending.
 pub fn list(marks: &[u8; 4096], blocks: usize, places: &mut [u16])
     requires blocks_bound { blocks ≤ 4096 }
-    requires blocks_in_bounds { length (markedBelow marks.now blocks) ≤ length places.old }
-    ensures { places.new ≡ overwrite places.old 0 (markedBelow marks.now blocks) }
+    requires blocks_in_bounds { length (marked_below marks.now blocks) ≤ length places.old }
+    ensures { places.new ≡ overwrite places.old 0 (marked_below marks.now blocks) }
 {
     let mut listed = 0;
     let mut block = 0;
@@ -185,7 +185,7 @@ fn reach_sound(
     places: &mut [u16],
 ) -> Answer
     requires { SoundCard (lent info flags keys counts pointers multiplicities windows contents) }
-    ensures { Reports (reachSound words.now) info flags keys counts pointers multiplicities windows contents places result }
+    ensures { Reports (reach_sound words.now) info flags keys counts pointers multiplicities windows contents places result }
 {
     if bad_keys(words) {
         return Answer::Refused(Refusal::BadOperand);
@@ -227,7 +227,7 @@ pub fn reach(
     words: &[u64],
     places: &mut [u16],
 ) -> Answer
-    ensures { Reports (reachReport words.now) info flags keys counts pointers multiplicities windows contents places result }
+    ensures { Reports (reach_report words.now) info flags keys counts pointers multiplicities windows contents places result }
 {
     match audit::audit(
         info,

@@ -2,8 +2,8 @@
 // What is right is defined in specs/, after document 01, "Call records and the player", and the requests.
 ghost use Rattle.std.specs.Prelude.{◌≡◌, ◌≤◌, length};
 ghost use Rattle.kinds.specs.Kinds.{length_of};
-ghost use Rattle.decoding.specs.Decode.{readWith, writeWith, allocOperands, allocWith, allocContigWith, createWith, deleteOperands, deleteWith, deleteTreeWith, keyWith, renewWith, decodeKey, decodeCall, decodeBody};
-ghost use Rattle.decoding.specs.Parsed.{parsedBad, ParsedIs};
+ghost use Rattle.decoding.specs.Decode.{read_with, write_with, alloc_operands, alloc_with, alloc_contig_with, create_with, delete_operands, delete_with, delete_tree_with, key_with, renew_with, decode_key, decode_call, decode_body};
+ghost use Rattle.decoding.specs.Parsed.{parsed_bad, ParsedIs};
 
 use card::{
     AllocOperands, Call, CreateOperands, Credential, DeleteOperands, ForceOperands, KeyOperands,
@@ -16,7 +16,7 @@ use kinds::{Kind, Name};
 // ---- the calls of their operands, however these are passed
 
 pub fn read_with(port: Port, block: u16, parsed: ParsedCredential, interval: u32) -> Decoding
-    ensures { result ≡ readWith port block parsed interval }
+    ensures { result ≡ read_with port block parsed interval }
 {
     match parsed {
         ParsedCredential::Valid(credential) => Decoding::Decoded(
@@ -32,7 +32,7 @@ pub fn read_with(port: Port, block: u16, parsed: ParsedCredential, interval: u32
 }
 
 pub fn write_with(port: Port, block: u16, parsed: ParsedCredential, interval: u32) -> Decoding
-    ensures { result ≡ writeWith port block parsed interval }
+    ensures { result ≡ write_with port block parsed interval }
 {
     match parsed {
         ParsedCredential::Valid(credential) => Decoding::Decoded(
@@ -49,7 +49,7 @@ pub fn write_with(port: Port, block: u16, parsed: ParsedCredential, interval: u3
 
 // ALLOC and ALLOC_CONTIG have the same operands.
 fn alloc_operands(reference: u16, credential: Credential, hint: u16, count: u8) -> AllocOperands
-    ensures { result ≡ allocOperands reference credential hint count }
+    ensures { result ≡ alloc_operands reference credential hint count }
 {
     AllocOperands {
         reference,
@@ -66,7 +66,7 @@ pub fn alloc_with(
     hint: u16,
     count: u8,
 ) -> Decoding
-    ensures { result ≡ allocWith port reference parsed hint count }
+    ensures { result ≡ alloc_with port reference parsed hint count }
 {
     match parsed {
         ParsedCredential::Valid(credential) => {
@@ -84,7 +84,7 @@ pub fn alloc_contig_with(
     hint: u16,
     count: u8,
 ) -> Decoding
-    ensures { result ≡ allocContigWith port reference parsed hint count }
+    ensures { result ≡ alloc_contig_with port reference parsed hint count }
 {
     match parsed {
         ParsedCredential::Valid(credential) => {
@@ -102,7 +102,7 @@ pub fn create_with(
     destination: u16,
     other: ParsedCredential,
 ) -> Decoding
-    ensures { result ≡ createWith port source first destination other }
+    ensures { result ≡ create_with port source first destination other }
 {
     let ParsedCredential::Valid(credential) = first else {
         return Decoding::Bad;
@@ -123,7 +123,7 @@ pub fn create_with(
 
 // DELETE and DELETE_TREE have the same operands.
 fn delete_operands(source: u16, credential: Credential, destination: u16) -> DeleteOperands
-    ensures { result ≡ deleteOperands source credential destination }
+    ensures { result ≡ delete_operands source credential destination }
 {
     DeleteOperands {
         source,
@@ -133,7 +133,7 @@ fn delete_operands(source: u16, credential: Credential, destination: u16) -> Del
 }
 
 pub fn delete_with(port: Port, source: u16, parsed: ParsedCredential, destination: u16) -> Decoding
-    ensures { result ≡ deleteWith port source parsed destination }
+    ensures { result ≡ delete_with port source parsed destination }
 {
     match parsed {
         ParsedCredential::Valid(credential) => {
@@ -150,7 +150,7 @@ pub fn delete_tree_with(
     parsed: ParsedCredential,
     destination: u16,
 ) -> Decoding
-    ensures { result ≡ deleteTreeWith port source parsed destination }
+    ensures { result ≡ delete_tree_with port source parsed destination }
 {
     match parsed {
         ParsedCredential::Valid(credential) => {
@@ -169,7 +169,7 @@ pub fn key_with(
     parsed: ParsedCredential,
     new: ParsedKey,
 ) -> Decoding
-    ensures { result ≡ keyWith port mode block parsed new }
+    ensures { result ≡ key_with port mode block parsed new }
 {
     let ParsedCredential::Valid(credential) = parsed else {
         return Decoding::Bad;
@@ -196,7 +196,7 @@ pub fn renew_with(
     parsed: ParsedCredential,
     interval: u32,
 ) -> Decoding
-    ensures { result ≡ renewWith port mode block parsed interval }
+    ensures { result ≡ renew_with port mode block parsed interval }
 {
     let ParsedCredential::Valid(credential) = parsed else {
         return Decoding::Bad;
@@ -223,7 +223,7 @@ pub fn renew_with(
 
 fn decode_read(port: Port, body: &[u8]) -> Decoding
     requires { 23 ≤ length body.now }
-    ensures { result ≡ decodeCall port Name.Read body.now }
+    ensures { result ≡ decode_call port Name.Read body.now }
 {
     let block = fields::two(body, 0);
     let credential = fields::credential(body, 2);
@@ -234,7 +234,7 @@ fn decode_read(port: Port, body: &[u8]) -> Decoding
 // The data stay in the body, behind the bytes that are looked at here.
 fn decode_write(port: Port, body: &[u8]) -> Decoding
     requires { 535 ≤ length body.now }
-    ensures { result ≡ decodeCall port Name.Write body.now }
+    ensures { result ≡ decode_call port Name.Write body.now }
 {
     let block = fields::two(body, 0);
     let credential = fields::credential(body, 2);
@@ -244,7 +244,7 @@ fn decode_write(port: Port, body: &[u8]) -> Decoding
 
 fn decode_alloc(port: Port, body: &[u8]) -> Decoding
     requires { 22 ≤ length body.now }
-    ensures { result ≡ decodeCall port Name.Alloc body.now }
+    ensures { result ≡ decode_call port Name.Alloc body.now }
 {
     let reference = fields::two(body, 0);
     let credential = fields::credential(body, 2);
@@ -255,7 +255,7 @@ fn decode_alloc(port: Port, body: &[u8]) -> Decoding
 
 fn decode_alloc_contig(port: Port, body: &[u8]) -> Decoding
     requires { 22 ≤ length body.now }
-    ensures { result ≡ decodeCall port Name.AllocContig body.now }
+    ensures { result ≡ decode_call port Name.AllocContig body.now }
 {
     let reference = fields::two(body, 0);
     let credential = fields::credential(body, 2);
@@ -266,7 +266,7 @@ fn decode_alloc_contig(port: Port, body: &[u8]) -> Decoding
 
 fn decode_create(port: Port, body: &[u8]) -> Decoding
     requires { 38 ≤ length body.now }
-    ensures { result ≡ decodeCall port Name.Create body.now }
+    ensures { result ≡ decode_call port Name.Create body.now }
 {
     let source = fields::two(body, 0);
     let credential = fields::credential(body, 2);
@@ -277,7 +277,7 @@ fn decode_create(port: Port, body: &[u8]) -> Decoding
 
 fn decode_delete(port: Port, body: &[u8]) -> Decoding
     requires { 21 ≤ length body.now }
-    ensures { result ≡ decodeCall port Name.Delete body.now }
+    ensures { result ≡ decode_call port Name.Delete body.now }
 {
     let source = fields::two(body, 0);
     let credential = fields::credential(body, 2);
@@ -287,7 +287,7 @@ fn decode_delete(port: Port, body: &[u8]) -> Decoding
 
 fn decode_delete_tree(port: Port, body: &[u8]) -> Decoding
     requires { 21 ≤ length body.now }
-    ensures { result ≡ decodeCall port Name.DeleteTree body.now }
+    ensures { result ≡ decode_call port Name.DeleteTree body.now }
 {
     let source = fields::two(body, 0);
     let credential = fields::credential(body, 2);
@@ -298,7 +298,7 @@ fn decode_delete_tree(port: Port, body: &[u8]) -> Decoding
 // KEY_READ and KEY_WRITE have the same body.
 fn decode_key(port: Port, mode: Mode, body: &[u8]) -> Decoding
     requires { 36 ≤ length body.now }
-    ensures { result ≡ decodeKey port mode body.now }
+    ensures { result ≡ decode_key port mode body.now }
 {
     let block = fields::two(body, 0);
     let credential = fields::credential(body, 2);
@@ -309,7 +309,7 @@ fn decode_key(port: Port, mode: Mode, body: &[u8]) -> Decoding
 // A bare key.
 fn decode_renew(port: Port, body: &[u8]) -> Decoding
     requires { 23 ≤ length body.now }
-    ensures { result ≡ decodeCall port Name.Renew body.now }
+    ensures { result ≡ decode_call port Name.Renew body.now }
 {
     let mode = body[0];
     let block = fields::two(body, 1);
@@ -322,7 +322,7 @@ fn decode_renew(port: Port, body: &[u8]) -> Decoding
 
 fn decode_force(port: Port, body: &[u8]) -> Decoding
     requires { 2 ≤ length body.now }
-    ensures { result ≡ decodeCall port Name.Force body.now }
+    ensures { result ≡ decode_call port Name.Force body.now }
 {
     let block = fields::two(body, 0);
     Decoding::Decoded(port, Call::Force(ForceOperands { block }))
@@ -330,7 +330,7 @@ fn decode_force(port: Port, body: &[u8]) -> Decoding
 
 fn decode_tick(port: Port, body: &[u8]) -> Decoding
     requires { 8 ≤ length body.now }
-    ensures { result ≡ decodeCall port Name.Tick body.now }
+    ensures { result ≡ decode_call port Name.Tick body.now }
 {
     let seconds = fields::eight(body, 0);
     Decoding::Decoded(port, Call::Tick(TickOperands { seconds }))
@@ -339,7 +339,7 @@ fn decode_tick(port: Port, body: &[u8]) -> Decoding
 // A body that is not cut short, by its call.
 fn decode_call(port: Port, name: Name, body: &[u8]) -> Decoding
     requires { length_of name ≤ length body.now }
-    ensures { result ≡ decodeCall port name body.now }
+    ensures { result ≡ decode_call port name body.now }
 {
     match name {
         Name::Read => decode_read(port, body),
@@ -361,7 +361,7 @@ fn decode_call(port: Port, name: Name, body: &[u8]) -> Decoding
 
 // Refusal 13: there is no body.
 pub fn bad() -> Parsed
-    ensures { result ≡ parsedBad }
+    ensures { result ≡ parsed_bad }
 {
     Parsed {
         decoding: Decoding::Bad,
@@ -372,7 +372,7 @@ pub fn bad() -> Parsed
 
 // What a kind and the bytes behind it hold, of which only the body's are looked at.
 pub fn decode(wire: Port, kind: u8, body: &[u8]) -> Parsed
-    ensures { ParsedIs (decodeBody wire kind body.now) body.now result }
+    ensures { ParsedIs (decode_body wire kind body.now) body.now result }
 {
     let known = lengths::kind_of(wire, kind);
     let Kind::Known(port, name) = known else {

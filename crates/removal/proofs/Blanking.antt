@@ -16,8 +16,8 @@ pub record Blanking (before after : List ℕ) (from to at : ℕ) : Type 0 where
   pub is : after ≡ blanked before from at
   pub same : length after ≡ length before
 
-pub blanking-none : (before : List ℕ) (from to : ℕ) → from ≤ to → Blanking before before from to from
-blanking-none before from to l = record {
+pub blanking_none : (before : List ℕ) (from to : ℕ) → from ≤ to → Blanking before before from to from
+blanking_none before from to l = record {
   low = omega arith;
   most = l;
   is =
@@ -26,9 +26,9 @@ blanking-none before from to l = record {
   same = refl;
 }
 
-pub blanking-more : {before after : List ℕ} {from to at : ℕ} → to ≤ length before → Blanking before after from to at → at < to
+pub blanking_more : {before after : List ℕ} {from to at : ℕ} → to ≤ length before → Blanking before after from to at → at < to
     → Blanking before (set after at 0) from to (at + 1)
-blanking-more {before} {after} {from} {to} {at} fits h l =
+blanking_more {before} {after} {from} {to} {at} fits h l =
     let front : List ℕ = take from before ++ zeros (at - from) in
     let long : length front ≡ at =
     length-append (take from before) (zeros (at - from))
@@ -51,5 +51,5 @@ blanking-more {before} {after} {from} {to} {at} fits h l =
       same = length-set after at 0 ∙ h.same;
     }
 
-pub blanking-whole : {before after : List ℕ} {from to at : ℕ} → Blanking before after from to at → to ≤ at → after ≡ blanked before from to
-blanking-whole {before} {from = from} {to} {at} h l = h.is ∙ ap (λ (n : ℕ). blanked before from n) (omega (arith, h.most))
+pub blanking_whole : {before after : List ℕ} {from to at : ℕ} → Blanking before after from to at → to ≤ at → after ≡ blanked before from to
+blanking_whole {before} {from = from} {to} {at} h l = h.is ∙ ap (λ (n : ℕ). blanked before from n) (omega (arith, h.most))

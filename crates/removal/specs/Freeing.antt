@@ -3,11 +3,11 @@ use Rattle.std.specs.Prelude.{ℕ, ◌≡◌, List}
 use Rattle.card.specs.Card.{card}
 use Rattle.card.specs.Lent.{Lent}
 use Rattle.card.specs.Plan.{changes}
-use Rattle.card.specs.Calls.{freeEach}
+use Rattle.card.specs.Calls.{free_each}
 use Rattle.card.specs.declared.Info.{Info}
 
 abbrev pub FreesEach : List ℕ → Lent → Lent → Lent → Type 0
 FreesEach blocks flags keys windows =
     (info : Info) (counts pointers multiplicities contents : List ℕ)
     → card info flags.exit.now keys.exit.now counts pointers multiplicities windows.exit.now contents
-    ≡ changes (card info flags.entry.now keys.entry.now counts pointers multiplicities windows.entry.now contents) (freeEach blocks)
+    ≡ changes (card info flags.entry.now keys.entry.now counts pointers multiplicities windows.entry.now contents) (free_each blocks)

@@ -11,10 +11,10 @@ use Rattle.trees.specs.Freed.{Freed}
 use Rattle.removal.specs.declared.TreeChecked.{TreeChecked}
 use Rattle.removal.specs.declared.TreeChecked.TheVariants.{Refused, Frees}
 
-abbrev pub treeRequest : DeleteOperands → Request
-treeRequest o = request (DeleteTree o) [] [] []
+abbrev pub tree_request : DeleteOperands → Request
+tree_request o = request (DeleteTree o) [] [] []
 
 -- The call's refusal, or how many blocks are freed, which are then marked.
 pub data TreeFound (port : Port) (c : Card) (o : DeleteOperands) (marks : List ℕ) : TreeChecked → Type 0 where
-  refuses : {r : Refusal} → Refuses port c (treeRequest o) r → TreeFound port c o marks (Refused r)
-  frees : {count : ℕ} → Passes port c (treeRequest o) → Freed c.public o.source o.destination marks count → TreeFound port c o marks (Frees count)
+  refuses : {r : Refusal} → Refuses port c (tree_request o) r → TreeFound port c o marks (Refused r)
+  frees : {count : ℕ} → Passes port c (tree_request o) → Freed c.public o.source o.destination marks count → TreeFound port c o marks (Frees count)

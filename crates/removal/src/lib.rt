@@ -2,13 +2,13 @@
 ghost use Rattle.std.specs.Prelude.{◌≡◌, [], ◌*◌, ◌≤◌, length, get_or, replicate};
 ghost use Rattle.card.specs.Lists.{any};
 ghost use Rattle.card.specs.Pointers.{pointer};
-ghost use Rattle.card.specs.Card.{keyFlag};
+ghost use Rattle.card.specs.Card.{key_flag};
 ghost use Rattle.card.specs.Lent.{Performs, lent, at_entry};
 ghost use Rattle.card.specs.SoundCard.{SoundCard};
-ghost use Rattle.card.specs.Session.{request, performSound};
+ghost use Rattle.card.specs.Session.{request, perform_sound};
 ghost use Rattle.card.specs.declared.Call.TheVariants.{DeleteTree};
 ghost use Rattle.card.specs.declared.Mode.TheVariants.{Writing};
-ghost use Rattle.walks.specs.Walk.{markedBelow};
+ghost use Rattle.walks.specs.Walk.{marked_below};
 ghost use Rattle.removal.specs.Dropping.{Countable, ClosedUp, Blanked, CanDrop, DropsPointers};
 ghost use Rattle.removal.specs.Freeing.{FreesEach};
 ghost use Rattle.removal.specs.TreeChecked.{TreeFound};
@@ -29,7 +29,7 @@ pub enum TreeChecked {
 fn some_write_key(flags: &[u8], marks: &[u8; 4096], blocks: usize) -> bool
     requires blocks_in_bounds { blocks ≤ length flags.now }
     requires blocks_bound { blocks ≤ 4096 }
-    ensures { result ≡ any (λ b. keyFlag Writing (get_or flags.now b 0)) (markedBelow marks.now blocks) }
+    ensures { result ≡ any (λ b. key_flag Writing (get_or flags.now b 0)) (marked_below marks.now blocks) }
 {
     let mut at = 0;
     while at < blocks {
@@ -176,7 +176,7 @@ fn free_marked(
     requires blocks_in_bounds { blocks ≤ length flags.old }
     requires blocks_in_bounds_2 { 4 * blocks ≤ length keys.old }
     requires blocks_in_bounds_3 { 2 * blocks ≤ length windows.old }
-    ensures { FreesEach (markedBelow marks.now blocks) flags keys windows }
+    ensures { FreesEach (marked_below marks.now blocks) flags keys windows }
 {
     let mut at = 0;
     while at < blocks {
@@ -203,7 +203,7 @@ pub fn delete_tree_sound(
     o: DeleteOperands,
 ) -> Outcome
     requires { SoundCard (lent info flags keys counts pointers multiplicities windows contents) }
-    ensures { Performs (λ c. performSound port c (request (DeleteTree o) [] [] [])) info flags keys counts pointers multiplicities windows contents result [] [] }
+    ensures { Performs (λ c. perform_sound port c (request (DeleteTree o) [] [] [])) info flags keys counts pointers multiplicities windows contents result [] [] }
 {
     let mut marks = [0u8; 4096];
     match tree_check(

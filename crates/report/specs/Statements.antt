@@ -1,19 +1,19 @@
 -- What is promised of the reach report of 2026-03: its two lists, and what its two calls leave and are refused for.
 use Rattle.std.specs.Prelude.{ℕ, ◌*◌, ◌<◌, ◌≡◌, ◌↔◌, Bool, true, false, not, List, [], ◌∷◌, eqb, ltb, length, take, drop}
-use Rattle.card.specs.Lists.{any, numbersBelow}
+use Rattle.card.specs.Lists.{any, numbers_below}
 use Rattle.card.specs.Pointers.{ascending, contains}
-use Rattle.card.specs.Card.{Card, allocated, keyHigh, keyLow}
+use Rattle.card.specs.Card.{Card, allocated, key_high, key_low}
 use Rattle.card.specs.Soundness.{shape, sound}
 use Rattle.card.specs.SoundCard.{SoundCard}
 use Rattle.card.specs.Plan.{Check, ◌⇒◌, Result}
-use Rattle.card.specs.Calls.{isDone, missing}
+use Rattle.card.specs.Calls.{is_done, missing}
 use Rattle.card.specs.Session.{Request}
 use Rattle.card.specs.Reach.{presented, sealed, Reach, Hidden}
 use Rattle.card.specs.Statements.Refusals.{RefusedBy}
 use Rattle.card.specs.declared.Mode.TheVariants.{Writing}
 use Rattle.card.specs.declared.Refusal.TheVariants.{Misshapen, Unsound, NotAllocated, BadOperand}
 use Rattle.card.specs.declared.Answer.TheVariants.{Refused, Value}
-use Rattle.report.specs.Report.{given, withinReach, unlocking, reachReport, unlockingReport}
+use Rattle.report.specs.Report.{given, within_reach, unlocking, reach_report, unlocking_report}
 
 -- ---- what the lists are
 
@@ -25,13 +25,13 @@ pub record Lists (holds : ℕ → Type 0) (list : List ℕ) : Type 0 where
 
 -- "the blocks within reach, ascending, exactly as document 01 defines them"
 abbrev pub ReachListed : Type 0
-ReachListed = (words : List ℕ) (c : Card) → Lists (Reach (given words) c) (withinReach (given words) c)
+ReachListed = (words : List ℕ) (c : Card) → Lists (Reach (given words) c) (within_reach (given words) c)
 
 -- A sealed block whose write key, added alone, brings the chosen block within reach.
 pub record Unlocks (words : List ℕ) (c : Card) (chosen s : ℕ) : Type 0 where
-  pub isBlock : s < c.public.info.blocks
-  pub isSealed : sealed (given words) c s ≡ true
-  pub brings : Reach (given (keyHigh c.keys Writing s ∷ (keyLow c.keys Writing s ∷ words))) c chosen
+  pub is_block : s < c.public.info.blocks
+  pub is_sealed : sealed (given words) c s ≡ true
+  pub brings : Reach (given (key_high c.keys Writing s ∷ (key_low c.keys Writing s ∷ words))) c chosen
 
 -- "each sealed block whose write key, added alone to the set, would bring the chosen one within reach, smallest number first"
 abbrev pub UnlockingListed : Type 0
@@ -46,34 +46,34 @@ pub data Among : List ℕ → ℕ → ℕ → Type 0 where
 abbrev pub HiddenUnlisted : Type 0
 HiddenUnlisted =
     (words : List ℕ) (session : List Request) → ((high low : ℕ) → (presented session high low ≡ true) ↔ Among words high low) → (c : Card) (b : ℕ)
-    → Hidden (presented session) c b ↔ ((allocated c.public b ≡ true) × (contains b (withinReach (given words) c) ≡ false))
+    → Hidden (presented session) c b ↔ ((allocated c.public b ≡ true) × (contains b (within_reach (given words) c) ≡ false))
 
 -- ---- what the two calls leave
 
 -- The two calls: the blocks within reach, or those that unlock a chosen one.
 pub data Asked : Type 0 where
-  withinReachOf : Asked
-  unlockingOf : ℕ → Asked
+  within_reach_of : Asked
+  unlocking_of : ℕ → Asked
 
 -- The list that is asked for, with the keys of these words.
 abbrev pub list_of : Asked → List ℕ → Card → List ℕ
-list_of withinReachOf words c = withinReach (given words) c
-list_of (unlockingOf chosen) words c = unlocking words c chosen
+list_of within_reach_of words c = within_reach (given words) c
+list_of (unlocking_of chosen) words c = unlocking words c chosen
 
 -- What the call makes of the places and the card.
 abbrev pub reported : Asked → List ℕ → List ℕ → Card → Result
-reported withinReachOf words places c = reachReport words places c
-reported (unlockingOf chosen) words places c = unlockingReport words chosen places c
+reported within_reach_of words places c = reach_report words places c
+reported (unlocking_of chosen) words places c = unlocking_report words chosen places c
 
 -- The card and the number of places are as they were. Done, the result is the list's length, the list stands in the first places, and the others
 -- are as they were; refused, all places are.
 pub record UnchangedButFor (list : List ℕ) (c : Card) (places : List ℕ) (r : Result) : Type 0 where
   pub after : r.after ≡ c
-  pub asMany : length r.places ≡ length places
-  pub result : isDone r.answer ≡ true → r.answer ≡ Value (length list)
-  pub lists : isDone r.answer ≡ true → take (length list) r.places ≡ list
-  pub behind : isDone r.answer ≡ true → drop (length list) r.places ≡ drop (length list) places
-  pub whenRefused : isDone r.answer ≡ false → r.places ≡ places
+  pub as_many : length r.places ≡ length places
+  pub result : is_done r.answer ≡ true → r.answer ≡ Value (length list)
+  pub lists : is_done r.answer ≡ true → take (length list) r.places ≡ list
+  pub behind : is_done r.answer ≡ true → drop (length list) r.places ≡ drop (length list) places
+  pub when_refused : is_done r.answer ≡ false → r.places ≡ places
 
 -- "its result is the list's length, and places past a list's end are untouched"
 abbrev pub ReportUnchanged : Type 0
@@ -82,23 +82,23 @@ ReportUnchanged = (asked : Asked) (words places : List ℕ) (c : Card) → Uncha
 -- ---- what they are refused for
 
 -- "up to 64 keys": some number of keys, at most 64, has so many words.
-unfoldable pub upTo64 : ℕ → Bool
-upTo64 n = any (λ k. eqb n (2 * k)) (numbersBelow (λ k. true) 65)
+unfoldable pub up_to64 : ℕ → Bool
+up_to64 n = any (λ k. eqb n (2 * k)) (numbers_below (λ k. true) 65)
 
 -- The conditions of both calls, spelled out apart from the plans: 1 and 2 first. "A buffer with fewer places than its list", "a 65th key" or "a chosen
 -- block that is within reach" "is refusal 4, before 3".
-abbrev pub refusalsOf : Asked → List ℕ → ℕ → Card → List Check
-refusalsOf withinReachOf words places c =
+abbrev pub refusals_of : Asked → List ℕ → ℕ → Card → List Check
+refusals_of within_reach_of words places c =
     (not (shape c) ⇒ Misshapen)
     ∷ (not (sound c) ⇒ Unsound)
-    ∷ (not (upTo64 (length words)) ⇒ BadOperand)
-    ∷ (ltb places (length (withinReach (given words) c)) ⇒ BadOperand)
+    ∷ (not (up_to64 (length words)) ⇒ BadOperand)
+    ∷ (ltb places (length (within_reach (given words) c)) ⇒ BadOperand)
     ∷ []
-refusalsOf (unlockingOf chosen) words places c =
+refusals_of (unlocking_of chosen) words places c =
     (not (shape c) ⇒ Misshapen)
     ∷ (not (sound c) ⇒ Unsound)
-    ∷ (not (upTo64 (length words)) ⇒ BadOperand)
-    ∷ (contains chosen (withinReach (given words) c) ⇒ BadOperand)
+    ∷ (not (up_to64 (length words)) ⇒ BadOperand)
+    ∷ (contains chosen (within_reach (given words) c) ⇒ BadOperand)
     ∷ (ltb places (length (unlocking words c chosen)) ⇒ BadOperand)
     ∷ (missing c.public chosen ⇒ NotAllocated)
     ∷ []
@@ -106,10 +106,10 @@ refusalsOf (unlockingOf chosen) words places c =
 -- Refused for the first of the conditions that holds and for no other; done where none holds and nowhere else.
 abbrev pub ReportRefused : Type 0
 ReportRefused =
-    (asked : Asked) (words places : List ℕ) (c : Card) → RefusedBy (refusalsOf asked words (length places) c) (reported asked words places c).answer
+    (asked : Asked) (words places : List ℕ) (c : Card) → RefusedBy (refusals_of asked words (length places) c) (reported asked words places c).answer
 
 -- A chosen block that is not below N or not allocated is refused 3 for good keys, whatever the places.
 abbrev pub UnknownChosen : Type 0
 UnknownChosen =
-    (words places : List ℕ) (chosen : ℕ) (c : Card) → SoundCard c → upTo64 (length words) ≡ true → missing c.public chosen ≡ true
-    → (unlockingReport words chosen places c).answer ≡ Refused NotAllocated
+    (words places : List ℕ) (chosen : ℕ) (c : Card) → SoundCard c → up_to64 (length words) ≡ true → missing c.public chosen ≡ true
+    → (unlocking_report words chosen places c).answer ≡ Refused NotAllocated

@@ -8,73 +8,73 @@ use native.Mathlib.Omega.{arith}
 use lib.Dec.{ltb}
 use lib.ListN.{length, get_or}
 use borrow.Author.Tests.{lt-ltb, le-ltb}
-use Rattle.card.specs.Lists.{numbersBelow}
-use Rattle.laws.specs.ListsLaws.{and-true, and-false-left, and-false-right, absurd-test, false-unless, allBelow-true, true-allBelow, same-or-other}
-use Rattle.card.specs.Card.{freeFlag}
+use Rattle.card.specs.Lists.{numbers_below}
+use Rattle.laws.specs.ListsLaws.{and_true, and_false_left, and_false_right, absurd_test, false_unless, all_below_true, true_all_below, same_or_other}
+use Rattle.card.specs.Card.{free_flag}
 use Rattle.card.specs.Calls.{distance, nearest}
 use Rattle.runs.specs.declared.NearestRun.{NearestRun}
 use Rattle.runs.specs.declared.NearestRun.TheVariants.{Absent, From}
-use Rattle.runs.specs.Runs.{runIn, startsIn, nearestOf, nearerOf, sinceAfter}
+use Rattle.runs.specs.Runs.{run_in, starts_in, nearest_of, nearer_of, since_after}
 
 -- ---- the nearest, one more
 
-nearest-last : (want best : ℕ) (xs : List ℕ) (s : ℕ)
+nearest_last : (want best : ℕ) (xs : List ℕ) (s : ℕ)
     → nearest want best (xs ++ (s ∷ [])) ≡ cond (ltb (distance want s) (distance want (nearest want best xs))) s (nearest want best xs)
 unfolding nearest
-nearest-last want best [] s = refl
-nearest-last want best (x ∷ xs) s = nearest-last want (cond (ltb (distance want x) (distance want best)) x best) xs s
+nearest_last want best [] s = refl
+nearest_last want best (x ∷ xs) s = nearest_last want (cond (ltb (distance want x) (distance want best)) x best) xs s
 
-nearest-more : (want : ℕ) (xs : List ℕ) (s : ℕ) → nearestOf want (xs ++ (s ∷ [])) ≡ nearerOf want (nearestOf want xs) s
-unfolding nearestOf nearerOf nearest
-nearest-more want [] s = refl
-nearest-more want (x ∷ xs) s = go (ltb (distance want s) (distance want (nearest want x xs))) (nearest-last want x xs s)
+nearest_more : (want : ℕ) (xs : List ℕ) (s : ℕ) → nearest_of want (xs ++ (s ∷ [])) ≡ nearer_of want (nearest_of want xs) s
+unfolding nearest_of nearer_of nearest
+nearest_more want [] s = refl
+nearest_more want (x ∷ xs) s = go (ltb (distance want s) (distance want (nearest want x xs))) (nearest_last want x xs s)
   where
     go : (t : Bool) → nearest want x (xs ++ (s ∷ [])) ≡ cond t s (nearest want x xs) → From (nearest want x (xs ++ (s ∷ []))) ≡ cond t (From s) (From (nearest want x xs))
     go true e = ap From e
     go false e = ap From e
 
 module _ (want start : ℕ) {best : NearestRun} where
-  pub nearer-none : best ≡ Absent → From start ≡ nearerOf want best start
-  unfolding nearerOf
-  nearer-none e = rw e
+  pub nearer_none : best ≡ Absent → From start ≡ nearer_of want best start
+  unfolding nearer_of
+  nearer_none e = rw e
 
   module _ (first : ℕ) {d k : ℕ} (e : best ≡ From first) (toStart : d ≡ distance want start) (toFirst : k ≡ distance want first) where
-    pub nearer-taken : d < k → From start ≡ nearerOf want best start
-    unfolding nearerOf
-    nearer-taken l = rw (e, lt-ltb (distance want start) (distance want first) (omega arith))
+    pub nearer_taken : d < k → From start ≡ nearer_of want best start
+    unfolding nearer_of
+    nearer_taken l = rw (e, lt-ltb (distance want start) (distance want first) (omega arith))
 
-    pub nearer-kept : k ≤ d → From first ≡ nearerOf want best start
-    unfolding nearerOf
-    nearer-kept l = rw (e, le-ltb (distance want start) (distance want first) (omega arith))
+    pub nearer_kept : k ≤ d → From first ≡ nearer_of want best start
+    unfolding nearer_of
+    nearer_kept l = rw (e, le-ltb (distance want start) (distance want first) (omega arith))
 
 -- ---- the first blocks of runs
 
 -- Where the test fails of every further number, there are no more.
-no_more : (p : ℕ → Bool) (m n : ℕ) → m ≤ n → ((b : ℕ) → m ≤ b → b < n → p b ≡ false) → numbersBelow p n ≡ numbersBelow p m
-unfolding numbersBelow
+no_more : (p : ℕ → Bool) (m n : ℕ) → m ≤ n → ((b : ℕ) → m ≤ b → b < n → p b ≡ false) → numbers_below p n ≡ numbers_below p m
+unfolding numbers_below
 no_more p m zero l h = let none : m ≡ 0 = omega arith in rw none
 no_more p m (suc n) l h =
     ⊎_elim
     (λ (e : m ≡ suc n). rw e)
     (λ (f : m ≡ suc n → ⊥).
-    rw (h n (omega arith) (omega arith)) (append-nil (numbersBelow p n) ∙ no_more p m n (omega arith) (λ b k u. h b k (omega arith))))
-    (same-or-other m (suc n))
+    rw (h n (omega arith) (omega arith)) (append-nil (numbers_below p n) ∙ no_more p m n (omega arith) (λ b k u. h b k (omega arith))))
+    (same_or_other m (suc n))
 
 module _ (flags : List ℕ) (count : ℕ) where
-  is-run : (first : ℕ) → ((b : ℕ) → first ≤ b → b < first + count → (b < length flags) × (freeFlag (get_or flags b 0) ≡ true)) → runIn flags count first ≡ true
-  unfolding runIn
-  is-run first h = true-allBelow _ count (λ i l. let t = h (first + i) (omega arith) (omega arith) in and-true _ _ (lt-ltb _ _ t.0) t.1)
+  is_run : (first : ℕ) → ((b : ℕ) → first ≤ b → b < first + count → (b < length flags) × (free_flag (get_or flags b 0) ≡ true)) → run_in flags count first ≡ true
+  unfolding run_in
+  is_run first h = true_all_below _ count (λ i l. let t = h (first + i) (omega arith) (omega arith) in and_true _ _ (lt-ltb _ _ t.0) t.1)
 
   -- A block that is not free, or past the last, is in no run.
-  no_run : (first b : ℕ) → first ≤ b → b < first + count → ltb b (length flags) && freeFlag (get_or flags b 0) ≡ false → runIn flags count first ≡ false
-  unfolding runIn
+  no_run : (first b : ℕ) → first ≤ b → b < first + count → ltb b (length flags) && free_flag (get_or flags b 0) ≡ false → run_in flags count first ≡ false
+  unfolding run_in
   no_run first b l u f =
       let same : first + (b - first) ≡ b = omega arith in
-      false-unless _
+      false_unless _
       (λ h.
-      absurd-test
-      (subst (λ (n : ℕ). ltb n (length flags) && freeFlag (get_or flags n 0) ≡ true) same
-      (allBelow-true (λ i. ltb (first + i) (length flags) && freeFlag (get_or flags (first + i) 0)) count h (b - first) (omega arith)))
+      absurd_test
+      (subst (λ (n : ℕ). ltb n (length flags) && free_flag (get_or flags n 0) ≡ true) same
+      (all_below_true (λ i. ltb (first + i) (length flags) && free_flag (get_or flags (first + i) 0)) count h (b - first) (omega arith)))
       f)
 
 -- ---- the walk
@@ -83,109 +83,109 @@ module _ (flags : List ℕ) (count : ℕ) where
 pub record Met (flags : List ℕ) (want count : ℕ) (best : NearestRun) (since block : ℕ) : Type 0 where
   pub most : block ≤ length flags
   pub inside : since ≤ block
-  pub free : (b : ℕ) → since ≤ b → b < block → freeFlag (get_or flags b 0) ≡ true
-  pub notFree : (b : ℕ) → b + 1 ≡ since → freeFlag (get_or flags b 0) ≡ false
-  pub known : best ≡ nearestOf want (numbersBelow (runIn flags count) (block + 1 - count))
+  pub free : (b : ℕ) → since ≤ b → b < block → free_flag (get_or flags b 0) ≡ true
+  pub not_free : (b : ℕ) → b + 1 ≡ since → free_flag (get_or flags b 0) ≡ false
+  pub known : best ≡ nearest_of want (numbers_below (run_in flags count) (block + 1 - count))
 
 pub met_start : (flags : List ℕ) (want : ℕ) {count : ℕ} → 1 ≤ count → Met flags want count Absent 0 0
-unfolding nearestOf numbersBelow
+unfolding nearest_of numbers_below
 met_start flags want {count} some =
     let none : 0 + 1 - count ≡ 0 = omega arith in
     record {
       most = omega arith;
       inside = omega arith;
       free = λ b l u. absurd (omega arith);
-      notFree = λ b e. absurd (omega arith);
+      not_free = λ b e. absurd (omega arith);
       known = rw none;
     }
 
-module _ (since block flag : ℕ) {t : Bool} (told : t ≡ freeFlag flag) where
-  pub since-passed : t ≡ false → block + 1 ≡ sinceAfter since block flag
-  unfolding sinceAfter
-  since-passed e = rw (← told, e)
+module _ (since block flag : ℕ) {t : Bool} (told : t ≡ free_flag flag) where
+  pub since_passed : t ≡ false → block + 1 ≡ since_after since block flag
+  unfolding since_after
+  since_passed e = rw (← told, e)
 
-  pub since-stays : t ≡ true → since ≡ sinceAfter since block flag
-  unfolding sinceAfter
-  since-stays e = rw (← told, e)
+  pub since_stays : t ≡ true → since ≡ since_after since block flag
+  unfolding since_after
+  since_stays e = rw (← told, e)
 
 -- One block further, with where the free blocks before it then start.
 record Further (flags : List ℕ) (since block : ℕ) : Type 0 where
   pub inside : since ≤ block
-  pub free : (b : ℕ) → since ≤ b → b < block → freeFlag (get_or flags b 0) ≡ true
-  pub notFree : (b : ℕ) → b + 1 ≡ since → freeFlag (get_or flags b 0) ≡ false
+  pub free : (b : ℕ) → since ≤ b → b < block → free_flag (get_or flags b 0) ≡ true
+  pub not_free : (b : ℕ) → b + 1 ≡ since → free_flag (get_or flags b 0) ≡ false
 
-further : (flags : List ℕ) (since block : ℕ) → since ≤ block → ((b : ℕ) → since ≤ b → b < block → freeFlag (get_or flags b 0) ≡ true)
-    → ((b : ℕ) → b + 1 ≡ since → freeFlag (get_or flags b 0) ≡ false) → Further flags (sinceAfter since block (get_or flags block 0)) (block + 1)
-unfolding sinceAfter
-further flags since block l free notFree = go (freeFlag (get_or flags block 0)) refl
+further : (flags : List ℕ) (since block : ℕ) → since ≤ block → ((b : ℕ) → since ≤ b → b < block → free_flag (get_or flags b 0) ≡ true)
+    → ((b : ℕ) → b + 1 ≡ since → free_flag (get_or flags b 0) ≡ false) → Further flags (since_after since block (get_or flags block 0)) (block + 1)
+unfolding since_after
+further flags since block l free not_free = go (free_flag (get_or flags block 0)) refl
   where
-    go : (t : Bool) → freeFlag (get_or flags block 0) ≡ t → Further flags (cond t since (block + 1)) (block + 1)
+    go : (t : Bool) → free_flag (get_or flags block 0) ≡ t → Further flags (cond t since (block + 1)) (block + 1)
     go true e = record {
       inside = omega arith;
-      free = λ b k u. ⊎_elim (λ (f : b ≡ block). rw f e) (λ (f : b ≡ block → ⊥). free b k (omega arith)) (same-or-other b block);
-      notFree = notFree;
+      free = λ b k u. ⊎_elim (λ (f : b ≡ block). rw f e) (λ (f : b ≡ block → ⊥). free b k (omega arith)) (same_or_other b block);
+      not_free = not_free;
     }
     go false e = record {
       inside = omega arith;
       free = λ b k u. absurd (omega arith);
-      notFree = λ b f. let same : b ≡ block = omega arith in rw same e;
+      not_free = λ b f. let same : b ≡ block = omega arith in rw same e;
     }
 
 module _ {flags : List ℕ} {want count : ℕ} {best : NearestRun} {since block : ℕ} (m : Met flags want count best since block) (some : 1 ≤ count) (l : block < length flags)
-    {next : ℕ} (e : next ≡ sinceAfter since block (get_or flags block 0)) where
+    {next : ℕ} (e : next ≡ since_after since block (get_or flags block 0)) where
   after : Further flags next (block + 1)
-  after = subst (λ (n : ℕ). Further flags n (block + 1)) (sym e) (further flags since block m.inside m.free m.notFree)
+  after = subst (λ (n : ℕ). Further flags n (block + 1)) (sym e) (further flags since block m.inside m.free m.not_free)
 
-  pub met-inside : next ≤ block + 1
-  met-inside = after.inside
+  pub met_inside : next ≤ block + 1
+  met_inside = after.inside
 
   -- A run ends with the block.
-  pub met-run : count ≤ (block + 1) - next → {found : NearestRun} → found ≡ nearerOf want best ((block + 1) - count) → Met flags want count found next (block + 1)
-  unfolding numbersBelow
-  met-run enough {found} f =
+  pub met_run : count ≤ (block + 1) - next → {found : NearestRun} → found ≡ nearer_of want best ((block + 1) - count) → Met flags want count found next (block + 1)
+  unfolding numbers_below
+  met_run enough {found} f =
       let start : ℕ = (block + 1) - count in
       let one : (block + 1) + 1 - count ≡ suc ((block + 1) - count) = omega (arith, after.inside) in
-      let run : runIn flags count ((block + 1) - count) ≡ true =
-      is-run flags count ((block + 1) - count) (λ b k u. (omega (arith, after.inside), after.free b (omega (arith, after.inside)) (omega (arith, after.inside)))) in
+      let run : run_in flags count ((block + 1) - count) ≡ true =
+      is_run flags count ((block + 1) - count) (λ b k u. (omega (arith, after.inside), after.free b (omega (arith, after.inside)) (omega (arith, after.inside)))) in
       record {
         most = omega arith;
         inside = after.inside;
         free = after.free;
-        notFree = after.notFree;
+        not_free = after.not_free;
         known =
             f
-            ∙ ap (λ (n : NearestRun). nearerOf want n ((block + 1) - count)) m.known
-            ∙ sym (nearest-more want (numbersBelow (runIn flags count) (block + 1 - count)) ((block + 1) - count))
+            ∙ ap (λ (n : NearestRun). nearer_of want n ((block + 1) - count)) m.known
+            ∙ sym (nearest_more want (numbers_below (run_in flags count) (block + 1 - count)) ((block + 1) - count))
             ∙ rw (one, run);
       }
 
   -- None does.
-  pub met-none : (block + 1) - next < count → Met flags want count best next (block + 1)
-  unfolding numbersBelow
-  met-none few = record {
+  pub met_none : (block + 1) - next < count → Met flags want count best next (block + 1)
+  unfolding numbers_below
+  met_none few = record {
     most = omega arith;
     inside = after.inside;
     free = after.free;
-    notFree = after.notFree;
-    known = m.known ∙ ap (nearestOf want) (sym same);
+    not_free = after.not_free;
+    known = m.known ∙ ap (nearest_of want) (sym same);
   }
     where
-      same : numbersBelow (runIn flags count) (block + 1 + 1 - count) ≡ numbersBelow (runIn flags count) (block + 1 - count)
+      same : numbers_below (run_in flags count) (block + 1 + 1 - count) ≡ numbers_below (run_in flags count) (block + 1 - count)
       same =
-          no_more (runIn flags count) (block + 1 - count) (block + 1 + 1 - count) (omega arith)
+          no_more (run_in flags count) (block + 1 - count) (block + 1 + 1 - count) (omega arith)
           (λ b k u.
           no_run flags count b (next - 1) (omega (arith, after.inside)) (omega (arith, after.inside))
-          (and-false-right (ltb (next - 1) (length flags)) _ (after.notFree (next - 1) (omega (arith, after.inside)))))
+          (and_false_right (ltb (next - 1) (length flags)) _ (after.not_free (next - 1) (omega (arith, after.inside)))))
 
 -- The whole table is walked: no run starts so high that it would end past the last block.
-pub met-whole : {flags : List ℕ} {want count : ℕ} {best : NearestRun} {since block : ℕ} → Met flags want count best since block → 1 ≤ count → length flags ≤ block
-    → best ≡ nearestOf want (startsIn flags count)
-unfolding startsIn
-met-whole {flags} {want} {count} {best} {since} {block} m some l =
+pub met_whole : {flags : List ℕ} {want count : ℕ} {best : NearestRun} {since block : ℕ} → Met flags want count best since block → 1 ≤ count → length flags ≤ block
+    → best ≡ nearest_of want (starts_in flags count)
+unfolding starts_in
+met_whole {flags} {want} {count} {best} {since} {block} m some l =
     m.known
-    ∙ ap (nearestOf want)
+    ∙ ap (nearest_of want)
     (sym
-    (no_more (runIn flags count) (block + 1 - count) (length flags) (omega (arith, m.most))
+    (no_more (run_in flags count) (block + 1 - count) (length flags) (omega (arith, m.most))
     (λ b k u.
     no_run flags count b (b + count - 1) (omega arith) (omega arith)
-    (and-false-left _ (freeFlag (get_or flags (b + count - 1) 0)) (le-ltb (b + count - 1) (length flags) (omega (arith, m.most)))))))
+    (and_false_left _ (free_flag (get_or flags (b + count - 1) 0)) (le-ltb (b + count - 1) (length flags) (omega (arith, m.most)))))))

@@ -1,29 +1,29 @@
 -- What is found of the runs in a table of flags.
 use Rattle.std.specs.Prelude.{ℕ, ◌+◌, Bool, ◌&&◌, cond, List, [], ◌∷◌, ltb, length, get_or}
-use Rattle.card.specs.Lists.{all_below, numbersBelow}
-use Rattle.card.specs.Card.{freeFlag}
+use Rattle.card.specs.Lists.{all_below, numbers_below}
+use Rattle.card.specs.Card.{free_flag}
 use Rattle.card.specs.Calls.{distance, nearest}
 use Rattle.runs.specs.declared.NearestRun.{NearestRun}
 use Rattle.runs.specs.declared.NearestRun.TheVariants.{Absent, From}
 
--- So many free blocks from `first` on, as the rule's `isRun` has it.
-unfoldable pub runIn : List ℕ → ℕ → ℕ → Bool
-runIn flags count first = all_below (λ i. ltb (first + i) (length flags) && freeFlag (get_or flags (first + i) 0)) count
+-- So many free blocks from `first` on, as the rule's `is_run` has it.
+unfoldable pub run_in : List ℕ → ℕ → ℕ → Bool
+run_in flags count first = all_below (λ i. ltb (first + i) (length flags) && free_flag (get_or flags (first + i) 0)) count
 
 -- The first blocks of the runs, ascending.
-unfoldable pub startsIn : List ℕ → ℕ → List ℕ
-startsIn flags count = numbersBelow (runIn flags count) (length flags)
+unfoldable pub starts_in : List ℕ → ℕ → List ℕ
+starts_in flags count = numbers_below (run_in flags count) (length flags)
 
 -- The nearest of them.
-unfoldable pub nearestOf : ℕ → List ℕ → NearestRun
-nearestOf want [] = Absent
-nearestOf want (x ∷ xs) = From (nearest want x xs)
+unfoldable pub nearest_of : ℕ → List ℕ → NearestRun
+nearest_of want [] = Absent
+nearest_of want (x ∷ xs) = From (nearest want x xs)
 
 -- The nearest of those so far and of one more, which is higher.
-unfoldable pub nearerOf : ℕ → NearestRun → ℕ → NearestRun
-nearerOf want Absent start = From start
-nearerOf want (From first) start = cond (ltb (distance want start) (distance want first)) (From start) (From first)
+unfoldable pub nearer_of : ℕ → NearestRun → ℕ → NearestRun
+nearer_of want Absent start = From start
+nearer_of want (From first) start = cond (ltb (distance want start) (distance want first)) (From start) (From first)
 
 -- Where the free blocks start that end with a block.
-unfoldable pub sinceAfter : ℕ → ℕ → ℕ → ℕ
-sinceAfter since block flag = cond (freeFlag flag) since (block + 1)
+unfoldable pub since_after : ℕ → ℕ → ℕ → ℕ
+since_after since block flag = cond (free_flag flag) since (block + 1)

@@ -8,94 +8,94 @@ use native.Mathlib.Omega.{arith}
 use lib.Dec.{eqb}
 use lib.ListN.{replicate}
 use borrow.Author.Tests.{eqb-true}
-use Rattle.laws.specs.ListsLaws.{and_left, and_right, and-true}
+use Rattle.laws.specs.ListsLaws.{and_left, and_right, and_true}
 use Rattle.card.specs.Contents.{zeros}
 use Rattle.card.specs.Card.{Card}
-use Rattle.card.specs.Session.{afterAll}
-use Rattle.card.specs.Trials.{playerCard}
-use Rattle.card.proofs.Computed.Same.{same_lists, cardNumbers}
-use Rattle.card.proofs.Computed.TestLaws.{true-sameLists}
+use Rattle.card.specs.Session.{after_all}
+use Rattle.card.specs.Trials.{player_card}
+use Rattle.card.proofs.Computed.Same.{same_lists, card_numbers}
+use Rattle.card.proofs.Computed.TestLaws.{true_same_lists}
 use Rattle.card.proofs.Computed.Row.{implies, true_implies, Row, refutes, nothing}
-use Rattle.card.proofs.Computed.Secrecy.{withContents, comparable, both-sound, equal-else}
-use Rattle.card.proofs.Computed.Rows.{below, nested, atMostOne}
+use Rattle.card.proofs.Computed.Secrecy.{with_contents, comparable, both_sound, equal_else}
+use Rattle.card.proofs.Computed.Rows.{below, nested, at_most_one}
 use Rattle.card.specs.declared.Port.{Port}
 use Rattle.card.specs.declared.Port.TheVariants.{Host, Service}
 use Rattle.input.specs.Played.{PlayedIs}
 use Rattle.input.specs.declared.Stop.TheVariants.{Ended}
 use Rattle.serving.specs.Serve.{serve}
-use Rattle.serving.proofs.BytesExample.{readBytes, byKeyBytes}
-use Rattle.serving.proofs.Rows.{batching, serviceReadBytes}
-use Rattle.parameters.specs.Numbers.{wireOf}
+use Rattle.serving.proofs.BytesExample.{read_bytes, by_key_bytes}
+use Rattle.serving.proofs.Rows.{batching, service_read_bytes}
+use Rattle.parameters.specs.Numbers.{wire_of}
 use Rattle.parameters.specs.declared.Wire.TheVariants.{At}
 use Rattle.adapter.specs.Effects.{effect}
 use Rattle.interface.specs.Functions.{tick}
 use Rattle.interface.specs.Batch.{BatchIs}
-use Rattle.sequences.specs.Sequence.{Memory, cardOf, Step, calls, batches, Returned, fromCall, fromBatch, state_of, Called, none, called, batched, is_whole, sentOf, sentAt, calls_of, callsIn, callReturns, batchReturns, returnsOf, returnsIn, portNumber, AllAtHost, requestOf, requestsOf, requestsBy, keysBy}
+use Rattle.sequences.specs.Sequence.{Memory, card_of, Step, calls, batches, Returned, from_call, from_batch, state_of, Called, none, called, batched, is_whole, sent_of, sent_at, calls_of, calls_in, call_returns, batch_returns, returns_of, returns_in, port_number, AllAtHost, request_of, requests_of, requests_by, keys_by}
 use Rattle.sequences.specs.Statements.{SafeCalls, CallsSafe, CallsSecret}
 
--- ---- calls-safe
+-- ---- calls_safe
 
 -- All that a sequence returned.
-abbrev returnedNumbers : List Returned → List (List ℕ)
-returnedNumbers [] = []
-returnedNumbers (fromCall number value out places ∷ rs) = (number ∷ value ∷ []) ∷ out ∷ places ∷ returnedNumbers rs
-returnedNumbers (fromBatch number records read written answers ∷ rs) = (number ∷ records ∷ read ∷ written ∷ []) ∷ answers ∷ returnedNumbers rs
+abbrev returned_numbers : List Returned → List (List ℕ)
+returned_numbers [] = []
+returned_numbers (from_call number value out places ∷ rs) = (number ∷ value ∷ []) ∷ out ∷ places ∷ returned_numbers rs
+returned_numbers (from_batch number records read written answers ∷ rs) = (number ∷ records ∷ read ∷ written ∷ []) ∷ answers ∷ returned_numbers rs
 
-abbrev pub callsSafeTest : Memory → List Step → List Returned → Memory → Bool
-callsSafeTest m steps rs n =
-    same_lists (returnedNumbers rs) (returnedNumbers (returnsIn (is_whole m.info) (cardOf m) steps))
-    && same_lists (cardNumbers (cardOf n)) (cardNumbers (afterAll (cardOf m) (callsIn (is_whole m.info) (cardOf m) steps)))
+abbrev pub calls_safe_test : Memory → List Step → List Returned → Memory → Bool
+calls_safe_test m steps rs n =
+    same_lists (returned_numbers rs) (returned_numbers (returns_in (is_whole m.info) (card_of m) steps))
+    && same_lists (card_numbers (card_of n)) (card_numbers (after_all (card_of m) (calls_in (is_whole m.info) (card_of m) steps)))
 
-pub calls-safe-tests : CallsSafe → (m n : Memory) (steps : List Step) (rs : List Returned) → Called m steps rs n → callsSafeTest m steps rs n ≡ true
-calls-safe-tests statement m n steps rs runs =
+pub calls_safe_tests : CallsSafe → (m n : Memory) (steps : List Step) (rs : List Returned) → Called m steps rs n → calls_safe_test m steps rs n ≡ true
+calls_safe_tests statement m n steps rs runs =
     let s : SafeCalls m steps rs n = statement m n steps rs runs in
-    and-true _ _ (true-sameLists (ap returnedNumbers s.returns)) (true-sameLists (ap cardNumbers s.leaves))
+    and_true _ _ (true_same_lists (ap returned_numbers s.returns)) (true_same_lists (ap card_numbers s.leaves))
 
-abbrev callsSafeRow : {m n : Memory} {steps : List Step} {rs : List Returned} → Called m steps rs n → Row CallsSafe
-callsSafeRow {m} {n} {steps} {rs} runs = record { test = callsSafeTest m steps rs n; follows = λ statement. calls-safe-tests statement m n steps rs runs }
+abbrev calls_safe_row : {m n : Memory} {steps : List Step} {rs : List Returned} → Called m steps rs n → Row CallsSafe
+calls_safe_row {m} {n} {steps} {rs} runs = record { test = calls_safe_test m steps rs n; follows = λ statement. calls_safe_tests statement m n steps rs runs }
 
--- ---- calls-secret
+-- ---- calls_secret
 
-abbrev allAtHost : List Step → Bool
-allAtHost [] = true
-allAtHost (s ∷ steps) = eqb (portNumber s) 0 && allAtHost steps
+abbrev all_at_host : List Step → Bool
+all_at_host [] = true
+all_at_host (s ∷ steps) = eqb (port_number s) 0 && all_at_host steps
 
-allAtHost-true : (steps : List Step) → allAtHost steps ≡ true → AllAtHost steps
-allAtHost-true [] h = tt
-allAtHost-true (s ∷ steps) h = (eqb-true _ _ (and_left _ _ h), allAtHost-true steps (and_right (eqb (portNumber s) 0) _ h))
+all_at_host_true : (steps : List Step) → all_at_host steps ≡ true → AllAtHost steps
+all_at_host_true [] h = tt
+all_at_host_true (s ∷ steps) h = (eqb-true _ _ (and_left _ _ h), all_at_host_true steps (and_right (eqb (port_number s) 0) _ h))
 
-abbrev withBytes : Memory → List ℕ → Memory
-withBytes m contents = record { info = m.info; flags = m.flags; keys = m.keys; counts = m.counts; pointers = m.pointers; multiplicities = m.multiplicities; windows = m.windows; contents = contents }
+abbrev with_bytes : Memory → List ℕ → Memory
+with_bytes m contents = record { info = m.info; flags = m.flags; keys = m.keys; counts = m.counts; pointers = m.pointers; multiplicities = m.multiplicities; windows = m.windows; contents = contents }
 
 -- At the host port, on two memories that the keys of the sequence cannot tell apart, the same is returned.
-abbrev pub callsSecretTest : Memory → List ℕ → (ℕ → Bool) → List Step → List Returned → List Returned → Bool
-callsSecretTest m contents named steps rs ss =
-    implies (allAtHost steps && comparable (keysBy (cardOf m) steps) (cardOf m) contents named) (same_lists (returnedNumbers rs) (returnedNumbers ss))
+abbrev pub calls_secret_test : Memory → List ℕ → (ℕ → Bool) → List Step → List Returned → List Returned → Bool
+calls_secret_test m contents named steps rs ss =
+    implies (all_at_host steps && comparable (keys_by (card_of m) steps) (card_of m) contents named) (same_lists (returned_numbers rs) (returned_numbers ss))
 
-module _ {m m' n' : Memory} (contents : List ℕ) (named : ℕ → Bool) {steps : List Step} {rs ss : List Returned} (runs : Called m steps rs m') (runsOther : Called (withBytes m contents) steps ss n') where
-  calls-secret-tests : CallsSecret → callsSecretTest m contents named steps rs ss ≡ true
-  calls-secret-tests statement =
-      let K = keysBy (cardOf m) steps in
-      true_implies (allAtHost steps && comparable K (cardOf m) contents named) _
+module _ {m m' n' : Memory} (contents : List ℕ) (named : ℕ → Bool) {steps : List Step} {rs ss : List Returned} (runs : Called m steps rs m') (runsOther : Called (with_bytes m contents) steps ss n') where
+  calls_secret_tests : CallsSecret → calls_secret_test m contents named steps rs ss ≡ true
+  calls_secret_tests statement =
+      let K = keys_by (card_of m) steps in
+      true_implies (all_at_host steps && comparable K (card_of m) contents named) _
       (λ h.
-      let same = and_right (allAtHost steps) _ h in
-      let s = both-sound K (cardOf m) contents named same in
-      true-sameLists (ap returnedNumbers
-      (statement steps (allAtHost-true steps (and_left _ _ h)) m (withBytes m contents) m' n' rs ss runs runsOther s.0 s.1 refl (equal-else K (cardOf m) contents named same)).answers))
+      let same = and_right (all_at_host steps) _ h in
+      let s = both_sound K (card_of m) contents named same in
+      true_same_lists (ap returned_numbers
+      (statement steps (all_at_host_true steps (and_left _ _ h)) m (with_bytes m contents) m' n' rs ss runs runsOther s.0 s.1 refl (equal_else K (card_of m) contents named same)).answers))
 
-  abbrev callsSecretRow : Row CallsSecret
-  callsSecretRow = record { test = callsSecretTest m contents named steps rs ss; follows = calls-secret-tests }
+  abbrev calls_secret_row : Row CallsSecret
+  calls_secret_row = record { test = calls_secret_test m contents named steps rs ss; follows = calls_secret_tests }
 
 -- ---- rows
 
 -- To compute a row, its proof unfolds this one name.
 unfoldable computing : Unit {0}
-unfolding batching wireOf effect BatchIs sentOf sentAt calls_of callsIn callReturns batchReturns returnsOf returnsIn requestOf requestsOf requestsBy keysBy
+unfolding batching wire_of effect BatchIs sent_of sent_at calls_of calls_in call_returns batch_returns returns_of returns_in request_of requests_of requests_by keys_by
 computing = tt
 
 -- The tables of a card, with a record of so many pointers at a second and a total of 0.
-abbrev memoryOf : ℕ → ℕ → Card → Memory
-memoryOf used time c = record {
+abbrev memory_of : ℕ → ℕ → Card → Memory
+memory_of used time c = record {
   info = 16 ∷ 1 ∷ 512 ∷ used ∷ time ∷ 0 ∷ [];
   flags = c.public.flags;
   keys = c.keys;
@@ -108,86 +108,86 @@ memoryOf used time c = record {
 
 -- The player's card at a second.
 abbrev player : ℕ → Memory
-player time = memoryOf 0 time playerCard
+player time = memory_of 0 time player_card
 
 abbrev ticks : List Step
 ticks = calls (tick 5 0) ∷ (calls (tick 7 0) ∷ [])
 
-abbrev ticksReturn : List Returned
-ticksReturn = fromCall 0 5 [] [] ∷ (fromCall 0 12 [] [] ∷ [])
+abbrev ticks_return : List Returned
+ticks_return = from_call 0 5 [] [] ∷ (from_call 0 12 [] [] ∷ [])
 
-pub ticks-called : Called (player 0) ticks ticksReturn (player 12)
+pub ticks_called : Called (player 0) ticks ticks_return (player 12)
 unfolding computing
-ticks-called =
-    called {n = player 5} (record { does = record { answers = refl; records = refl; leaves = refl; fillsOut = refl; fillsPlaces = refl }; gives = refl })
-    (called {n = player 12} (record { does = record { answers = refl; records = refl; leaves = refl; fillsOut = refl; fillsPlaces = refl }; gives = refl }) none)
+ticks_called =
+    called {n = player 5} (record { does = record { answers = refl; records = refl; leaves = refl; fills_out = refl; fills_places = refl }; gives = refl })
+    (called {n = player 12} (record { does = record { answers = refl; records = refl; leaves = refl; fills_out = refl; fills_places = refl }; gives = refl }) none)
 
-abbrev first-step-alone-performed : Row CallsSafe
-first-step-alone-performed = callsSafeRow ticks-called
+abbrev first_step_alone_performed : Row CallsSafe
+first_step_alone_performed = calls_safe_row ticks_called
 
 -- There is no port 2.
 abbrev nowhere : List Step
 nowhere = batches 2 [] [] 7 8 9 ∷ []
 
-abbrev nowhereReturns : List Returned
-nowhereReturns = fromBatch 13 7 8 9 [] ∷ []
+abbrev nowhere_returns : List Returned
+nowhere_returns = from_batch 13 7 8 9 [] ∷ []
 
-pub nowhere-called : Called (player 0) nowhere nowhereReturns (player 0)
+pub nowhere_called : Called (player 0) nowhere nowhere_returns (player 0)
 unfolding computing
-nowhere-called =
-    let refused : BatchIs (wireOf 2) (state_of (player 0) [] 7 8 9) [] 13 (state_of (player 0) [] 7 8 9) = (refl, refl) in
+nowhere_called =
+    let refused : BatchIs (wire_of 2) (state_of (player 0) [] 7 8 9) [] 13 (state_of (player 0) [] 7 8 9) = (refl, refl) in
     batched {n = player 0} refused none
 
-abbrev wrong-port-reports-no-records : Row CallsSafe
-wrong-port-reports-no-records = callsSafeRow nowhere-called
+abbrev wrong_port_reports_no_records : Row CallsSafe
+wrong_port_reports_no_records = calls_safe_row nowhere_called
 
 -- The nested card with one byte in every place from block 2 on.
-abbrev nestedWith : ℕ → Memory
-nestedWith byte = memoryOf 4 0 (withContents nested (below byte))
+abbrev nested_with : ℕ → Memory
+nested_with byte = memory_of 4 0 (with_contents nested (below byte))
 
 -- A batch that shows block 2, by its key or at the service port.
-abbrev shownBy : ℕ → List ℕ → List Step
-shownBy port input = batches port input (zeros 513) 0 0 0 ∷ []
+abbrev shown_by : ℕ → List ℕ → List Step
+shown_by port input = batches port input (zeros 513) 0 0 0 ∷ []
 
 abbrev shown : ℕ → List Returned
-shown byte = fromBatch 0 1 24 513 (0 ∷ replicate 512 byte) ∷ []
+shown byte = from_batch 0 1 24 513 (0 ∷ replicate 512 byte) ∷ []
 
-abbrev byItsKey : List Step
-byItsKey = shownBy 0 (readBytes 2 (byKeyBytes 5 6) 0)
+abbrev by_its_key : List Step
+by_its_key = shown_by 0 (read_bytes 2 (by_key_bytes 5 6) 0)
 
-abbrev byService : List Step
-byService = shownBy 1 (serviceReadBytes 2)
+abbrev by_service : List Step
+by_service = shown_by 1 (service_read_bytes 2)
 
 module _ (byte : ℕ) where
   -- The one record of an input is performed, and answers with the block.
   abbrev Shows : Port → List ℕ → Type 0
-  Shows wire input = PlayedIs (serve wire (cardOf (nestedWith byte)) input 513) Ended 1 (cardOf (nestedWith byte)) input 24 (zeros 513) (0 ∷ replicate 512 byte) 513
+  Shows wire input = PlayedIs (serve wire (card_of (nested_with byte)) input 513) Ended 1 (card_of (nested_with byte)) input 24 (zeros 513) (0 ∷ replicate 512 byte) 513
 
-  shows-called : (port : ℕ) (wire : Port) (input : List ℕ) → wireOf port ≡ At wire → Shows wire input → Called (nestedWith byte) (shownBy port input) (shown byte) (nestedWith byte)
+  shows_called : (port : ℕ) (wire : Port) (input : List ℕ) → wire_of port ≡ At wire → Shows wire input → Called (nested_with byte) (shown_by port input) (shown byte) (nested_with byte)
   unfolding BatchIs
-  shows-called port wire input e plays =
-      let served : BatchIs (At wire) (state_of (nestedWith byte) (zeros 513) 0 0 0) input 0 (state_of (nestedWith byte) (0 ∷ replicate 512 byte) 1 24 513) =
+  shows_called port wire input e plays =
+      let served : BatchIs (At wire) (state_of (nested_with byte) (zeros 513) 0 0 0) input 0 (state_of (nested_with byte) (0 ∷ replicate 512 byte) 1 24 513) =
       record { refuses = λ h. absurd (h refl); serves = λ f. record { stop = Ended; answers = refl; stores = refl; plays = plays } } in
-      let at : BatchIs (wireOf port) (state_of (nestedWith byte) (zeros 513) 0 0 0) input 0 (state_of (nestedWith byte) (0 ∷ replicate 512 byte) 1 24 513) = rw e served in
-      batched {n = nestedWith byte} at none
+      let at : BatchIs (wire_of port) (state_of (nested_with byte) (zeros 513) 0 0 0) input 0 (state_of (nested_with byte) (0 ∷ replicate 512 byte) 1 24 513) = rw e served in
+      batched {n = nested_with byte} at none
 
-  pub key-called : Called (nestedWith byte) byItsKey (shown byte) (nestedWith byte)
+  pub key_called : Called (nested_with byte) by_its_key (shown byte) (nested_with byte)
   unfolding computing
-  key-called =
-      shows-called 0 Host (readBytes 2 (byKeyBytes 5 6) 0) refl
+  key_called =
+      shows_called 0 Host (read_bytes 2 (by_key_bytes 5 6) 0) refl
       (record { stops = refl; counts = refl; leaves = refl; rests = refl; within = omega arith; writes = record { holds = refl; ends = refl } })
 
-  pub service-called : Called (nestedWith byte) byService (shown byte) (nestedWith byte)
+  pub service_called : Called (nested_with byte) by_service (shown byte) (nested_with byte)
   unfolding computing
-  service-called =
-      shows-called 1 Service (serviceReadBytes 2) refl
+  service_called =
+      shows_called 1 Service (service_read_bytes 2) refl
       (record { stops = refl; counts = refl; leaves = refl; rests = refl; within = omega arith; writes = record { holds = refl; ends = refl } })
 
-abbrev keys-of-a-batch-not-counted : Row CallsSecret
-keys-of-a-batch-not-counted = callsSecretRow (below 6) atMostOne (key-called 5) (key-called 6)
+abbrev keys_of_a_batch_not_counted : Row CallsSecret
+keys_of_a_batch_not_counted = calls_secret_row (below 6) at_most_one (key_called 5) (key_called 6)
 
-abbrev service-batch-in-a-host-sequence : Row CallsSecret
-service-batch-in-a-host-sequence = callsSecretRow (below 6) atMostOne (service-called 5) (service-called 6)
+abbrev service_batch_in_a_host_sequence : Row CallsSecret
+service_batch_in_a_host_sequence = calls_secret_row (below 6) at_most_one (service_called 5) (service_called 6)
 
 -- ---- the row of an edit
 

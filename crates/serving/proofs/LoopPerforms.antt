@@ -6,17 +6,17 @@ use native.Mathlib.Omega.{arith}
 use native.Mathlib.Nat.{add-zero, sub-zero}
 use lib.ListN.{length, length-append}
 use Rattle.card.specs.Card.{Card}
-use Rattle.card.specs.Session.{Sent, reply, performed, replies, afterAll, Each}
+use Rattle.card.specs.Session.{Sent, reply, performed, replies, after_all, Each}
 use Rattle.laws.specs.SessionLaws.{perform_bytes}
 use Rattle.card.specs.Statements.Safe.{SafeCall}
-use Rattle.guarantees.proofs.Safe.{safe-call}
+use Rattle.guarantees.proofs.Safe.{safe_call}
 use Rattle.card.specs.declared.Call.{Call}
-use Rattle.decoding.specs.DecodeLaws.{decode-shorter}
-use Rattle.input.specs.Play.{Turn, halted, fault, Play, outputBefore, stopped, goOn}
-use Rattle.input.specs.PlayLaws.{fault-stops, goOn-halts}
-use Rattle.input.specs.Arrivals.{Arrived, Arrivals, heldBefore, arrivals, sentWith, written_of}
-use Rattle.input.specs.ArrivalsLaws.{arrivals-ended, arrivals-refused, arrivals-sent}
-use Rattle.input.specs.Performed.{Manner, Ends, outOfRoom, allPerformed, PerformedBy, TurnIn, noRoom, atEnd, atFault, performs}
+use Rattle.decoding.specs.DecodeLaws.{decode_shorter}
+use Rattle.input.specs.Play.{Turn, halted, fault, Play, output_before, stopped, go_on}
+use Rattle.input.specs.PlayLaws.{fault_stops, go_on_halts}
+use Rattle.input.specs.Arrivals.{Arrived, Arrivals, held_before, arrivals, sent_with, written_of}
+use Rattle.input.specs.ArrivalsLaws.{arrivals_ended, arrivals_refused, arrivals_sent}
+use Rattle.input.specs.Performed.{Manner, Ends, out_of_room, all_performed, PerformedBy, TurnIn, no_room, at_end, at_fault, performs}
 use Rattle.input.specs.declared.Stop.{Stop}
 use Rattle.input.specs.declared.Stop.TheVariants.{Ended, Full}
 
@@ -26,7 +26,7 @@ module _ (m : Manner) where
   module _ (before : ℕ) (c : Card) (xs : List ℕ) (room : ℕ) where
     none_made : (behind : List Arrived) (stop : Stop) → (arrivals m.wire xs).records ≡ behind → Ends m c.public.info.bytes room xs behind (stopped stop before c xs)
         → PerformedBy m before c xs room (stopped stop before c xs)
-    unfolding afterAll written_of
+    unfolding after_all written_of
     none_made behind stop e ends = record {
       made = [];
       behind = behind;
@@ -41,70 +41,70 @@ module _ (m : Manner) where
     none_left : (stop : Stop) → arrivals m.wire xs ≡ record { records = []; stop = stop; left = xs } → PerformedBy m before c xs room (stopped stop before c xs)
     none_left stop e =
         none_made [] stop (ap (λ (a : Arrivals). a.records) e)
-        (allPerformed refl (sym (ap (λ (a : Arrivals). a.stop) e)) (sym (ap (λ (a : Arrivals). a.left) e)))
+        (all_performed refl (sym (ap (λ (a : Arrivals). a.stop) e)) (sym (ap (λ (a : Arrivals). a.left) e)))
 
-    out-of-room : m.NoRoom c.public.info.bytes room xs → PerformedBy m before c xs room (stopped Full before c xs)
-    out-of-room h = none_made (arrivals m.wire xs).records Full refl (outOfRoom refl (rw sub-zero h))
+    out_of_room_law : m.NoRoom c.public.info.bytes room xs → PerformedBy m before c xs room (stopped Full before c xs)
+    out_of_room_law h = none_made (arrivals m.wire xs).records Full refl (out_of_room refl (rw sub-zero h))
 
     -- ---- one record more
 
-    module _ (a : Arrived) (rest : List ℕ) (is_held_lem : arrivals m.wire xs ≡ heldBefore a (arrivals m.wire rest)) where
-      abbrev lentTo : Call → ℕ
-      lentTo = m.size c.public.info.bytes
+    module _ (a : Arrived) (rest : List ℕ) (is_held_lem : arrivals m.wire xs ≡ held_before a (arrivals m.wire rest)) where
+      abbrev lent_to : Call → ℕ
+      lent_to = m.size c.public.info.bytes
 
       abbrev after : Card
-      after = (performed c (sentWith lentTo a)).after
+      after = (performed c (sent_with lent_to a)).after
 
       abbrev output : List ℕ
-      output = m.write (before + 1) a (reply (performed c (sentWith lentTo a)))
+      output = m.write (before + 1) a (reply (performed c (sent_with lent_to a)))
 
-      same_size : lentTo ≡ m.size after.public.info.bytes
-      same_size = ap m.size (sym (perform_bytes a.port c (sentWith lentTo a).request))
+      same_size : lent_to ≡ m.size after.public.info.bytes
+      same_size = ap m.size (sym (perform_bytes a.port c (sent_with lent_to a).request))
 
-      one_more : (p : Play) → PerformedBy m (before + 1) after rest (room - length output) p → PerformedBy m before c xs room (outputBefore output p)
-      unfolding replies afterAll written_of
+      one_more : (p : Play) → PerformedBy m (before + 1) after rest (room - length output) p → PerformedBy m before c xs room (output_before output p)
+      unfolding replies after_all written_of
       one_more p q =
-          let same : map (sentWith (m.size after.public.info.bytes)) q.made ≡ map (sentWith lentTo) q.made = ap (λ (f : Call → ℕ). map (sentWith f) q.made) (sym same_size) in
+          let same : map (sent_with (m.size after.public.info.bytes)) q.made ≡ map (sent_with lent_to) q.made = ap (λ (f : Call → ℕ). map (sent_with f) q.made) (sym same_size) in
           record {
             made = a ∷ q.made;
             behind = q.behind;
             held = ap (λ (h : Arrivals). h.records) is_held_lem ∙ ap (λ (later : List Arrived). a ∷ later) q.held;
             counts = omega (arith, q.counts);
-            leaves = q.leaves ∙ ap (afterAll after) same;
+            leaves = q.leaves ∙ ap (after_all after) same;
             writes = ap (λ (ys : List ℕ). output ++ ys) (q.writes ∙ ap (λ (ss : List Sent). written_of m.write (before + 1 + 1) q.made (replies after ss)) same);
-            ends = ends-later p q.behind q.ends;
-            safe = (safe-call c (sentWith lentTo a), subst (Each SafeCall after) same q.safe);
+            ends = ends_later p q.behind q.ends;
+            safe = (safe_call c (sent_with lent_to a), subst (Each SafeCall after) same q.safe);
           }
         where
-          ends-later : (p : Play) (behind : List Arrived) → Ends m after.public.info.bytes (room - length output) rest behind p → Ends m c.public.info.bytes room xs behind (outputBefore output p)
-          ends-later p behind (outOfRoom e h) =
+          ends_later : (p : Play) (behind : List Arrived) → Ends m after.public.info.bytes (room - length output) rest behind p → Ends m c.public.info.bytes room xs behind (output_before output p)
+          ends_later p behind (out_of_room e h) =
               let less : room - length output - length p.output ≡ room - length (output ++ p.output) = omega (arith, length-append output p.output) in
-              outOfRoom e
-              (subst (λ (n : ℕ). m.NoRoom n (room - length (output ++ p.output)) p.left) (perform_bytes a.port c (sentWith lentTo a).request)
+              out_of_room e
+              (subst (λ (n : ℕ). m.NoRoom n (room - length (output ++ p.output)) p.left) (perform_bytes a.port c (sent_with lent_to a).request)
               (subst (λ (n : ℕ). m.NoRoom after.public.info.bytes n p.left) less h))
-          ends-later p behind (allPerformed n s l) = allPerformed n (s ∙ ap (λ (h : Arrivals). h.stop) (sym is_held_lem)) (l ∙ ap (λ (h : Arrivals). h.left) (sym is_held_lem))
+          ends_later p behind (all_performed n s l) = all_performed n (s ∙ ap (λ (h : Arrivals). h.stop) (sym is_held_lem)) (l ∙ ap (λ (h : Arrivals). h.left) (sym is_held_lem))
 
   -- ---- the loop
 
   module _ (T : ℕ → Card → List ℕ → ℕ → Turn) (within : ℕ → ℕ → Card → List ℕ → ℕ → Play)
       (turns : (before : ℕ) (c : Card) (xs : List ℕ) (room : ℕ) → TurnIn m before c xs room (T before c xs room))
-      (unrolls : (k before : ℕ) (c : Card) (xs : List ℕ) (room : ℕ) → let t = T before c xs room in within (suc k) before c xs room ≡ goOn t.stop t before (within k) room) where
+      (unrolls : (k before : ℕ) (c : Card) (xs : List ℕ) (room : ℕ) → let t = T before c xs room in within (suc k) before c xs room ≡ go_on t.stop t before (within k) room) where
     by_turn : (k before : ℕ) (c : Card) (xs : List ℕ) (room : ℕ) (t : Turn) → TurnIn m before c xs room t
         → ((a : Card) (ys : List ℕ) (r : ℕ) → length ys < length xs → PerformedBy m (before + 1) a ys r (within k (before + 1) a ys r))
-        → PerformedBy m before c xs room (goOn t.stop t before (within k) room)
-    unfolding goOn
-    by_turn k before c xs room _ (noRoom h) more = out-of-room before c xs room h
-    by_turn k before c xs room _ (atEnd e) more = none_left before c xs room Ended (arrivals-ended m.wire xs e)
-    by_turn k before c xs room _ (atFault e) more =
-        rw (goOn-halts (fault m.wire xs) (halted (fault m.wire xs) c xs) before room (within k) (fault-stops m.wire xs))
-        (none_left before c xs room (fault m.wire xs) (arrivals-refused m.wire xs e))
+        → PerformedBy m before c xs room (go_on t.stop t before (within k) room)
+    unfolding go_on
+    by_turn k before c xs room _ (no_room h) more = out_of_room_law before c xs room h
+    by_turn k before c xs room _ (at_end e) more = none_left before c xs room Ended (arrivals_ended m.wire xs e)
+    by_turn k before c xs room _ (at_fault e) more =
+        rw (go_on_halts (fault m.wire xs) (halted (fault m.wire xs) c xs) before room (within k) (fault_stops m.wire xs))
+        (none_left before c xs room (fault m.wire xs) (arrivals_refused m.wire xs e))
     by_turn k before c xs room _ (performs a rest is-kind e) more =
         one_more before c xs room a rest
-        (arrivals-sent m.wire xs e ∙ ap (λ (kind : ℕ). heldBefore (record { kind = kind; port = a.port; call = a.call; payload = a.payload }) (arrivals m.wire rest)) (sym is-kind))
-        _ (more _ rest _ (decode-shorter m.wire xs e))
+        (arrivals_sent m.wire xs e ∙ ap (λ (kind : ℕ). held_before (record { kind = kind; port = a.port; call = a.call; payload = a.payload }) (arrivals m.wire rest)) (sym is-kind))
+        _ (more _ rest _ (decode_shorter m.wire xs e))
 
-    pub loop-performs : (k before : ℕ) (c : Card) (xs : List ℕ) (room : ℕ) → length xs < k → PerformedBy m before c xs room (within k before c xs room)
-    loop-performs zero before c xs room h = absurd (omega arith)
-    loop-performs (suc k) before c xs room h =
+    pub loop_performs : (k before : ℕ) (c : Card) (xs : List ℕ) (room : ℕ) → length xs < k → PerformedBy m before c xs room (within k before c xs room)
+    loop_performs zero before c xs room h = absurd (omega arith)
+    loop_performs (suc k) before c xs room h =
         subst (PerformedBy m before c xs room) (sym (unrolls k before c xs room))
-        (by_turn k before c xs room (T before c xs room) (turns before c xs room) (λ a ys r l. loop-performs k (before + 1) a ys r (omega arith)))
+        (by_turn k before c xs room (T before c xs room) (turns before c xs room) (λ a ys r l. loop_performs k (before + 1) a ys r (omega arith)))

@@ -2,31 +2,31 @@
 -- The code joins tests to the left, `every` to the right and with `true` at the end.
 use Prim.Native.Nat.{ℕ, ◌*◌, ◌%◌, ◌≤◌, ◌<◌}
 use mathlib.Core.Path.{◌≡◌, refl, sym}
-use mathlib.Core.Bool.{false, ◌&&◌, and_assoc, and-true}
+use mathlib.Core.Bool.{false, ◌&&◌, and_assoc, and_true}
 use native.Mathlib.Omega.{arith}
 use native.Mathlib.Nat.{mul-le-mul}
 use lib.Dec.{eqb, ltb, leb}
 use lib.ListN.{length}
 use Rattle.card.specs.Lists.{every}
-use Rattle.laws.specs.ListsLaws.{false-unless}
+use Rattle.laws.specs.ListsLaws.{false_unless}
 use Rattle.card.specs.Card.{Card}
 use Rattle.card.specs.Soundness.{ranges, lengths, shape}
 use Rattle.card.specs.SoundCard.{InRanges}
-use Rattle.laws.specs.SoundnessLaws.{ranges-true, true-ranges}
+use Rattle.laws.specs.SoundnessLaws.{ranges_true, true_ranges}
 
 pub few_bytes : (blocks roots bytes : ℕ) → bytes < 512 → false ≡ ranges blocks roots bytes
 few_bytes blocks roots bytes l =
-    sym (false-unless _ (λ e. let h : 512 ≤ bytes = (ranges-true blocks roots bytes e).bytesLow in omega arith))
+    sym (false_unless _ (λ e. let h : 512 ≤ bytes = (ranges_true blocks roots bytes e).bytes_low in omega arith))
 
-pub in-ranges : (blocks roots bytes : ℕ)
+pub in_ranges : (blocks roots bytes : ℕ)
     → leb 16 blocks && leb blocks 4096 && leb 1 roots && leb roots 8 && leb 512 bytes && leb bytes 65536 && eqb (65536 % bytes) 0 ≡ ranges blocks roots bytes
 unfolding ranges every
-in-ranges blocks roots bytes = simp (and_assoc, and-true)
+in_ranges blocks roots bytes = simp (and_assoc, and_true)
 
-pub contents-fit : {blocks roots bytes : ℕ} → InRanges blocks roots bytes → blocks * bytes ≤ 268435456
-contents-fit h = mul-le-mul h.blocksHigh h.bytesHigh
+pub contents_fit : {blocks roots bytes : ℕ} → InRanges blocks roots bytes → blocks * bytes ≤ 268435456
+contents_fit h = mul-le-mul h.blocks_high h.bytes_high
 
-pub in-lengths : (c : Card) → InRanges c.public.info.blocks c.public.info.roots c.public.info.bytes
+pub in_lengths : (c : Card) → InRanges c.public.info.blocks c.public.info.roots c.public.info.bytes
     → ltb c.public.info.time 1099511627776
     && eqb (length c.public.flags) c.public.info.blocks
     && eqb (length c.keys) (4 * c.public.info.blocks)
@@ -39,8 +39,8 @@ pub in-lengths : (c : Card) → InRanges c.public.info.blocks c.public.info.root
     && leb c.public.info.used (length c.public.pointers)
     ≡ shape c
 unfolding shape lengths every
-in-lengths c h = simp (true-ranges h, and_assoc, and-true)
+in_lengths c h = simp (true_ranges h, and_assoc, and_true)
 
-pub out-of-ranges : (c : Card) → false ≡ ranges c.public.info.blocks c.public.info.roots c.public.info.bytes → false ≡ shape c
+pub out_of_ranges : (c : Card) → false ≡ ranges c.public.info.blocks c.public.info.roots c.public.info.bytes → false ≡ shape c
 unfolding shape every
-out-of-ranges c e = rw (← e) refl
+out_of_ranges c e = rw (← e) refl

@@ -1,10 +1,10 @@
 // FREE, TICK and RENT on an audited card.
 ghost use Rattle.std.specs.Prelude.{◌*◌, ◌^◌, ◌≤◌, ◌<◌, ◌≡◌, []};
 ghost use Rattle.card.specs.Lent.{Performs, lent};
-ghost use Rattle.card.specs.Rent.{highestPrice, halfRounded, rounded, cents};
-ghost use Rattle.card.specs.Soundness.{timeLimit, mostBlocks};
+ghost use Rattle.card.specs.Rent.{highest_price, half_rounded, rounded, cents};
+ghost use Rattle.card.specs.Soundness.{time_limit, most_blocks};
 ghost use Rattle.card.specs.SoundCard.{SoundCard};
-ghost use Rattle.card.specs.Session.{request, performSound};
+ghost use Rattle.card.specs.Session.{request, perform_sound};
 
 use card::{
     Answer, Call, HIGHEST_PRICE, Info, Outcome, Port, Refusal, RentOperands, TIME_LIMIT,
@@ -25,7 +25,7 @@ pub fn free_sound(
     contents: &[u8],
 ) -> Outcome
     requires { SoundCard (lent info flags keys counts pointers multiplicities windows contents) }
-    ensures { (port : Port) → Performs (λ c. performSound port c (request (Call.Free) [] [] [])) info flags keys counts pointers multiplicities windows contents result [] [] }
+    ensures { (port : Port) → Performs (λ c. perform_sound port c (request (Call.Free) [] [] [])) info flags keys counts pointers multiplicities windows contents result [] [] }
 {
     let free = tables::count_free(flags);
     Outcome {
@@ -46,7 +46,7 @@ pub fn tick_sound(
     o: TickOperands,
 ) -> Outcome
     requires { SoundCard (lent info flags keys counts pointers multiplicities windows contents) }
-    ensures { (port : Port) → Performs (λ c. performSound port c (request (Call.Tick o) [] [] [])) info flags keys counts pointers multiplicities windows contents result [] [] }
+    ensures { (port : Port) → Performs (λ c. perform_sound port c (request (Call.Tick o) [] [] [])) info flags keys counts pointers multiplicities windows contents result [] [] }
 {
     // Compared before it is added: the sum could wrap.
     if TIME_LIMIT - info.time <= o.seconds {
@@ -67,7 +67,7 @@ pub fn tick_sound(
 // An exact half goes upward.
 fn half_rounded(whole: u64) -> u64
     requires { whole < 2 ^ 63 }
-    ensures { result ≡ halfRounded whole }
+    ensures { result ≡ half_rounded whole }
 {
     whole + 1
 }
@@ -91,8 +91,8 @@ fn rounded(parts: u64, size: u64) -> u64
 }
 
 fn cents(total: u64, price: u32) -> u64
-    requires fact_1 { total ≤ timeLimit * mostBlocks }
-    requires fact_2 { price ≤ highestPrice }
+    requires fact_1 { total ≤ time_limit * most_blocks }
+    requires fact_2 { price ≤ highest_price }
     ensures { result ≡ cents total price }
 {
     rounded(total * price as u64, PER_CENT)
@@ -110,7 +110,7 @@ pub fn rent_sound(
     o: RentOperands,
 ) -> Outcome
     requires { SoundCard (lent info flags keys counts pointers multiplicities windows contents) }
-    ensures { (port : Port) → Performs (λ c. performSound port c (request (Call.Rent o) [] [] [])) info flags keys counts pointers multiplicities windows contents result [] [] }
+    ensures { (port : Port) → Performs (λ c. perform_sound port c (request (Call.Rent o) [] [] [])) info flags keys counts pointers multiplicities windows contents result [] [] }
 {
     if HIGHEST_PRICE < o.price {
         return outcomes::refused(info, Refusal::PriceTooHigh);

@@ -10,47 +10,47 @@ use lib.Dec.{ltb}
 use lib.ListN.{length, take, drop, get_or, set, length-set, length-append, length-replicate}
 use lib.Seq.{take_at, take_all, get_or-set_other}
 use borrow.Author.Tests.{lt-ltb, ltb-true, ltb-false}
-use Rattle.card.specs.Lists.{numbersBelow}
-use Rattle.laws.specs.ListsLaws.{and_left, and_right, below_or_not, same-or-other}
+use Rattle.card.specs.Lists.{numbers_below}
+use Rattle.laws.specs.ListsLaws.{and_left, and_right, below_or_not, same_or_other}
 use Rattle.card.specs.Contents.{fill, zeros}
-use Rattle.laws.specs.ContentsLaws.{block-fits, fill-length}
-use Rattle.card.specs.Card.{Card, Public, card, waiting, waitingBlocks, waitingFlag}
+use Rattle.laws.specs.ContentsLaws.{block_fits, fill_length}
+use Rattle.card.specs.Card.{Card, Public, card, waiting, waiting_blocks, waiting_flag}
 use Rattle.card.specs.SoundCard.{SoundCard}
-use Rattle.card.specs.Plan.{changes, change, changePublic, changeKeys, changeContents, outAfter, placesAfter}
+use Rattle.card.specs.Plan.{changes, change, change_public, change_keys, change_contents, out_after, places_after}
 use Rattle.card.specs.Promises.{Is}
-use Rattle.laws.specs.PromisesLaws.{is-done}
-use Rattle.card.specs.Calls.{lowestWaiting, sweepEach, sweepPlan}
-use Rattle.card.specs.Session.{plan, performSound, request}
+use Rattle.laws.specs.PromisesLaws.{is_done}
+use Rattle.card.specs.Calls.{lowest_waiting, sweep_each, sweep_plan}
+use Rattle.card.specs.Session.{plan, perform_sound, request}
 use Rattle.card.specs.declared.Info.{Info}
 use Rattle.card.specs.declared.Port.{Port}
 use Rattle.card.specs.declared.SweepOperands.{SweepOperands}
 use Rattle.card.specs.declared.Call.TheVariants.{Sweep}
 use Rattle.card.specs.declared.Answer.TheVariants.{Value}
-use Rattle.tables.specs.Cleared.{part-cleared}
-use Rattle.tables.specs.FreeLaws.{flags-state}
-use Rattle.sweeping.specs.Sweeping.{CanSweep, BlockSwept, sweptFlags, sweptContents, isWaiting, waitingBelow, lowestIn, LowestSwept}
+use Rattle.tables.specs.Cleared.{part_cleared}
+use Rattle.tables.specs.FreeLaws.{flags_state}
+use Rattle.sweeping.specs.Sweeping.{CanSweep, BlockSwept, swept_flags, swept_contents, is_waiting, waiting_below, lowest_in, LowestSwept}
 
 -- ---- one block
 
-pub block-swept : {bytes b : ℕ} {flags contents cleared : List ℕ} → CanSweep bytes flags contents b
+pub block_swept : {bytes b : ℕ} {flags contents cleared : List ℕ} → CanSweep bytes flags contents b
     → (let at = b * bytes in let size = (at + bytes) - at in
     cleared ≡ zeros (length (take size (drop at contents)))
     → BlockSwept bytes b flags contents (set flags b 0) (take at contents ++ (cleared ++ drop size (drop at contents))))
 unfolding fill
-block-swept {bytes} {b} {contents = contents} s e = record { frees = refl; zeroes = part-cleared (b * bytes) bytes contents s.inContents e }
+block_swept {bytes} {b} {contents = contents} s e = record { frees = refl; zeroes = part_cleared (b * bytes) bytes contents s.in_contents e }
 
 -- ---- one more
 
-flags-one-more : (flags bs : List ℕ) (b : ℕ) → sweptFlags flags (bs ++ (b ∷ [])) ≡ set (sweptFlags flags bs) b 0
-unfolding sweptFlags
-flags-one-more flags [] b = refl
-flags-one-more flags (x ∷ bs) b = flags-one-more (set flags x 0) bs b
+flags_one_more : (flags bs : List ℕ) (b : ℕ) → swept_flags flags (bs ++ (b ∷ [])) ≡ set (swept_flags flags bs) b 0
+unfolding swept_flags
+flags_one_more flags [] b = refl
+flags_one_more flags (x ∷ bs) b = flags_one_more (set flags x 0) bs b
 
-contents-one-more : (bytes : ℕ) (contents bs : List ℕ) (b : ℕ)
-    → sweptContents bytes contents (bs ++ (b ∷ [])) ≡ fill bytes (sweptContents bytes contents bs) b (zeros bytes)
-unfolding sweptContents
-contents-one-more bytes contents [] b = refl
-contents-one-more bytes contents (x ∷ bs) b = contents-one-more bytes (fill bytes contents x (zeros bytes)) bs b
+contents_one_more : (bytes : ℕ) (contents bs : List ℕ) (b : ℕ)
+    → swept_contents bytes contents (bs ++ (b ∷ [])) ≡ fill bytes (swept_contents bytes contents bs) b (zeros bytes)
+unfolding swept_contents
+contents_one_more bytes contents [] b = refl
+contents_one_more bytes contents (x ∷ bs) b = contents_one_more bytes (fill bytes contents x (zeros bytes)) bs b
 
 -- ---- the walk
 
@@ -58,23 +58,23 @@ contents-one-more bytes contents (x ∷ bs) b = contents-one-more bytes (fill by
 pub record Walked (bytes most : ℕ) (flags contents flags' contents' : List ℕ) (swept block : ℕ) : Type 0 where
   pub within : block ≤ length flags
   pub few : swept ≤ most
-  pub counted : swept ≡ length (waitingBelow flags block)
-  pub frees : flags' ≡ sweptFlags flags (waitingBelow flags block)
-  pub zeroes : contents' ≡ sweptContents bytes contents (waitingBelow flags block)
-  pub sameFlags : length flags' ≡ length flags
-  pub sameContents : length contents' ≡ length contents
+  pub counted : swept ≡ length (waiting_below flags block)
+  pub frees : flags' ≡ swept_flags flags (waiting_below flags block)
+  pub zeroes : contents' ≡ swept_contents bytes contents (waiting_below flags block)
+  pub same_flags : length flags' ≡ length flags
+  pub same_contents : length contents' ≡ length contents
   pub ahead : (b : ℕ) → block ≤ b → get_or flags' b 0 ≡ get_or flags b 0
 
 pub walked_none : (bytes most : ℕ) (flags contents : List ℕ) → Walked bytes most flags contents flags contents 0 0
-unfolding waitingBelow numbersBelow sweptFlags sweptContents
+unfolding waiting_below numbers_below swept_flags swept_contents
 walked_none bytes most flags contents = record {
   within = omega arith;
   few = omega arith;
   counted = refl;
   frees = refl;
   zeroes = refl;
-  sameFlags = refl;
-  sameContents = refl;
+  same_flags = refl;
+  same_contents = refl;
   ahead = λ b l. refl;
 }
 
@@ -88,49 +88,49 @@ module _ {bytes most : ℕ} {flags contents flags' contents' : List ℕ} {swept 
   wanting = ltb-true _ _ (and_right (ltb block (length flags)) _ turn)
 
   -- The block's own flags are those at the start.
-  waits-at-first : {t : Bool} → t ≡ waitingFlag (get_or flags' block 0) → isWaiting flags block ≡ t
-  waits-at-first e = sym (e ∙ ap waitingFlag (w.ahead block (omega arith)))
+  waits_at_first : {t : Bool} → t ≡ waiting_flag (get_or flags' block 0) → is_waiting flags block ≡ t
+  waits_at_first e = sym (e ∙ ap waiting_flag (w.ahead block (omega arith)))
 
-  pub can-sweep : length contents ≡ length flags * bytes → CanSweep bytes flags' contents' block
-  can-sweep e = record {
-    inFlags = omega (arith, w.sameFlags, inside);
-    inContents = omega (arith, w.sameContents, block-fits bytes inside);
+  pub can_sweep : length contents ≡ length flags * bytes → CanSweep bytes flags' contents' block
+  can_sweep e = record {
+    in_flags = omega (arith, w.same_flags, inside);
+    in_contents = omega (arith, w.same_contents, block_fits bytes inside);
   }
 
-  pub walked-pass : {t : Bool} → t ≡ waitingFlag (get_or flags' block 0) → t ≡ false → Walked bytes most flags contents flags' contents' swept (block + 1)
-  unfolding waitingBelow numbersBelow
-  walked-pass e f =
-      let same : waitingBelow flags (block + 1) ≡ waitingBelow flags block = rw (add-one block, waits-at-first e, f) (append-nil _) in
+  pub walked_pass : {t : Bool} → t ≡ waiting_flag (get_or flags' block 0) → t ≡ false → Walked bytes most flags contents flags' contents' swept (block + 1)
+  unfolding waiting_below numbers_below
+  walked_pass e f =
+      let same : waiting_below flags (block + 1) ≡ waiting_below flags block = rw (add-one block, waits_at_first e, f) (append-nil _) in
       record {
         within = omega (arith, inside);
         few = w.few;
         counted = rw same w.counted;
         frees = rw same w.frees;
         zeroes = rw same w.zeroes;
-        sameFlags = w.sameFlags;
-        sameContents = w.sameContents;
+        same_flags = w.same_flags;
+        same_contents = w.same_contents;
         ahead = λ b k. w.ahead b (omega arith);
       }
 
-  pub walked_more : {t : Bool} {flags'' contents'' : List ℕ} → length contents ≡ length flags * bytes → t ≡ waitingFlag (get_or flags' block 0) → t ≡ true
+  pub walked_more : {t : Bool} {flags'' contents'' : List ℕ} → length contents ≡ length flags * bytes → t ≡ waiting_flag (get_or flags' block 0) → t ≡ true
       → BlockSwept bytes block flags' contents' flags'' contents'' → Walked bytes most flags contents flags'' contents'' (swept + 1) (block + 1)
-  unfolding waitingBelow numbersBelow
+  unfolding waiting_below numbers_below
   walked_more {flags'' = flags''} {contents''} long e f s =
-      let more : waitingBelow flags (block + 1) ≡ waitingBelow flags block ++ (block ∷ []) = rw (add-one block, waits-at-first e, f) in
+      let more : waiting_below flags (block + 1) ≡ waiting_below flags block ++ (block ∷ []) = rw (add-one block, waits_at_first e, f) in
       record {
         within = omega (arith, inside);
         few = omega (arith, wanting);
-        counted = rw (more, w.counted) (sym (length-append (waitingBelow flags block) (block ∷ [])));
-        frees = rw more (s.frees ∙ ap (λ (xs : List ℕ). set xs block 0) w.frees ∙ sym (flags-one-more flags (waitingBelow flags block) block));
+        counted = rw (more, w.counted) (sym (length-append (waiting_below flags block) (block ∷ [])));
+        frees = rw more (s.frees ∙ ap (λ (xs : List ℕ). set xs block 0) w.frees ∙ sym (flags_one_more flags (waiting_below flags block) block));
         zeroes =
             rw more
             (s.zeroes
             ∙ ap (λ (xs : List ℕ). fill bytes xs block (zeros bytes)) w.zeroes
-            ∙ sym (contents-one-more bytes contents (waitingBelow flags block) block));
-        sameFlags = rw s.frees (length-set flags' block 0 ∙ w.sameFlags);
-        sameContents =
+            ∙ sym (contents_one_more bytes contents (waiting_below flags block) block));
+        same_flags = rw s.frees (length-set flags' block 0 ∙ w.same_flags);
+        same_contents =
             rw s.zeroes
-            (fill-length bytes contents' block (zeros bytes) (can-sweep long).inContents (length-replicate bytes 0) ∙ w.sameContents);
+            (fill_length bytes contents' block (zeros bytes) (can_sweep long).in_contents (length-replicate bytes 0) ∙ w.same_contents);
         ahead = λ b k. rw s.frees (get_or-set_other flags' block b 0 0 (λ (q : b ≡ block). absurd (omega arith)) ∙ w.ahead b (omega arith));
       }
 
@@ -144,70 +144,70 @@ walked_same w e f g = rw (e, f, g) w
 -- The numbers below n start with those below m.
 record Starts (p : ℕ → Bool) (m n : ℕ) : Type 0 where
   pub rest : List ℕ
-  pub split : numbersBelow p n ≡ numbersBelow p m ++ rest
+  pub split : numbers_below p n ≡ numbers_below p m ++ rest
 
-numbers-start : (p : ℕ → Bool) (m n : ℕ) → m ≤ n → Starts p m n
-unfolding numbersBelow
-numbers-start p m zero l = let none : m ≡ 0 = omega arith in record { rest = []; split = rw none }
-numbers-start p m (suc n) l =
+numbers_start : (p : ℕ → Bool) (m n : ℕ) → m ≤ n → Starts p m n
+unfolding numbers_below
+numbers_start p m zero l = let none : m ≡ 0 = omega arith in record { rest = []; split = rw none }
+numbers_start p m (suc n) l =
     ⊎_elim
     (λ (e : m ≡ suc n). record { rest = []; split = rw e (sym (append-nil _)) })
     (λ (f : m ≡ suc n → ⊥).
-    let s = numbers-start p m n (omega arith) in
+    let s = numbers_start p m n (omega arith) in
     record {
       rest = s.rest ++ cond (p n) (n ∷ []) [];
-      split = ap (λ (xs : List ℕ). xs ++ cond (p n) (n ∷ []) []) s.split ∙ append_assoc (numbersBelow p m) s.rest (cond (p n) (n ∷ []) []);
+      split = ap (λ (xs : List ℕ). xs ++ cond (p n) (n ∷ []) []) s.split ∙ append_assoc (numbers_below p m) s.rest (cond (p n) (n ∷ []) []);
     })
-    (same-or-other m (suc n))
+    (same_or_other m (suc n))
 
 module _ {bytes most : ℕ} {flags contents flags' contents' : List ℕ} {swept block : ℕ} (w : Walked bytes most flags contents flags' contents' swept block)
     (stop : ltb block (length flags) && ltb swept most ≡ false) where
   -- Those that are swept are the lowest: all that wait, or as many as asked for.
-  lowest-walked : lowestIn flags most ≡ waitingBelow flags block
-  unfolding lowestIn waitingBelow
-  lowest-walked =
+  lowest_walked : lowest_in flags most ≡ waiting_below flags block
+  unfolding lowest_in waiting_below
+  lowest_walked =
       ⊎_elim
       (λ (l : block < length flags).
       let full : most ≤ swept = ltb-false swept most (rw (lt-ltb block (length flags) l) at stop) in
-      let long : length (waitingBelow flags block) ≡ most = omega (arith, w.counted, w.few) in
-      let s = numbers-start (isWaiting flags) block (length flags) w.within in
-      ap (take most) s.split ∙ take_at (waitingBelow flags block) s.rest most long)
+      let long : length (waiting_below flags block) ≡ most = omega (arith, w.counted, w.few) in
+      let s = numbers_start (is_waiting flags) block (length flags) w.within in
+      ap (take most) s.split ∙ take_at (waiting_below flags block) s.rest most long)
       (λ (l : length flags ≤ block).
       let end : length flags ≡ block = omega (arith, w.within) in
-      rw end (take_all most (waitingBelow flags block) (omega (arith, w.counted, w.few))))
+      rw end (take_all most (waiting_below flags block) (omega (arith, w.counted, w.few))))
       (below_or_not block (length flags))
 
   pub walked_whole : LowestSwept bytes most flags contents flags' contents' swept
   walked_whole = record {
-    counted = w.counted ∙ ap length (sym lowest-walked);
-    frees = w.frees ∙ ap (sweptFlags flags) (sym lowest-walked);
-    zeroes = w.zeroes ∙ ap (sweptContents bytes contents) (sym lowest-walked);
+    counted = w.counted ∙ ap length (sym lowest_walked);
+    frees = w.frees ∙ ap (swept_flags flags) (sym lowest_walked);
+    zeroes = w.zeroes ∙ ap (swept_contents bytes contents) (sym lowest_walked);
   }
 
 -- ---- on a card
 
-swept-card : (info : Info) (flags keys counts pointers multiplicities windows contents bs : List ℕ)
-    → card info (sweptFlags flags bs) keys counts pointers multiplicities windows (sweptContents info.bytes contents bs)
-    ≡ changes (card info flags keys counts pointers multiplicities windows contents) (sweepEach bs)
-unfolding sweptFlags sweptContents changes change changePublic changeKeys changeContents sweepEach
-swept-card info flags keys counts pointers multiplicities windows contents [] = refl
-swept-card info flags keys counts pointers multiplicities windows contents (b ∷ bs) =
-    swept-card info (set flags b 0) keys counts pointers multiplicities windows (fill info.bytes contents b (zeros info.bytes)) bs
+swept_card : (info : Info) (flags keys counts pointers multiplicities windows contents bs : List ℕ)
+    → card info (swept_flags flags bs) keys counts pointers multiplicities windows (swept_contents info.bytes contents bs)
+    ≡ changes (card info flags keys counts pointers multiplicities windows contents) (sweep_each bs)
+unfolding swept_flags swept_contents changes change change_public change_keys change_contents sweep_each
+swept_card info flags keys counts pointers multiplicities windows contents [] = refl
+swept_card info flags keys counts pointers multiplicities windows contents (b ∷ bs) =
+    swept_card info (set flags b 0) keys counts pointers multiplicities windows (fill info.bytes contents b (zeros info.bytes)) bs
 
 -- On a card of the right shape the lowest of the table are those of the rule.
-lowest-waiting : (p : Public) (most : ℕ) → length p.flags ≡ p.info.blocks → lowestIn p.flags most ≡ lowestWaiting p most
-unfolding lowestIn lowestWaiting waitingBelow waitingBlocks waiting
-lowest-waiting p most e = ap (take most) (flags-state waitingFlag p e)
+lowest_waiting_law : (p : Public) (most : ℕ) → length p.flags ≡ p.info.blocks → lowest_in p.flags most ≡ lowest_waiting p most
+unfolding lowest_in lowest_waiting waiting_below waiting_blocks waiting
+lowest_waiting_law p most e = ap (take most) (flags_state waiting_flag p e)
 
 module _ {c : Card} (s : SoundCard c) where
-  pub contents-long : length c.contents ≡ length c.public.flags * c.public.info.bytes
-  contents-long = rw s.shaped.hasLengths.flags s.shaped.hasLengths.contents
+  pub contents_long : length c.contents ≡ length c.public.flags * c.public.info.bytes
+  contents_long = rw s.shaped.has_lengths.flags s.shaped.has_lengths.contents
 
-  pub sweep-done : (port : Port) (o : SweepOperands) {flags contents : List ℕ} {n : ℕ}
+  pub sweep_done : (port : Port) (o : SweepOperands) {flags contents : List ℕ} {n : ℕ}
       → LowestSwept c.public.info.bytes o.most c.public.flags c.contents flags contents n
-      → Is (performSound port c (request (Sweep o) [] [] [])) (Value n) (card c.public.info flags c.keys c.public.counts c.public.pointers c.public.multiplicities c.public.windows contents) [] []
-  unfolding performSound plan sweepPlan outAfter placesAfter
-  sweep-done port o w =
-      let same = lowest-waiting c.public o.most s.shaped.hasLengths.flags in
+      → Is (perform_sound port c (request (Sweep o) [] [] [])) (Value n) (card c.public.info flags c.keys c.public.counts c.public.pointers c.public.multiplicities c.public.windows contents) [] []
+  unfolding perform_sound plan sweep_plan out_after places_after
+  sweep_done port o w =
+      let same = lowest_waiting_law c.public o.most s.shaped.has_lengths.flags in
       rw (w.counted, w.frees, w.zeroes, same)
-      (is-done c (request (Sweep o) [] [] []).lent (sweepPlan c.public o) tt (swept-card _ _ _ _ _ _ _ _ (lowestWaiting c.public o.most)) refl refl)
+      (is_done c (request (Sweep o) [] [] []).lent (sweep_plan c.public o) tt (swept_card _ _ _ _ _ _ _ _ (lowest_waiting c.public o.most)) refl refl)

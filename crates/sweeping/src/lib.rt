@@ -2,7 +2,7 @@
 ghost use Rattle.std.specs.Prelude.{◌*◌, ◌≡◌, [], length};
 ghost use Rattle.card.specs.Lent.{Performs, lent};
 ghost use Rattle.card.specs.SoundCard.{SoundCard};
-ghost use Rattle.card.specs.Session.{request, performSound};
+ghost use Rattle.card.specs.Session.{request, perform_sound};
 ghost use Rattle.sweeping.specs.Sweeping.{CanSweep, BlockSwept, LowestSwept};
 
 use card::{Answer, Call, Info, Outcome, Port, SweepOperands};
@@ -48,7 +48,7 @@ pub fn sweep_sound(
     o: SweepOperands,
 ) -> Outcome
     requires { SoundCard (lent info flags keys counts pointers multiplicities windows contents) }
-    ensures { (port : Port) → Performs (λ c. performSound port c (request (Call.Sweep o) [] [] [])) info flags keys counts pointers multiplicities windows contents result [] [] }
+    ensures { (port : Port) → Performs (λ c. perform_sound port c (request (Call.Sweep o) [] [] [])) info flags keys counts pointers multiplicities windows contents result [] [] }
 {
     let swept = sweep_lowest(info.bytes, flags, contents, o.most as usize);
     Outcome {

@@ -8,12 +8,12 @@ use native.Mathlib.Omega.{arith}
 use lib.ListN.{length, get_or, take, drop, set, length-set, drop_of_length-le}
 use lib.Seq.{take_all}
 
-overlay-set : (from to : List ℕ) (i : ℕ) → length from ≡ length to → i < length to
+overlay_set : (from to : List ℕ) (i : ℕ) → length from ≡ length to → i < length to
     → set (take i from ++ drop i to) i (get_or from i 0) ≡ take (suc i) from ++ drop (suc i) to
-overlay-set from [] i e l = absurd (not-suc-le-zero l)
-overlay-set [] (y ∷ to) i e l = absurd (omega arith)
-overlay-set (x ∷ from) (y ∷ to) zero e l = refl
-overlay-set (x ∷ from) (y ∷ to) (suc i) e l = ap (λ (t : List ℕ). x ∷ t) (overlay-set from to i (omega arith) (le_of_suc-le-suc l))
+overlay_set from [] i e l = absurd (not-suc-le-zero l)
+overlay_set [] (y ∷ to) i e l = absurd (omega arith)
+overlay_set (x ∷ from) (y ∷ to) zero e l = refl
+overlay_set (x ∷ from) (y ∷ to) (suc i) e l = ap (λ (t : List ℕ). x ∷ t) (overlay_set from to i (omega arith) (le_of_suc-le-suc l))
 
 -- The list now is the first i elements of `from`, and the others as they were.
 pub record Overlaid (from before now : List ℕ) (i : ℕ) : Type 0 where
@@ -22,17 +22,17 @@ pub record Overlaid (from before now : List ℕ) (i : ℕ) : Type 0 where
   pub same : length now ≡ length before
   pub holds : now ≡ take i from ++ drop i before
 
-pub overlaid-start : (from before : List ℕ) → length from ≡ length before → Overlaid from before before 0
-overlaid-start from before e = record { long = e; most = omega arith; same = refl; holds = refl }
+pub overlaid_start : (from before : List ℕ) → length from ≡ length before → Overlaid from before before 0
+overlaid_start from before e = record { long = e; most = omega arith; same = refl; holds = refl }
 
-pub overlaid-more : {from before now : List ℕ} {i : ℕ} (v : ℕ) → Overlaid from before now i → i < length now → v ≡ get_or from i 0
+pub overlaid_more : {from before now : List ℕ} {i : ℕ} (v : ℕ) → Overlaid from before now i → i < length now → v ≡ get_or from i 0
     → Overlaid from before (set now i v) (i + 1)
-overlaid-more {from} {before} {now} {i} v o l e = record {
+overlaid_more {from} {before} {now} {i} v o l e = record {
   long = o.long;
   most = omega (arith, o.same);
   same = length-set now i v ∙ o.same;
-  holds = rw (e, o.holds, add-one) (overlay-set from before i o.long (omega (arith, o.same)));
+  holds = rw (e, o.holds, add-one) (overlay_set from before i o.long (omega (arith, o.same)));
 }
 
-pub overlaid-whole : {from before now : List ℕ} {i : ℕ} → Overlaid from before now i → length now ≤ i → now ≡ from
-overlaid-whole {from} {before} {now} {i} o l = o.holds ∙ rw (drop_of_length-le before {i = i} (omega (arith, o.same)), take_all i from (omega (arith, o.same, o.long))) (append-nil from)
+pub overlaid_whole : {from before now : List ℕ} {i : ℕ} → Overlaid from before now i → length now ≤ i → now ≡ from
+overlaid_whole {from} {before} {now} {i} o l = o.holds ∙ rw (drop_of_length-le before {i = i} (omega (arith, o.same)), take_all i from (omega (arith, o.same, o.long))) (append-nil from)

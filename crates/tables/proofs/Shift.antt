@@ -8,19 +8,19 @@ use native.Mathlib.Omega.{arith}
 use lib.ListN.{length, get_or, take, drop, set, length-append, length-take, length-drop, length-set, take-append-drop, drop_of_length-le, get_or-append}
 use lib.Seq.{take-suc, drop-cons, append_snoc, take-append-le, drop-append-le, get_or-append-add, set_at, get_or-take, get_or-drop, take-take, length-take-le}
 use Rattle.card.specs.Pointers.{insert}
-use Rattle.laws.specs.BesideLaws.{in-step-self}
-use Rattle.tables.specs.Places.{insertAt, removeAt, raisedAt, PutAt}
+use Rattle.laws.specs.BesideLaws.{in_step_self}
+use Rattle.tables.specs.Places.{insert_at, remove_at, raised_at, PutAt}
 use Rattle.tables.specs.Rank.{rank}
-use Rattle.tables.specs.BesideRank.{insertBeside-rank}
-use Rattle.tables.specs.PlaceLaws.{rank-place}
+use Rattle.tables.specs.BesideRank.{insert_beside_rank}
+use Rattle.tables.specs.PlaceLaws.{rank_place}
 use Rattle.tables.specs.InUse.{Addable, Raisable, Lowerable, Paired}
 
 -- ---- upwards
 
-pub set-behind : (xs tail : List ℕ) (i v : ℕ) → i < length xs → set (take (suc i) xs ++ tail) i v ≡ take i xs ++ (v ∷ tail)
-set-behind [] tail i v l = absurd (not-suc-le-zero l)
-set-behind (x ∷ xs) tail zero v l = refl
-set-behind (x ∷ xs) tail (suc i) v l = ap (λ (t : List ℕ). x ∷ t) (set-behind xs tail i v (le_of_suc-le-suc l))
+pub set_behind : (xs tail : List ℕ) (i v : ℕ) → i < length xs → set (take (suc i) xs ++ tail) i v ≡ take i xs ++ (v ∷ tail)
+set_behind [] tail i v l = absurd (not-suc-le-zero l)
+set_behind (x ∷ xs) tail zero v l = refl
+set_behind (x ∷ xs) tail (suc i) v l = ap (λ (t : List ℕ). x ∷ t) (set_behind xs tail i v (le_of_suc-le-suc l))
 
 -- The first `used` elements from i on stand `by` places higher, and the others where they were.
 pub record Raised (before now : List ℕ) (used by at i : ℕ) : Type 0 where
@@ -28,11 +28,11 @@ pub record Raised (before now : List ℕ) (used by at i : ℕ) : Type 0 where
   pub lowest : at ≤ i
   pub most : i ≤ used
   pub same : length now ≡ length before
-  pub holds : now ≡ raisedAt i by used before
+  pub holds : now ≡ raised_at i by used before
 
-pub raised-start : {before : List ℕ} {used by at : ℕ} → Raisable before used by at → Raised before before used by at used
-unfolding raisedAt
-raised-start {before} {used} {by} {at} r = record {
+pub raised_start : {before : List ℕ} {used by at : ℕ} → Raisable before used by at → Raised before before used by at used
+unfolding raised_at
+raised_start {before} {used} {by} {at} r = record {
   room = r.room;
   lowest = r.place;
   most = omega arith;
@@ -44,13 +44,13 @@ raise : (before : List ℕ) (used by i : ℕ) → i < used → used + by ≤ len
     → set (take (suc (i + by)) before ++ (drop (suc i) (take used before) ++ drop (used + by) before)) (i + by) (get_or before i 0)
     ≡ take (i + by) before ++ (drop i (take used before) ++ drop (used + by) before)
 raise before used by i l room =
-    set-behind before _ (i + by) (get_or before i 0) (omega arith)
+    set_behind before _ (i + by) (get_or before i 0) (omega arith)
     ∙ rw (drop-cons (take used before) i 0 (simp length-take (omega arith)), get_or-take used before i 0 l)
 
 module _ {before now : List ℕ} {used by at i : ℕ} (r : Raised before now used by at i) where
-  pub raised-more : at < i → Raised before (set now (i - 1 + by) (get_or now (i - 1) 0)) used by at (i - 1)
-  unfolding raisedAt
-  raised-more l = record {
+  pub raised_more : at < i → Raised before (set now (i - 1 + by) (get_or now (i - 1) 0)) used by at (i - 1)
+  unfolding raised_at
+  raised_more l = record {
     room = r.room;
     lowest = omega arith;
     most = omega (arith, r.most);
@@ -66,49 +66,49 @@ module _ {before now : List ℕ} {used by at i : ℕ} (r : Raised before now use
       go : (k : ℕ) → i ≡ suc k → set now (k + by) (get_or now k 0) ≡ take (k + by) before ++ (drop k (take used before) ++ drop (used + by) before)
       go k e = let next : suc k + by ≡ suc (k + by) = omega arith in rw (kept k e, r.holds, e, next) (raise before used by k (omega (arith, r.most)) r.room)
 
-  pub raised-whole : i ≤ at → now ≡ raisedAt at by used before
-  raised-whole l = let last : i ≡ at = omega (arith, r.lowest) in subst (λ (n : ℕ). now ≡ raisedAt n by used before) last r.holds
+  pub raised_whole : i ≤ at → now ≡ raised_at at by used before
+  raised_whole l = let last : i ≡ at = omega (arith, r.lowest) in subst (λ (n : ℕ). now ≡ raised_at n by used before) last r.holds
 
-pub raised-length : {xs : List ℕ} {used by at : ℕ} → Raisable xs used by at → length (raisedAt at by used xs) ≡ length xs
-unfolding raisedAt
-raised-length r = simp (length-append, length-take, length-drop) (omega (arith, r.room, r.place))
+pub raised_length : {xs : List ℕ} {used by at : ℕ} → Raisable xs used by at → length (raised_at at by used xs) ≡ length xs
+unfolding raised_at
+raised_length r = simp (length-append, length-take, length-drop) (omega (arith, r.room, r.place))
 
 -- Raised by one and stored at the place, an element is inserted there.
-inserted-at : {xs after : List ℕ} {used at : ℕ} (v : ℕ) → Raisable xs used 1 at → after ≡ raisedAt at 1 used xs
-    → set after at v ≡ insertAt at v (take used xs) ++ drop (used + 1) xs
-unfolding raisedAt insertAt
-inserted-at {xs} {after} {used} {at} v r e =
-    rw (e, add-one at, set-behind xs _ at v (omega (arith, r.room, r.place)), take-take at used xs r.place)
+inserted_at : {xs after : List ℕ} {used at : ℕ} (v : ℕ) → Raisable xs used 1 at → after ≡ raised_at at 1 used xs
+    → set after at v ≡ insert_at at v (take used xs) ++ drop (used + 1) xs
+unfolding raised_at insert_at
+inserted_at {xs} {after} {used} {at} v r e =
+    rw (e, add-one at, set_behind xs _ at v (omega (arith, r.room, r.place)), take-take at used xs r.place)
     (sym (append_assoc (take at xs) (v ∷ drop at (take used xs)) (drop (used + 1) xs)))
 
 pub put_both : {pointers multiplicities raised beside : List ℕ} {used at : ℕ} (w : ℕ) → Raisable pointers used 1 at → Paired pointers multiplicities
-    → raised ≡ raisedAt at 1 used pointers → beside ≡ raisedAt at 1 used multiplicities
+    → raised ≡ raised_at at 1 used pointers → beside ≡ raised_at at 1 used multiplicities
     → PutAt used at w pointers multiplicities (set raised at w) (set beside at 1)
 put_both w r p e f = record {
-  ofPointers = inserted-at w r e;
-  ofMultiplicities = inserted-at 1 (record { place = r.place; room = omega (arith, r.room, p.same) }) f;
+  of_pointers = inserted_at w r e;
+  of_multiplicities = inserted_at 1 (record { place = r.place; room = omega (arith, r.room, p.same) }) f;
 }
 
-pub can-raise-one : {xs : List ℕ} {used at w : ℕ} → Addable xs used w → at ≡ rank w (take used xs) → Raisable xs used 1 at
-can-raise-one {w = w} a e = record { place = rank-place w a.sorted e; room = omega (arith, a.room) }
+pub can_raise_one : {xs : List ℕ} {used at w : ℕ} → Addable xs used w → at ≡ rank w (take used xs) → Raisable xs used 1 at
+can_raise_one {w = w} a e = record { place = rank_place w a.sorted e; room = omega (arith, a.room) }
 
-pub inserted : {xs after : List ℕ} {used at w : ℕ} → Addable xs used w → at ≡ rank w (take used xs) → after ≡ raisedAt at 1 used xs
+pub inserted : {xs after : List ℕ} {used at w : ℕ} → Addable xs used w → at ≡ rank w (take used xs) → after ≡ raised_at at 1 used xs
     → set after at w ≡ insert w (take used xs) ++ drop (used + 1) xs
 unfolding insert
 inserted {xs} {after} {used} {at} {w} a e f =
-    inserted-at w (can-raise-one a e) f
-    ∙ rw (e, insertBeside-rank w w (in-step-self (take used xs)) a.sorted.ascends a.absent)
+    inserted_at w (can_raise_one a e) f
+    ∙ rw (e, insert_beside_rank w w (in_step_self (take used xs)) a.sorted.ascends a.absent)
 
 -- ---- downwards
 
-removeAt-length : (at i : ℕ) (xs : List ℕ) → at ≤ i → i < length xs → length (removeAt at (take (suc i) xs)) ≡ i
-unfolding removeAt
-removeAt-length at i xs h l = simp (length-append, length-take, length-drop) (omega arith)
+remove_at_length : (at i : ℕ) (xs : List ℕ) → at ≤ i → i < length xs → length (remove_at at (take (suc i) xs)) ≡ i
+unfolding remove_at
+remove_at_length at i xs h l = simp (length-append, length-take, length-drop) (omega arith)
 
-removeAt-more : (at i : ℕ) (xs : List ℕ) → at ≤ i → suc i < length xs
-    → removeAt at (take (suc (suc i)) xs) ≡ removeAt at (take (suc i) xs) ++ (get_or xs (suc i) 0 ∷ [])
-unfolding removeAt
-removeAt-more at i xs h l =
+remove_at_more : (at i : ℕ) (xs : List ℕ) → at ≤ i → suc i < length xs
+    → remove_at at (take (suc (suc i)) xs) ≡ remove_at at (take (suc i) xs) ++ (get_or xs (suc i) 0 ∷ [])
+unfolding remove_at
+remove_at_more at i xs h l =
     let long : length (take (suc i) xs) ≡ suc i = length-take-le (suc i) xs (omega arith) in
     rw (take-suc xs (suc i) 0 l, take-append-le at (take (suc i) xs) _ (omega arith), drop-append-le (suc at) (take (suc i) xs) _ (omega arith))
     (sym (append_assoc (take at (take (suc i) xs)) _ _))
@@ -119,11 +119,11 @@ pub record Lowered (before now : List ℕ) (used at i : ℕ) : Type 0 where
   pub lowest : at ≤ i
   pub most : i < used
   pub same : length now ≡ length before
-  pub holds : now ≡ removeAt at (take (suc i) before) ++ drop i before
+  pub holds : now ≡ remove_at at (take (suc i) before) ++ drop i before
 
-pub lowered-start : {before : List ℕ} {used at : ℕ} → Lowerable before used at → Lowered before before used at at
-unfolding removeAt
-lowered-start {before} {used} {at} r = record {
+pub lowered_start : {before : List ℕ} {used at : ℕ} → Lowerable before used at → Lowered before before used at at
+unfolding remove_at
+lowered_start {before} {used} {at} r = record {
   within = r.within;
   lowest = omega arith;
   most = r.place;
@@ -135,29 +135,29 @@ lowered-start {before} {used} {at} r = record {
 }
 
 -- A store at i.
-lower : {before now : List ℕ} {used at i : ℕ} → Lowered before now used at i → (v : ℕ) → set now i v ≡ removeAt at (take (suc i) before) ++ (v ∷ drop (suc i) before)
+lower : {before now : List ℕ} {used at i : ℕ} → Lowered before now used at i → (v : ℕ) → set now i v ≡ remove_at at (take (suc i) before) ++ (v ∷ drop (suc i) before)
 lower {before} {now} {used} {at} {i} r v =
     let inside : i < length before = omega (arith, r.most, r.within) in
     rw (r.holds, drop-cons before i 0 inside)
-    (set_at (removeAt at (take (suc i) before)) (get_or before i 0) (drop (suc i) before) v i (removeAt-length at i before r.lowest inside))
+    (set_at (remove_at at (take (suc i) before)) (get_or before i 0) (drop (suc i) before) v i (remove_at_length at i before r.lowest inside))
 
-pub lowered-more : {before now : List ℕ} {used at i : ℕ} → Lowered before now used at i → i + 1 < used → Lowered before (set now i (get_or now (i + 1) 0)) used at (i + 1)
-lowered-more {before} {now} {used} {at} {i} r l =
-    let long : length (removeAt at (take (suc i) before)) ≡ i = removeAt-length at i before r.lowest (omega (arith, r.most, r.within)) in
+pub lowered_more : {before now : List ℕ} {used at i : ℕ} → Lowered before now used at i → i + 1 < used → Lowered before (set now i (get_or now (i + 1) 0)) used at (i + 1)
+lowered_more {before} {now} {used} {at} {i} r l =
+    let long : length (remove_at at (take (suc i) before)) ≡ i = remove_at_length at i before r.lowest (omega (arith, r.most, r.within)) in
     let kept : get_or now (i + 1) 0 ≡ get_or before (i + 1) 0 =
     rw r.holds
-    (subst (λ (n : ℕ). get_or (removeAt at (take (suc i) before) ++ drop i before) (n + 1) 0 ≡ get_or before (i + 1) 0) long
-    (get_or-append-add (removeAt at (take (suc i) before)) (drop i before) 1 0 ∙ get_or-drop i before 1 0)) in
+    (subst (λ (n : ℕ). get_or (remove_at at (take (suc i) before) ++ drop i before) (n + 1) 0 ≡ get_or before (i + 1) 0) long
+    (get_or-append-add (remove_at at (take (suc i) before)) (drop i before) 1 0 ∙ get_or-drop i before 1 0)) in
     record {
       within = r.within;
       lowest = omega (arith, r.lowest);
       most = l;
       same = length-set now i _ ∙ r.same;
       holds =
-          rw (lower r (get_or now (i + 1) 0), kept, add-one i, removeAt-more at i before r.lowest (omega (arith, r.within)))
-          (sym (append_snoc (removeAt at (take (suc i) before)) (get_or before (suc i) 0) (drop (suc i) before)));
+          rw (lower r (get_or now (i + 1) 0), kept, add-one i, remove_at_more at i before r.lowest (omega (arith, r.within)))
+          (sym (append_snoc (remove_at at (take (suc i) before)) (get_or before (suc i) 0) (drop (suc i) before)));
     }
 
-pub removed-at : {before now : List ℕ} {used at i : ℕ} → Lowered before now used at i → used ≤ i + 1
-    → set now i 0 ≡ removeAt at (take used before) ++ (0 ∷ drop used before)
-removed-at {before} {now} {used} {at} {i} r l = let last : suc i ≡ used = omega (arith, r.most) in lower r 0 ∙ rw last
+pub removed_at : {before now : List ℕ} {used at i : ℕ} → Lowered before now used at i → used ≤ i + 1
+    → set now i 0 ≡ remove_at at (take used before) ++ (0 ∷ drop used before)
+removed_at {before} {now} {used} {at} {i} r l = let last : suc i ≡ used = omega (arith, r.most) in lower r 0 ∙ rw last

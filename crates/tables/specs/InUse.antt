@@ -17,7 +17,7 @@ pub record Addable (pointers : List ℕ) (used w : ℕ) : Type 0 where
 -- There is room for so many more, which ascend, and none of which is in use.
 pub record Mergeable (pointers : List ℕ) (used : ℕ) (added : List ℕ) (count : ℕ) : Type 0 where
   pub sorted : Sorted pointers used
-  pub addedSorted : Sorted added count
+  pub added_sorted : Sorted added count
   pub room : used + count ≤ length pointers
   pub absent : all (λ v. not (contains v (take used pointers))) (take count added) ≡ true
 

@@ -3,22 +3,22 @@ use Rattle.std.specs.Prelude.{ℕ, ◌+◌, ◌≤◌, ◌<◌, ◌≡◌, true,
 use Rattle.std.proofs.Math.Path.{sym}
 use Rattle.std.proofs.Common.{◌∙◌, arith, ltb-true, get_or-take, length-take-le}
 use Rattle.laws.specs.ListsLaws.{and_left}
-use Rattle.card.specs.Pointers.{contains, beside, insert, remove, insertBeside, removeBeside, setBeside}
-use Rattle.laws.specs.BesideLaws.{InStep, in_step, in-step-self, beside-absent}
-use Rattle.tables.specs.Places.{insertAt, removeAt}
+use Rattle.card.specs.Pointers.{contains, beside, insert, remove, insert_beside, remove_beside, set_beside}
+use Rattle.laws.specs.BesideLaws.{InStep, in_step, in_step_self, beside_absent}
+use Rattle.tables.specs.Places.{insert_at, remove_at}
 use Rattle.tables.specs.Rank.{rank}
-use Rattle.tables.specs.RankLaws.{rank-length, contains-rank}
-use Rattle.tables.specs.BesideRank.{insertBeside-rank, removeBeside-rank, setBeside-rank, beside-rank, set-within}
+use Rattle.tables.specs.RankLaws.{rank_length, contains_rank}
+use Rattle.tables.specs.BesideRank.{insert_beside_rank, remove_beside_rank, set_beside_rank, beside_rank, set_within}
 use Rattle.tables.specs.InUse.{Sorted, Paired, Raisable, Lowerable}
 
-pub rank-place : (w : ℕ) {pointers : List ℕ} {used at : ℕ} → Sorted pointers used → at ≡ rank w (take used pointers) → at ≤ used
-rank-place w {pointers} {used} s e = omega (arith, rank-length w (take used pointers), length-take-le used pointers s.within)
+pub rank_place : (w : ℕ) {pointers : List ℕ} {used at : ℕ} → Sorted pointers used → at ≡ rank w (take used pointers) → at ≤ used
+rank_place w {pointers} {used} s e = omega (arith, rank_length w (take used pointers), length-take-le used pointers s.within)
 
-pub place-within : (w : ℕ) {pointers : List ℕ} {used at : ℕ} → Sorted pointers used → at ≡ rank w (take used pointers) → contains w (take used pointers) ≡ true → at < used
-place-within w {pointers} {used} s e present =
+pub place_within : (w : ℕ) {pointers : List ℕ} {used at : ℕ} → Sorted pointers used → at ≡ rank w (take used pointers) → contains w (take used pointers) ≡ true → at < used
+place_within w {pointers} {used} s e present =
     let ws : List ℕ = take used pointers in
     let found : rank w ws < length ws =
-    ltb-true (rank w ws) (length ws) (and_left (ltb (rank w ws) (length ws)) (eqb (get_or ws (rank w ws) 0) w) (sym (contains-rank w ws s.ascends) ∙ present)) in
+    ltb-true (rank w ws) (length ws) (and_left (ltb (rank w ws) (length ws)) (eqb (get_or ws (rank w ws) 0) w) (sym (contains_rank w ws s.ascends) ∙ present)) in
     omega (arith, length-take-le used pointers s.within)
 
 module _ (w : ℕ) {pointers multiplicities : List ℕ} {used at : ℕ} (sorted : Sorted pointers used) (paired : Paired pointers multiplicities)
@@ -28,36 +28,36 @@ module _ (w : ℕ) {pointers multiplicities : List ℕ} {used at : ℕ} (sorted 
       in_step (take used pointers) (take used multiplicities)
       (length-take-le used pointers sorted.within ∙ sym (length-take-le used multiplicities (omega (arith, sorted.within, paired.same))))
 
-  pub can-put : used < length pointers → Raisable pointers used 1 at
-  can-put l = record { place = rank-place w sorted place; room = omega arith }
+  pub can_put : used < length pointers → Raisable pointers used 1 at
+  can_put l = record { place = rank_place w sorted place; room = omega arith }
 
-  pub times-missed : contains w (take used pointers) ≡ false → 0 ≡ beside w (take used pointers) (take used multiplicities)
-  times-missed absent = sym (beside-absent w (take used pointers) (take used multiplicities) absent)
+  pub times_missed : contains w (take used pointers) ≡ false → 0 ≡ beside w (take used pointers) (take used multiplicities)
+  times_missed absent = sym (beside_absent w (take used pointers) (take used multiplicities) absent)
 
   module _ (present : contains w (take used pointers) ≡ true) where
     inside : at < used
-    inside = place-within w sorted place present
+    inside = place_within w sorted place present
 
-    pub can-take-away : Lowerable pointers used at
-    can-take-away = record { place = inside; within = sorted.within }
+    pub can_take_away : Lowerable pointers used at
+    can_take_away = record { place = inside; within = sorted.within }
 
-    pub times-there : get_or multiplicities at 0 ≡ beside w (take used pointers) (take used multiplicities)
-    times-there = sym (rw (beside-rank w step sorted.ascends present, ← place) (get_or-take used multiplicities at 0 inside))
+    pub times_there : get_or multiplicities at 0 ≡ beside w (take used pointers) (take used multiplicities)
+    times_there = sym (rw (beside_rank w step sorted.ascends present, ← place) (get_or-take used multiplicities at 0 inside))
 
-    pub times-set : (m : ℕ) → set multiplicities at m ≡ setBeside w m (take used pointers) (take used multiplicities) ++ drop used multiplicities
-    times-set m = sym (rw (setBeside-rank w m step sorted.ascends present, ← place) (set-within used at m multiplicities inside))
+    pub times_set : (m : ℕ) → set multiplicities at m ≡ set_beside w m (take used pointers) (take used multiplicities) ++ drop used multiplicities
+    times_set m = sym (rw (set_beside_rank w m step sorted.ascends present, ← place) (set_within used at m multiplicities inside))
 
-    pub removed : removeAt at (take used pointers) ≡ remove w (take used pointers)
+    pub removed : remove_at at (take used pointers) ≡ remove w (take used pointers)
     unfolding remove
-    removed = sym (rw (removeBeside-rank w (in-step-self (take used pointers)) sorted.ascends present, place))
+    removed = sym (rw (remove_beside_rank w (in_step_self (take used pointers)) sorted.ascends present, place))
 
-    pub removed-beside : removeAt at (take used multiplicities) ≡ removeBeside w (take used pointers) (take used multiplicities)
-    removed-beside = sym (rw (removeBeside-rank w step sorted.ascends present, place))
+    pub removed_beside : remove_at at (take used multiplicities) ≡ remove_beside w (take used pointers) (take used multiplicities)
+    removed_beside = sym (rw (remove_beside_rank w step sorted.ascends present, place))
 
   module _ (absent : contains w (take used pointers) ≡ false) where
-    pub inserted : insertAt at w (take used pointers) ≡ insert w (take used pointers)
+    pub inserted : insert_at at w (take used pointers) ≡ insert w (take used pointers)
     unfolding insert
-    inserted = sym (rw (insertBeside-rank w w (in-step-self (take used pointers)) sorted.ascends absent, place))
+    inserted = sym (rw (insert_beside_rank w w (in_step_self (take used pointers)) sorted.ascends absent, place))
 
-    pub inserted-beside : (m : ℕ) → insertAt at m (take used multiplicities) ≡ insertBeside w m (take used pointers) (take used multiplicities)
-    inserted-beside m = sym (rw (insertBeside-rank w m step sorted.ascends absent, place))
+    pub inserted_beside : (m : ℕ) → insert_at at m (take used multiplicities) ≡ insert_beside w m (take used pointers) (take used multiplicities)
+    inserted_beside m = sym (rw (insert_beside_rank w m step sorted.ascends absent, place))

@@ -1,13 +1,13 @@
 // Leaves on the card's record and tables: copying, clearing, counting, and the sorted pointers.
 ghost use Rattle.std.specs.Prelude.{◌≡◌, false, ◌∷◌, ◌++◌, ◌+◌, length, take, drop};
 ghost use Rattle.card.specs.Contents.{zeros};
-ghost use Rattle.card.specs.Pointers.{contains, pointsFrom, beside, insert};
-ghost use Rattle.card.specs.Plan.{withUsed, withTime};
-ghost use Rattle.card.specs.Calls.{freshInfo};
+ghost use Rattle.card.specs.Pointers.{contains, points_from, beside, insert};
+ghost use Rattle.card.specs.Plan.{with_used, with_time};
+ghost use Rattle.card.specs.Calls.{fresh_info};
 ghost use Rattle.tables.specs.Rank.{rank};
-ghost use Rattle.tables.specs.Free.{freeBelow};
-ghost use Rattle.tables.specs.Rented.{rentedBelow};
-ghost use Rattle.tables.specs.Places.{removeAt, raisedAt, PutAt, TakenAt};
+ghost use Rattle.tables.specs.Free.{free_below};
+ghost use Rattle.tables.specs.Rented.{rented_below};
+ghost use Rattle.tables.specs.Places.{remove_at, raised_at, PutAt, TakenAt};
 ghost use Rattle.tables.specs.Merge.{MergedIn};
 ghost use Rattle.tables.specs.InUse.{Sorted, Addable, Mergeable, Raisable, Lowerable, Paired};
 
@@ -17,7 +17,7 @@ use card::Info;
 
 // Another number of pointers in use.
 pub fn with_used(info: Info, used: usize) -> Info
-    ensures { result ≡ withUsed info used }
+    ensures { result ≡ with_used info used }
 {
     Info {
         blocks: info.blocks,
@@ -31,7 +31,7 @@ pub fn with_used(info: Info, used: usize) -> Info
 
 // Another time, and the total that goes with it.
 pub fn with_time(info: Info, time: u64, total: u64) -> Info
-    ensures { result ≡ withTime info time total }
+    ensures { result ≡ with_time info time total }
 {
     Info {
         blocks: info.blocks,
@@ -45,7 +45,7 @@ pub fn with_time(info: Info, time: u64, total: u64) -> Info
 
 // The record of a fresh card.
 pub fn fresh(blocks: usize, roots: usize, bytes: usize) -> Info
-    ensures { result ≡ freshInfo blocks roots bytes }
+    ensures { result ≡ fresh_info blocks roots bytes }
 {
     Info {
         blocks,
@@ -86,7 +86,7 @@ pub fn clear(to: &mut [u8])
 
 // The number of free blocks.
 pub fn count_free(flags: &[u8]) -> usize
-    ensures { result ≡ length (freeBelow flags.now (length flags.now)) }
+    ensures { result ≡ length (free_below flags.now (length flags.now)) }
 {
     let mut free: usize = 0;
     let mut block = 0;
@@ -101,7 +101,7 @@ pub fn count_free(flags: &[u8]) -> usize
 
 // The number of allocated blocks that are no roots.
 pub fn count_rented(roots: usize, flags: &[u8]) -> usize
-    ensures { result ≡ length (rentedBelow roots flags.now (length flags.now)) }
+    ensures { result ≡ length (rented_below roots flags.now (length flags.now)) }
 {
     let mut rented: usize = 0;
     let mut block = roots;
@@ -158,7 +158,7 @@ pub fn holds(pointers: &[u32], used: usize, wanted: u32) -> bool
 // Some pointer in use starts at the block.
 pub fn points_from(pointers: &[u32], used: usize, block: u16) -> bool
     requires { Sorted pointers.now used }
-    ensures { result ≡ pointsFrom block (take used pointers.now) }
+    ensures { result ≡ points_from block (take used pointers.now) }
 {
     let source = block as u32;
     let at = place(pointers, used, source * 65536);
@@ -186,7 +186,7 @@ pub fn times(pointers: &[u32], multiplicities: &[u16], used: usize, wanted: u32)
 // The pointers in use from a place on move up by so many places.
 fn raise(pointers: &mut [u32], used: usize, by: usize, at: usize)
     requires { Raisable pointers.old used by at }
-    ensures { pointers.new ≡ raisedAt at by used pointers.old }
+    ensures { pointers.new ≡ raised_at at by used pointers.old }
 {
     let mut i = used;
     while at < i {
@@ -198,7 +198,7 @@ fn raise(pointers: &mut [u32], used: usize, by: usize, at: usize)
 // So do the multiplicities.
 fn raise_beside(multiplicities: &mut [u16], used: usize, by: usize, at: usize)
     requires { Raisable multiplicities.old used by at }
-    ensures { multiplicities.new ≡ raisedAt at by used multiplicities.old }
+    ensures { multiplicities.new ≡ raised_at at by used multiplicities.old }
 {
     let mut i = used;
     while at < i {
@@ -210,7 +210,7 @@ fn raise_beside(multiplicities: &mut [u16], used: usize, by: usize, at: usize)
 // The pointer at a place is taken away, those behind it move down by one, and the last place becomes 0.
 fn lower(pointers: &mut [u32], used: usize, at: usize)
     requires { Lowerable pointers.old used at }
-    ensures { pointers.new ≡ removeAt at (take used pointers.old) ++ (0 ∷ drop used pointers.old) }
+    ensures { pointers.new ≡ remove_at at (take used pointers.old) ++ (0 ∷ drop used pointers.old) }
 {
     let mut i = at;
     while i + 1 < used {
@@ -223,7 +223,7 @@ fn lower(pointers: &mut [u32], used: usize, at: usize)
 // So is the multiplicity.
 fn lower_beside(multiplicities: &mut [u16], used: usize, at: usize)
     requires { Lowerable multiplicities.old used at }
-    ensures { multiplicities.new ≡ removeAt at (take used multiplicities.old) ++ (0 ∷ drop used multiplicities.old) }
+    ensures { multiplicities.new ≡ remove_at at (take used multiplicities.old) ++ (0 ∷ drop used multiplicities.old) }
 {
     let mut i = at;
     while i + 1 < used {

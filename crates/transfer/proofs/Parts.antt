@@ -10,8 +10,8 @@ use lib.Dec.{eqb}
 use borrow.Author.Tests.{eqb-true, not-false}
 use borrow.Rule.Slice.PartMut.{put_mid, Post-is}
 use Rattle.card.specs.Contents.{part, fill, overwrite}
-use Rattle.laws.specs.ContentsLaws.{block-fits, part_length}
-use Rattle.laws.specs.ListsLaws.{or-false-left}
+use Rattle.laws.specs.ContentsLaws.{block_fits, part_length}
+use Rattle.laws.specs.ListsLaws.{or_false_left}
 use Rattle.card.specs.Card.{Card, allocated}
 use Rattle.card.specs.SoundCard.{SoundCard}
 use Rattle.access.proofs.Blocks.{flagged, there}
@@ -24,41 +24,41 @@ pub record Lies (c : Card) (b : ℕ) : Type 0 where
 pub lies : {c : Card} (b : ℕ) {t : Bool} → SoundCard c → t ≡ not (allocated (flagged c.public) b) → t ≡ false → Lies c b
 lies {c} b s told e =
     let bytes : ℕ = c.public.info.bytes in
-    let h : b * bytes + bytes ≤ c.public.info.blocks * bytes = block-fits bytes (there c.public b told e) in
-    let blocks : c.public.info.blocks * bytes ≤ 4096 * bytes = mul-le-mul_right bytes s.shaped.inRanges.blocksHigh in
-    let size : bytes ≤ 65536 = s.shaped.inRanges.bytesHigh in
-    let long : length c.contents ≡ c.public.info.blocks * bytes = s.shaped.hasLengths.contents in
+    let h : b * bytes + bytes ≤ c.public.info.blocks * bytes = block_fits bytes (there c.public b told e) in
+    let blocks : c.public.info.blocks * bytes ≤ 4096 * bytes = mul-le-mul_right bytes s.shaped.in_ranges.blocks_high in
+    let size : bytes ≤ 65536 = s.shaped.in_ranges.bytes_high in
+    let long : length c.contents ≡ c.public.info.blocks * bytes = s.shaped.has_lengths.contents in
     record { within = omega arith; low = omega arith }
 
 -- The part that is lent, from b × B to b × B + B.
-pub lent-part : (n : ℕ) (xs : List ℕ) (b : ℕ) {ys : List ℕ} → ys ≡ take (b * n + n - b * n) (drop (b * n) xs) → ys ≡ part n xs b
+pub lent_part : (n : ℕ) (xs : List ℕ) (b : ℕ) {ys : List ℕ} → ys ≡ take (b * n + n - b * n) (drop (b * n) xs) → ys ≡ part n xs b
 unfolding part
-lent-part n xs b e =
+lent_part n xs b e =
     let size : b * n + n - b * n ≡ n = omega arith in
     e ∙ ap (λ (k : ℕ). take k (drop (b * n) xs)) size
 
 -- A buffer that is not refused has B bytes.
-pub right-size : (size bytes : ℕ) (late : Bool) → not (eqb size bytes) || late ≡ false → size ≡ bytes
-right-size size bytes late e = eqb-true size bytes (not-false (eqb size bytes) (or-false-left _ late e))
+pub right_size : (size bytes : ℕ) (late : Bool) → not (eqb size bytes) || late ≡ false → size ≡ bytes
+right_size size bytes late e = eqb-true size bytes (not-false (eqb size bytes) (or_false_left _ late e))
 
-pub lent-size : {c : Card} (b : ℕ) (out : List ℕ) (late : Bool) → Lies c b → not (eqb (length out) c.public.info.bytes) || late ≡ false
+pub lent_size : {c : Card} (b : ℕ) (out : List ℕ) (late : Bool) → Lies c b → not (eqb (length out) c.public.info.bytes) || late ≡ false
     → length (take (b * c.public.info.bytes + c.public.info.bytes - b * c.public.info.bytes) (drop (b * c.public.info.bytes) c.contents)) ≡ length out
-lent-size {c} b out late l e =
+lent_size {c} b out late l e =
     let bytes : ℕ = c.public.info.bytes in
-    ap length (lent-part bytes c.contents b refl) ∙ part_length bytes c.contents b l.within ∙ sym (right-size (length out) bytes late e)
+    ap length (lent_part bytes c.contents b refl) ∙ part_length bytes c.contents b l.within ∙ sym (right_size (length out) bytes late e)
 
 -- What a part of a list is written to, it is overwritten with.
-pub put-part : (xs : List ℕ) (at end : ℕ) {ys zs : List ℕ} → ys ≡ zs → at + length zs ≡ end → put_mid at (end - at) xs ys ≡ overwrite xs at zs
+pub put_part : (xs : List ℕ) (at end : ℕ) {ys zs : List ℕ} → ys ≡ zs → at + length zs ≡ end → put_mid at (end - at) xs ys ≡ overwrite xs at zs
 unfolding overwrite
-put-part xs at end {ys} {zs} e l = rw (e, l, Post-is at end xs (omega arith))
+put_part xs at end {ys} {zs} e l = rw (e, l, Post-is at end xs (omega arith))
 
-pub put-block : (n : ℕ) (xs : List ℕ) (b : ℕ) {ys : List ℕ} (zs : List ℕ) (late : Bool) → ys ≡ zs → not (eqb (length zs) n) || late ≡ false
+pub put_block : (n : ℕ) (xs : List ℕ) (b : ℕ) {ys : List ℕ} (zs : List ℕ) (late : Bool) → ys ≡ zs → not (eqb (length zs) n) || late ≡ false
     → put_mid (b * n) (b * n + n - b * n) xs ys ≡ fill n xs b zs
 unfolding fill
-put-block n xs b zs late e l =
-    put-part xs (b * n) (b * n + n) e (ap (λ (k : ℕ). b * n + k) (right-size (length zs) n late l))
+put_block n xs b zs late e l =
+    put_part xs (b * n) (b * n + n) e (ap (λ (k : ℕ). b * n + k) (right_size (length zs) n late l))
 
 -- As many bytes are lent as there are to write.
-pub taken-size : {c : Card} (b : ℕ) (input : List ℕ) (late : Bool) → Lies c b → not (eqb (length input) c.public.info.bytes) || late ≡ false
+pub taken_size : {c : Card} (b : ℕ) (input : List ℕ) (late : Bool) → Lies c b → not (eqb (length input) c.public.info.bytes) || late ≡ false
     → length input ≡ length (take (b * c.public.info.bytes + c.public.info.bytes - b * c.public.info.bytes) (drop (b * c.public.info.bytes) c.contents))
-taken-size b input late l e = sym (lent-size b input late l e)
+taken_size b input late l e = sym (lent_size b input late l e)

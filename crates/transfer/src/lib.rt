@@ -2,7 +2,7 @@
 ghost use Rattle.std.specs.Prelude.{◌≡◌, [], ◌-◌, ◌≤◌, length, take, drop};
 ghost use Rattle.card.specs.Lent.{Performs, lent};
 ghost use Rattle.card.specs.SoundCard.{SoundCard};
-ghost use Rattle.card.specs.Session.{request, performSound};
+ghost use Rattle.card.specs.Session.{request, perform_sound};
 
 use card::{
     Call, Info, LONGEST_INTERVAL, Mode, Outcome, Port, ReadOperands, Refusal, WriteOperands,
@@ -30,7 +30,7 @@ pub fn read_sound(
     out: &mut [u8],
 ) -> Outcome
     requires { SoundCard (lent info flags keys counts pointers multiplicities windows contents) }
-    ensures { Performs (λ c. performSound port c (request (Call.Read o) [] out.old [])) info flags keys counts pointers multiplicities windows contents result out.new [] }
+    ensures { Performs (λ c. perform_sound port c (request (Call.Read o) [] out.old [])) info flags keys counts pointers multiplicities windows contents result out.new [] }
 {
     let block = o.block as usize;
     let bytes = info.bytes;
@@ -77,7 +77,7 @@ pub fn write_sound(
     input: &[u8],
 ) -> Outcome
     requires { SoundCard (lent info flags keys counts pointers multiplicities windows contents) }
-    ensures { Performs (λ c. performSound port c (request (Call.Write o) input.now [] [])) info flags keys counts pointers multiplicities windows contents result [] [] }
+    ensures { Performs (λ c. perform_sound port c (request (Call.Write o) input.now [] [])) info flags keys counts pointers multiplicities windows contents result [] [] }
 {
     let block = o.block as usize;
     let bytes = info.bytes;

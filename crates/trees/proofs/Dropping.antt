@@ -10,23 +10,23 @@ use lib.Dec.{leb}
 use lib.ListN.{length, take, get_or, set, length-set}
 use lib.Seq.{get_or-set_same, get_or-set_other, get_or-take, length-take-le}
 use Rattle.card.specs.Lists.{all}
-use Rattle.laws.specs.ListsLaws.{same-or-other}
+use Rattle.laws.specs.ListsLaws.{same_or_other}
 use Rattle.card.specs.Pointers.{source, destination, ascending}
-use Rattle.laws.specs.PointersLaws.{ascending-tail}
+use Rattle.laws.specs.PointersLaws.{ascending_tail}
 use Rattle.laws.specs.BesideLaws.{InStep}
-use Rattle.laws.specs.ChangesLaws.{used-in-step}
-use Rattle.tables.specs.RankLaws.{ascending-first}
+use Rattle.laws.specs.ChangesLaws.{used_in_step}
+use Rattle.tables.specs.RankLaws.{ascending_first}
 use Rattle.walks.specs.Walk.{mark, Queued, Walking}
-use Rattle.walks.specs.WalkLaws.{walking-most, walking-low, walking-room, walking-enter, walking-next, entered-marks, entered-kept, entered-tail, entered-queue, among-queued}
+use Rattle.walks.specs.WalkLaws.{walking_most, walking_low, walking_room, walking_enter, walking_next, entered_marks, entered_kept, entered_tail, entered_queue, among_queued}
 use Rattle.trees.specs.Release.{Indexed, Releasable, remaining, Orphan, begins, cut, Releasing, Widened, Dropped, Lost, none, fewer, last}
-use Rattle.trees.proofs.Releasing.{widened_none, widened-on, widened-enter, distinct-enter, remaining-start, remaining-end, remaining-none, remaining-here, remaining-other, remaining-enter}
+use Rattle.trees.proofs.Releasing.{widened_none, widened_on, widened_enter, distinct_enter, remaining_start, remaining_end, remaining_none, remaining_here, remaining_other, remaining_enter}
 
 -- In an ascending list a pointer is below each later one.
-ascending-at : (ws : List ℕ) → ascending ws ≡ true → (i k : ℕ) → i < k → k < length ws → get_or ws i 0 < get_or ws k 0
-ascending-at [] e i k l m = absurd (not-suc-le-zero m)
-ascending-at (x ∷ xs) e i zero l m = absurd (not-suc-le-zero l)
-ascending-at (x ∷ xs) e zero (suc k) l m = ascending-first x xs e k (le_of_suc-le-suc m)
-ascending-at (x ∷ xs) e (suc i) (suc k) l m = ascending-at xs (ascending-tail x xs e) i k (le_of_suc-le-suc l) (le_of_suc-le-suc m)
+ascending_at : (ws : List ℕ) → ascending ws ≡ true → (i k : ℕ) → i < k → k < length ws → get_or ws i 0 < get_or ws k 0
+ascending_at [] e i k l m = absurd (not-suc-le-zero m)
+ascending_at (x ∷ xs) e i zero l m = absurd (not-suc-le-zero l)
+ascending_at (x ∷ xs) e zero (suc k) l m = ascending_first x xs e k (le_of_suc-le-suc m)
+ascending_at (x ∷ xs) e (suc i) (suc k) l m = ascending_at xs (ascending_tail x xs e) i k (le_of_suc-le-suc l) (le_of_suc-le-suc m)
 
 -- The block's pointers before the place are taken off. If it has one from there on, it is the one at the place.
 pub record Dropping (ws ns before left marks queue : List ℕ) (head tail block at : ℕ) : Type 0 where
@@ -39,25 +39,25 @@ pub record Dropping (ws ns before left marks queue : List ℕ) (head tail block 
 -- ---- the ends of the turn
 
 -- Only what remains is counted in another way.
-releasing-again : {ws ns left marks queue : List ℕ} {head tail at head' at' : ℕ} → Releasing ws ns left marks queue head tail at
+releasing_again : {ws ns left marks queue : List ℕ} {head tail at head' at' : ℕ} → Releasing ws ns left marks queue head tail at
     → Walking (λ a b. ⊥) marks queue head' tail → ((b : ℕ) → remaining ws ns queue head at b ≡ remaining ws ns queue head' at' b)
     → Releasing ws ns left marks queue head' tail at'
-releasing-again h w f = record {
+releasing_again h w f = record {
   walking = w;
   distinct = h.distinct;
-  hasLeft = h.hasLeft;
+  has_left = h.has_left;
   remains = λ b l n. h.remains b l n ∙ f b;
   found = h.found;
 }
 
-pub dropping-none : {ws ns left marks queue first : List ℕ} {head tail : ℕ} → Releasing ws ns left marks queue head tail 0 → head < tail → Indexed ws first 0
+pub dropping_none : {ws ns left marks queue first : List ℕ} {head tail : ℕ} → Releasing ws ns left marks queue head tail 0 → head < tail → Indexed ws first 0
     → Dropping ws ns marks left marks queue head tail (get_or queue head 0) (get_or first (get_or queue head 0) 0)
-dropping-none {queue = queue} {first = first} {head = head} h l i =
+dropping_none {queue = queue} {first = first} {head = head} h l i =
     let block : ℕ = get_or queue head 0 in
-    let low : block < 4096 = walking-low h.walking head l in
+    let low : block < 4096 = walking_low h.walking head l in
     record {
       dropped = record {
-        releasing = releasing-again h h.walking (λ b. remaining-start h l (get_or first block 0) b (λ k m n e. i.before block k low (omega arith) m e));
+        releasing = releasing_again h h.walking (λ b. remaining_start h l (get_or first block 0) b (λ k m n e. i.before block k low (omega arith) m e));
         widened = widened_none;
       };
       waits = l;
@@ -67,10 +67,10 @@ dropping-none {queue = queue} {first = first} {head = head} h l i =
     }
 
 module _ {ws ns before left marks queue : List ℕ} {head tail block at : ℕ} (h : Dropping ws ns before left marks queue head tail block at) where
-  pub dropping-whole : (at < length ws → source (get_or ws at 0) ≡ block → ⊥) → Dropped ws ns before left marks queue (head + 1) tail 0
-  dropping-whole f = record {
-    releasing = releasing-again h.dropped.releasing (walking-next h.dropped.releasing.walking h.waits (λ b e. absurd e))
-        (λ b. remaining-end h.dropped.releasing h.waits at b (λ k l m e. f (omega arith) (h.next k l m (e ∙ h.is))));
+  pub dropping_whole : (at < length ws → source (get_or ws at 0) ≡ block → ⊥) → Dropped ws ns before left marks queue (head + 1) tail 0
+  dropping_whole f = record {
+    releasing = releasing_again h.dropped.releasing (walking_next h.dropped.releasing.walking h.waits (λ b e. absurd e))
+        (λ b. remaining_end h.dropped.releasing h.waits at b (λ k l m e. f (omega arith) (h.next k l m (e ∙ h.is))));
     widened = h.dropped.widened;
   }
 
@@ -85,21 +85,21 @@ module _ {ws ns before left marks queue : List ℕ} {head tail block at : ℕ} (
     own = e ∙ sym h.is
 
     here : remaining ws ns queue head at (destination (get_or ws at 0)) ≡ remaining ws ns queue head (at + 1) (destination (get_or ws at 0)) + get_or ns at 0
-    here = remaining-here r h.waits s at l own
+    here = remaining_here r h.waits s at l own
 
-    pub dropping-enough : (get_or left (destination (get_or ws at 0)) 0 ≡ 0 → ⊥) → get_or ns at 0 ≤ get_or left (destination (get_or ws at 0)) 0
-    dropping-enough n = omega (arith, r.remains (destination (get_or ws at 0)) low n, here)
+    pub dropping_enough : (get_or left (destination (get_or ws at 0)) 0 ≡ 0 → ⊥) → get_or ns at 0 ≤ get_or left (destination (get_or ws at 0)) 0
+    dropping_enough n = omega (arith, r.remains (destination (get_or ws at 0)) low n, here)
 
     -- The next pointer of the block, if there is one, follows this one.
     next_here : (k : ℕ) → at + 1 ≤ k → k < length ws → source (get_or ws k 0) ≡ block → source (get_or ws (at + 1) 0) ≡ block
     next_here k m n q =
-        let first : get_or ws at 0 < get_or ws (at + 1) 0 = ascending-at ws ascends at (at + 1) (omega arith) (omega arith) in
+        let first : get_or ws at 0 < get_or ws (at + 1) 0 = ascending_at ws ascends at (at + 1) (omega arith) (omega arith) in
         ⊎_elim
         (λ (z : at + 1 ≡ k). rw z q)
         (λ (o : at + 1 ≡ k → ⊥).
-        let later : get_or ws (at + 1) 0 < get_or ws k 0 = ascending-at ws ascends (at + 1) k (omega arith) n in
+        let later : get_or ws (at + 1) 0 < get_or ws k 0 = ascending_at ws ascends (at + 1) k (omega arith) n in
         omega arith)
-        (same-or-other (at + 1) k)
+        (same_or_other (at + 1) k)
 
     -- What is left once the pointer is taken off.
     module _ (n : get_or left (destination (get_or ws at 0)) 0 ≡ 0 → ⊥) where
@@ -108,128 +108,128 @@ module _ {ws ns before left marks queue : List ℕ} {head tail block at : ℕ} (
 
       less : get_or left' (destination (get_or ws at 0)) 0 ≡ get_or left (destination (get_or ws at 0)) 0 - get_or ns at 0
       unfolding left'
-      less = get_or-set_same left (destination (get_or ws at 0)) _ 0 (omega (arith, r.hasLeft))
+      less = get_or-set_same left (destination (get_or ws at 0)) _ 0 (omega (arith, r.has_left))
 
-      other-left : (b : ℕ) → (b ≡ destination (get_or ws at 0) → ⊥) → get_or left' b 0 ≡ get_or left b 0
+      other_left : (b : ℕ) → (b ≡ destination (get_or ws at 0) → ⊥) → get_or left' b 0 ≡ get_or left b 0
       unfolding left'
-      other-left b o = get_or-set_other left (destination (get_or ws at 0)) b _ 0 o
+      other_left b o = get_or-set_other left (destination (get_or ws at 0)) b _ 0 o
 
       rest : get_or left (destination (get_or ws at 0)) 0 - get_or ns at 0 ≡ remaining ws ns queue head (at + 1) (destination (get_or ws at 0))
       rest = omega (arith, r.remains (destination (get_or ws at 0)) low n, here)
 
-      remains-less : (b : ℕ) → b < 4096 → (get_or left' b 0 ≡ 0 → ⊥) → get_or left' b 0 ≡ remaining ws ns queue head (at + 1) b
-      remains-less b m z =
+      remains_less : (b : ℕ) → b < 4096 → (get_or left' b 0 ≡ 0 → ⊥) → get_or left' b 0 ≡ remaining ws ns queue head (at + 1) b
+      remains_less b m z =
           ⊎_elim
           (λ (q : b ≡ destination (get_or ws at 0)). rw q (less ∙ rest))
           (λ (o : b ≡ destination (get_or ws at 0) → ⊥).
-          other-left b o ∙ r.remains b m (λ y. z (other-left b o ∙ y)) ∙ remaining-other r h.waits s at l own b o)
-          (same-or-other b (destination (get_or ws at 0)))
+          other_left b o ∙ r.remains b m (λ y. z (other_left b o ∙ y)) ∙ remaining_other r h.waits s at l own b o)
+          (same_or_other b (destination (get_or ws at 0)))
 
       -- A block of which nothing is left goes with the marked ones.
       goes : get_or left (destination (get_or ws at 0)) 0 - get_or ns at 0 ≡ 0 → Orphan ws (λ x. mark marks x ≡ 1) (destination (get_or ws at 0))
       goes z =
           cut at l
           (λ j m q.
-          let few : head + 1 ≤ length queue = omega (arith, h.waits, walking-most r.walking, r.walking.hasQueue) in
+          let few : head + 1 ≤ length queue = omega (arith, h.waits, walking_most r.walking, r.walking.has_queue) in
           let w : Queued queue (head + 1) (source (get_or ws j 0)) =
-          among-queued queue (head + 1) few (source (get_or ws j 0)) (remaining-none r h.waits s some (at + 1) (destination (get_or ws at 0)) (sym rest ∙ z) j m q) in
-          begins (subst (λ (x : ℕ). mark marks x ≡ 1) w.is (r.walking.isMarked w.at (omega (arith, w.low, h.waits)))))
+          among_queued queue (head + 1) few (source (get_or ws j 0)) (remaining_none r h.waits s some (at + 1) (destination (get_or ws at 0)) (sym rest ∙ z) j m q) in
+          begins (subst (λ (x : ℕ). mark marks x ≡ 1) w.is (r.walking.is_marked w.at (omega (arith, w.low, h.waits)))))
 
     -- The turn goes on with other tables.
-    dropping-with : {left'' marks' queue' : List ℕ} {tail' : ℕ} → Releasing ws ns left'' marks' queue' head tail' (at + 1) → Widened ws marks marks'
+    dropping_with : {left'' marks' queue' : List ℕ} {tail' : ℕ} → Releasing ws ns left'' marks' queue' head tail' (at + 1) → Widened ws marks marks'
         → tail ≤ tail' → get_or queue' head 0 ≡ get_or queue head 0 → Dropping ws ns before left'' marks' queue' head tail' block (at + 1)
-    dropping-with a w t q = record {
-      dropped = record { releasing = a; widened = widened-on h.dropped.widened w };
+    dropping_with a w t q = record {
+      dropped = record { releasing = a; widened = widened_on h.dropped.widened w };
       waits = omega (arith, h.waits);
       is = q ∙ h.is;
       high = omega arith;
       next = next_here;
     }
 
-    pub dropping-more : {left'' marks' queue' : List ℕ} {tail' : ℕ} → Lost left marks queue tail (destination (get_or ws at 0)) (get_or ns at 0) left'' marks' queue' tail'
+    pub dropping_more : {left'' marks' queue' : List ℕ} {tail' : ℕ} → Lost left marks queue tail (destination (get_or ws at 0)) (get_or ns at 0) left'' marks' queue' tail'
         → Dropping ws ns before left'' marks' queue' head tail' block (at + 1)
     unfolding left'
-    dropping-more (none z) =
-        dropping-with
+    dropping_more (none z) =
+        dropping_with
         (record {
           walking = r.walking;
           distinct = r.distinct;
-          hasLeft = r.hasLeft;
+          has_left = r.has_left;
           remains = λ b m n.
               r.remains b m n
-              ∙ remaining-other r h.waits s at l own b (λ q. n (ap (λ (x : ℕ). get_or left x 0) q ∙ z));
+              ∙ remaining_other r h.waits s at l own b (λ q. n (ap (λ (x : ℕ). get_or left x 0) q ∙ z));
           found = r.found;
         })
         widened_none (omega arith) refl
-    dropping-more (fewer n more) =
-        dropping-with
+    dropping_more (fewer n more) =
+        dropping_with
         (record {
           walking = r.walking;
           distinct = r.distinct;
-          hasLeft = length-set left _ _ ∙ r.hasLeft;
-          remains = remains-less n;
+          has_left = length-set left _ _ ∙ r.has_left;
+          remains = remains_less n;
           found = λ k m z.
               ⊎_elim
               (λ (q : destination (get_or ws k 0) ≡ destination (get_or ws at 0)). absurd (more (sym (less n) ∙ (rw q at z))))
-              (λ (o : destination (get_or ws k 0) ≡ destination (get_or ws at 0) → ⊥). r.found k m (sym (other-left n _ o) ∙ z))
-              (same-or-other (destination (get_or ws k 0)) (destination (get_or ws at 0)));
+              (λ (o : destination (get_or ws k 0) ≡ destination (get_or ws at 0) → ⊥). r.found k m (sym (other_left n _ o) ∙ z))
+              (same_or_other (destination (get_or ws k 0)) (destination (get_or ws at 0)));
         })
         widened_none (omega arith) refl
-    dropping-more (last n z y) =
-        let long : destination (get_or ws at 0) < length marks = omega (arith, r.walking.hasMarks) in
-        let room : tail ≤ length queue = omega (arith, walking-most r.walking, r.walking.hasQueue) in
-        dropping-with
+    dropping_more (last n z y) =
+        let long : destination (get_or ws at 0) < length marks = omega (arith, r.walking.has_marks) in
+        let room : tail ≤ length queue = omega (arith, walking_most r.walking, r.walking.has_queue) in
+        dropping_with
         (record {
-          walking = walking-enter r.walking low y;
-          distinct = distinct-enter r.walking r.distinct room (λ o. omega (arith, walking-room r.walking _ low o, r.walking.hasQueue)) y;
-          hasLeft = length-set left _ _ ∙ r.hasLeft;
-          remains = λ b m o. remains-less n b m o ∙ sym (remaining-enter ws ns head (at + 1) b h.waits y);
+          walking = walking_enter r.walking low y;
+          distinct = distinct_enter r.walking r.distinct room (λ o. omega (arith, walking_room r.walking _ low o, r.walking.has_queue)) y;
+          has_left = length-set left _ _ ∙ r.has_left;
+          remains = λ b m o. remains_less n b m o ∙ sym (remaining_enter ws ns head (at + 1) b h.waits y);
           found = λ k m x.
               ⊎_elim
-              (λ (q : destination (get_or ws k 0) ≡ destination (get_or ws at 0)). rw q (entered-marks y long))
-              (λ (o : destination (get_or ws k 0) ≡ destination (get_or ws at 0) → ⊥). entered-kept y long _ (r.found k m (sym (other-left n _ o) ∙ x)))
-              (same-or-other (destination (get_or ws k 0)) (destination (get_or ws at 0)));
+              (λ (q : destination (get_or ws k 0) ≡ destination (get_or ws at 0)). rw q (entered_marks y long))
+              (λ (o : destination (get_or ws k 0) ≡ destination (get_or ws at 0) → ⊥). entered_kept y long _ (r.found k m (sym (other_left n _ o) ∙ x)))
+              (same_or_other (destination (get_or ws k 0)) (destination (get_or ws at 0)));
         })
-        (widened-enter long (goes n z) y) (entered-tail y) (entered-queue y head h.waits)
+        (widened_enter long (goes n z) y) (entered_tail y) (entered_queue y head h.waits)
 
 -- ---- of the pointers in use
 
 module _ {pointers multiplicities : List ℕ} {used : ℕ} (fit : Releasable pointers multiplicities used) where
-  pub long-in-use : length (take used pointers) ≡ used
-  long-in-use = length-take-le used pointers fit.walkable.within
+  pub long_in_use : length (take used pointers) ≡ used
+  long_in_use = length-take-le used pointers fit.walkable.within
 
-  pub releasable-step : InStep (take used pointers) (take used multiplicities)
-  releasable-step = used-in-step 0 0 used pointers multiplicities fit.walkable.within fit.paired
+  pub releasable_step : InStep (take used pointers) (take used multiplicities)
+  releasable_step = used_in_step 0 0 used pointers multiplicities fit.walkable.within fit.paired
 
   module _ {before left marks queue : List ℕ} {head tail block at : ℕ}
       (h : Dropping (take used pointers) (take used multiplicities) before left marks queue head tail block at) where
-    pub drop-ended : used ≤ at → Dropped (take used pointers) (take used multiplicities) before left marks queue (head + 1) tail 0
-    drop-ended l = dropping-whole h (λ m e. omega (arith, long-in-use))
+    pub drop_ended : used ≤ at → Dropped (take used pointers) (take used multiplicities) before left marks queue (head + 1) tail 0
+    drop_ended l = dropping_whole h (λ m e. omega (arith, long_in_use))
 
     module _ (l : at < used) where
       same : get_or (take used pointers) at 0 ≡ get_or pointers at 0
       same = get_or-take used pointers at 0 l
 
-      same-times : get_or (take used multiplicities) at 0 ≡ get_or multiplicities at 0
-      same-times = get_or-take used multiplicities at 0 l
+      same_times : get_or (take used multiplicities) at 0 ≡ get_or multiplicities at 0
+      same_times = get_or-take used multiplicities at 0 l
 
       within : at < length (take used pointers)
-      within = omega (arith, long-in-use)
+      within = omega (arith, long_in_use)
 
-      pub drop-stopped : (source (get_or pointers at 0) ≡ block → ⊥) → Dropped (take used pointers) (take used multiplicities) before left marks queue (head + 1) tail 0
-      drop-stopped n = dropping-whole h (λ m e. n (sym (ap (λ (w : ℕ). source w) same) ∙ e))
+      pub drop_stopped : (source (get_or pointers at 0) ≡ block → ⊥) → Dropped (take used pointers) (take used multiplicities) before left marks queue (head + 1) tail 0
+      drop_stopped n = dropping_whole h (λ m e. n (sym (ap (λ (w : ℕ). source w) same) ∙ e))
 
-      pub drop-low : destination (get_or pointers at 0) < 4096
-      drop-low = fit.walkable.destinationLow at l
+      pub drop_low : destination (get_or pointers at 0) < 4096
+      drop_low = fit.walkable.destination_low at l
 
-      pub drop-room : (mark marks (destination (get_or pointers at 0)) ≡ 1 → ⊥) → tail < 4096
-      drop-room = walking-room h.dropped.releasing.walking (destination (get_or pointers at 0)) drop-low
+      pub drop_room : (mark marks (destination (get_or pointers at 0)) ≡ 1 → ⊥) → tail < 4096
+      drop_room = walking_room h.dropped.releasing.walking (destination (get_or pointers at 0)) drop_low
 
       module _ (e : source (get_or pointers at 0) ≡ block) where
-        pub drop-enough : (get_or left (destination (get_or pointers at 0)) 0 ≡ 0 → ⊥) → get_or multiplicities at 0 ≤ get_or left (destination (get_or pointers at 0)) 0
-        drop-enough = rw (same, same-times) at (dropping-enough h releasable-step fit.some fit.ascends within (rw same e) (rw same drop-low))
+        pub drop_enough : (get_or left (destination (get_or pointers at 0)) 0 ≡ 0 → ⊥) → get_or multiplicities at 0 ≤ get_or left (destination (get_or pointers at 0)) 0
+        drop_enough = rw (same, same_times) at (dropping_enough h releasable_step fit.some fit.ascends within (rw same e) (rw same drop_low))
 
         pub drop_more : {left' marks' queue' : List ℕ} {tail' : ℕ}
             → Lost left marks queue tail (destination (get_or pointers at 0)) (get_or multiplicities at 0) left' marks' queue' tail'
             → Dropping (take used pointers) (take used multiplicities) before left' marks' queue' head tail' block (at + 1)
-        drop_more x = dropping-more h releasable-step fit.some fit.ascends within (rw same e) (rw same drop-low) (rw (same, same-times) x)
+        drop_more x = dropping_more h releasable_step fit.some fit.ascends within (rw same e) (rw same drop_low) (rw (same, same_times) x)

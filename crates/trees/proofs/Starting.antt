@@ -7,72 +7,72 @@ use native.Mathlib.Nat.{not-suc-le-zero}
 use native.Mathlib.Omega.{arith}
 use lib.ListN.{length, take, get_or, set, replicate, length-set, length-replicate}
 use lib.Seq.{get_or-set_same, get_or-set_other, get_or-take, length-take-le}
-use Rattle.laws.specs.ListsLaws.{same-or-other}
+use Rattle.laws.specs.ListsLaws.{same_or_other}
 use Rattle.card.specs.Pointers.{source}
 use Rattle.walks.specs.Walk.{Walkable}
-use Rattle.walks.specs.WalkLaws.{none-marked}
+use Rattle.walks.specs.WalkLaws.{none_marked}
 use Rattle.trees.specs.Release.{Copied, Indexed}
 
 -- ---- counts
 
 pub copied_none : (counts : List ℕ) {left : List ℕ} → left ≡ replicate 4096 0 → Copied counts left 0
 copied_none counts e = record {
-  hasLeft = ap length e ∙ length-replicate {A = ℕ} 4096 0;
+  has_left = ap length e ∙ length-replicate {A = ℕ} 4096 0;
   high = omega arith;
   same = λ b l. absurd (not-suc-le-zero l);
-  rest = λ b l. rw e (none-marked 4096 b);
+  rest = λ b l. rw e (none_marked 4096 b);
 }
 
 pub copied_more : {counts left : List ℕ} {at : ℕ} → Copied counts left at → length counts ≤ 4096 → at < length counts → Copied counts (set left at (get_or counts at 0)) (at + 1)
 copied_more {counts} {left} {at} h few l = record {
-  hasLeft = length-set left at _ ∙ h.hasLeft;
+  has_left = length-set left at _ ∙ h.has_left;
   high = omega arith;
   same = λ b m.
       ⊎_elim
-      (λ (q : b ≡ at). rw q (get_or-set_same left at (get_or counts at 0) 0 (omega (arith, h.hasLeft))))
+      (λ (q : b ≡ at). rw q (get_or-set_same left at (get_or counts at 0) 0 (omega (arith, h.has_left))))
       (λ (o : b ≡ at → ⊥). get_or-set_other left at b _ 0 o ∙ h.same b (omega arith))
-      (same-or-other b at);
+      (same_or_other b at);
   rest = λ b m. get_or-set_other left at b _ 0 (λ q. omega arith) ∙ h.rest b (omega arith);
 }
 
-pub copied-whole : {counts left : List ℕ} {at : ℕ} → Copied counts left at → length counts ≤ at → Copied counts left (length counts)
-copied-whole h l = let e = h.high in record { hasLeft = h.hasLeft; high = omega arith; same = λ b m. h.same b (omega arith); rest = λ b m. h.rest b (omega arith) }
+pub copied_whole : {counts left : List ℕ} {at : ℕ} → Copied counts left at → length counts ≤ at → Copied counts left (length counts)
+copied_whole h l = let e = h.high in record { has_left = h.has_left; high = omega arith; same = λ b m. h.same b (omega arith); rest = λ b m. h.rest b (omega arith) }
 
 -- ---- the first pointer of each block
 
-pub indexed-none : {pointers first : List ℕ} {used : ℕ} → Walkable pointers used → first ≡ replicate 4096 0 → Indexed (take used pointers) first used
-indexed-none {pointers} {first} {used} fit e =
+pub indexed_none : {pointers first : List ℕ} {used : ℕ} → Walkable pointers used → first ≡ replicate 4096 0 → Indexed (take used pointers) first used
+indexed_none {pointers} {first} {used} fit e =
     let long : length (take used pointers) ≡ used = length-take-le used pointers fit.within in
     record {
-      hasFirst = ap length e ∙ length-replicate {A = ℕ} 4096 0;
+      has_first = ap length e ∙ length-replicate {A = ℕ} 4096 0;
       high = omega arith;
-      few = λ b l. let z : get_or first b 0 ≡ 0 = rw e (none-marked 4096 b) in omega arith;
-      before = λ b k l m n. let z : get_or first b 0 ≡ 0 = rw e (none-marked 4096 b) in absurd (omega arith);
+      few = λ b l. let z : get_or first b 0 ≡ 0 = rw e (none_marked 4096 b) in omega arith;
+      before = λ b k l m n. let z : get_or first b 0 ≡ 0 = rw e (none_marked 4096 b) in absurd (omega arith);
       starts = λ b k l m n. absurd (omega arith);
     }
 
 -- The pointer before the place comes to its block.
-pub indexed-more : {pointers first : List ℕ} {used at : ℕ} → Walkable pointers used → Indexed (take used pointers) first at → 0 < at
+pub indexed_more : {pointers first : List ℕ} {used at : ℕ} → Walkable pointers used → Indexed (take used pointers) first at → 0 < at
     → Indexed (take used pointers) (set first (source (get_or pointers (at - 1) 0)) (at - 1)) (at - 1)
-indexed-more {pointers} {first} {used} {at} fit h more =
+indexed_more {pointers} {first} {used} {at} fit h more =
     let long : length (take used pointers) ≡ used = length-take-le used pointers fit.within in
     let high : at ≤ length (take used pointers) = h.high in
     let k : ℕ = at - 1 in
-    let at-k : k ≡ at - 1 = refl in
+    let at_k : k ≡ at - 1 = refl in
     let inside : k < used = omega arith in
     let b : ℕ = source (get_or pointers k 0) in
-    let low : b < 4096 = fit.sourceLow k inside in
+    let low : b < 4096 = fit.source_low k inside in
     let here : source (get_or (take used pointers) k 0) ≡ b = ap (λ (w : ℕ). source w) (get_or-take used pointers k 0 inside) in
-    let put : get_or (set first b k) b 0 ≡ k = get_or-set_same first b k 0 (omega (arith, h.hasFirst)) in
+    let put : get_or (set first b k) b 0 ≡ k = get_or-set_same first b k 0 (omega (arith, h.has_first)) in
     let other : (x : ℕ) → (x ≡ b → ⊥) → get_or (set first b k) x 0 ≡ get_or first x 0 = λ x o. get_or-set_other first b x k 0 o in
     record {
-      hasFirst = length-set first b k ∙ h.hasFirst;
+      has_first = length-set first b k ∙ h.has_first;
       high = omega arith;
       few = λ x l.
           ⊎_elim
           (λ (q : x ≡ b). rw (q, put) (omega arith))
           (λ (o : x ≡ b → ⊥). rw (other x o) (h.few x l))
-          (same-or-other x b);
+          (same_or_other x b);
       before = λ x j l m n s.
           ⊎_elim
           (λ (q : x ≡ b). let z : get_or (set first b k) x 0 ≡ k = rw (q, put) in omega arith)
@@ -80,8 +80,8 @@ indexed-more {pointers} {first} {used} {at} fit h more =
           ⊎_elim
           (λ (q : j ≡ k). o (sym s ∙ ap (λ (i : ℕ). source (get_or (take used pointers) i 0)) q ∙ here))
           (λ (p : j ≡ k → ⊥). h.before x j l (omega arith) (rw (other x o) at n) s)
-          (same-or-other j k))
-          (same-or-other x b);
+          (same_or_other j k))
+          (same_or_other x b);
       starts = λ x j l m n s.
           ⊎_elim
           (λ (q : x ≡ b). rw (q, put) here)
@@ -89,12 +89,12 @@ indexed-more {pointers} {first} {used} {at} fit h more =
           ⊎_elim
           (λ (q : j ≡ k). absurd (o (sym s ∙ ap (λ (i : ℕ). source (get_or (take used pointers) i 0)) q ∙ here)))
           (λ (p : j ≡ k → ⊥). rw (other x o) (h.starts x j l (omega arith) n s))
-          (same-or-other j k))
-          (same-or-other x b);
+          (same_or_other j k))
+          (same_or_other x b);
     }
 
-pub indexed-place : {pointers first : List ℕ} {used at : ℕ} → Walkable pointers used → Indexed (take used pointers) first at → at ≤ used
-indexed-place {pointers} {used = used} fit h = omega (arith, h.high, length-take-le used pointers fit.within)
+pub indexed_place : {pointers first : List ℕ} {used at : ℕ} → Walkable pointers used → Indexed (take used pointers) first at → at ≤ used
+indexed_place {pointers} {used = used} fit h = omega (arith, h.high, length-take-le used pointers fit.within)
 
-pub indexed-whole : {ws first : List ℕ} {at : ℕ} → Indexed ws first at → at ≤ 0 → Indexed ws first 0
-indexed-whole {at = at} h l = let e : at ≡ 0 = omega arith in rw e at h
+pub indexed_whole : {ws first : List ℕ} {at : ℕ} → Indexed ws first at → at ≤ 0 → Indexed ws first 0
+indexed_whole {at = at} h l = let e : at ≡ 0 = omega arith in rw e at h

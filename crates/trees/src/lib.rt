@@ -1,7 +1,7 @@
 // The blocks that are freed with a pointer, found before anything is changed: of each block it is held how often pointers still lead to it, and
 // with the last of them the block is marked, and queued until its own pointers are taken off in turn.
 ghost use Rattle.std.specs.Prelude.{◌≡◌, true, ◌+◌, ◌≤◌, ◌<◌, length, take, get_or, replicate};
-ghost use Rattle.card.specs.Card.{pointsTo};
+ghost use Rattle.card.specs.Card.{points_to};
 ghost use Rattle.card.specs.Lent.{lent, at_entry};
 ghost use Rattle.card.specs.SoundCard.{SoundCard};
 ghost use Rattle.walks.specs.Walk.{Walkable, mark};
@@ -149,7 +149,7 @@ pub fn freed_with(
     marks: &mut [u8; 4096],
 ) -> usize
     requires sound_card { SoundCard (lent info flags keys counts pointers multiplicities windows contents) }
-    requires destination_value { pointsTo (lent info flags keys counts pointers multiplicities windows contents).public source destination ≡ true }
+    requires destination_value { points_to (lent info flags keys counts pointers multiplicities windows contents).public source destination ≡ true }
     requires marks_value { marks.old ≡ replicate 4096 0 }
     ensures { Freed (at_entry info flags keys counts pointers multiplicities windows contents).public source destination marks.new result }
 {

@@ -6,18 +6,18 @@ use mathlib.Core.List.{List}
 use lib.Dec.{eqb}
 use lib.ListN.{length, set, replicate}
 use Rattle.walks.specs.Walk.{mark, Walking, Spread, Entered}
-use Rattle.walks.specs.WalkLaws.{none-marked, walking-none, walking-enter}
+use Rattle.walks.specs.WalkLaws.{none_marked, walking_none, walking_enter}
 
 module _ {marks queue marks' queue' : List ℕ} {chosen begun : ℕ}
     (none : marks ≡ replicate 4096 0) (low : chosen < 4096) (r : Entered marks queue 0 chosen marks' queue' begun) where
-  pub chosen-waits : {edge : ℕ → ℕ → Type 0} → length queue ≡ 4096 → Walking edge marks' queue' 0 begun
-  chosen-waits l = walking-enter (walking-none none l) low r
+  pub chosen_waits : {edge : ℕ → ℕ → Type 0} → length queue ≡ 4096 → Walking edge marks' queue' 0 begun
+  chosen_waits l = walking_enter (walking_none none l) low r
 
-  chosen-marked : marks' ≡ set (replicate 4096 0) chosen 1
-  chosen-marked =
-      let z : mark marks chosen ≡ 0 = rw none (none-marked 4096 chosen) in
-      r.isMarks ∙ rw (ap (λ (x : ℕ). eqb x 1) z) (ap (λ (ms : List ℕ). set ms chosen 1) none)
+  chosen_marked : marks' ≡ set (replicate 4096 0) chosen 1
+  chosen_marked =
+      let z : mark marks chosen ≡ 0 = rw none (none_marked 4096 chosen) in
+      r.is_marks ∙ rw (ap (λ (x : ℕ). eqb x 1) z) (ap (λ (ms : List ℕ). set ms chosen 1) none)
 
-  pub chosen-spread : {edge : ℕ → ℕ → Type 0} {after queue'' : List ℕ} {count : ℕ} → Spread edge marks' after queue'' count
+  pub chosen_spread : {edge : ℕ → ℕ → Type 0} {after queue'' : List ℕ} {count : ℕ} → Spread edge marks' after queue'' count
       → Spread edge (set (replicate 4096 0) chosen 1) after queue'' count
-  chosen-spread {edge} {after} {queue''} {count} s = subst (λ (ms : List ℕ). Spread edge ms after queue'' count) chosen-marked s
+  chosen_spread {edge} {after} {queue''} {count} s = subst (λ (ms : List ℕ). Spread edge ms after queue'' count) chosen_marked s

@@ -4,11 +4,11 @@ ghost use Rattle.std.specs.Prelude.{◌≡◌, false, ◌<◌, length, take, set
 ghost use Rattle.card.specs.Lent.{lent, at_entry};
 ghost use Rattle.card.specs.SoundCard.{SoundCard};
 ghost use Rattle.card.specs.Calls.{missing};
-ghost use Rattle.report.specs.Report.{unlockingReport};
-ghost use Rattle.report.specs.Contracts.{unlockingSound, Reports};
+ghost use Rattle.report.specs.Report.{unlocking_report};
+ghost use Rattle.report.specs.Contracts.{unlocking_sound, Reports};
 ghost use Rattle.walks.specs.Walk.{Walkable, Edge, Spread};
 ghost use Rattle.walks.specs.declared.Direction.TheVariants.{Against};
-ghost use Rattle.unlocking.specs.Unlocking.{Keyed, QueuedBelow, hasThisKey, fitsQueued, leadsOrFits, Kept, FoundOf};
+ghost use Rattle.unlocking.specs.Unlocking.{Keyed, QueuedBelow, has_this_key, fits_queued, leads_or_fits, Kept, FoundOf};
 
 use card::{Answer, Info, Mode, Refusal, Verdict};
 use walks::Direction;
@@ -55,7 +55,7 @@ fn queue_leading(
 fn has_this_key(flags: &[u8], keys: &[u64], block: usize, high: u64, low: u64) -> bool
     requires keyed { Keyed flags.now keys.now }
     requires block_in_bounds { block < length flags.now }
-    ensures { result ≡ hasThisKey flags.now keys.now high low block }
+    ensures { result ≡ has_this_key flags.now keys.now high low block }
 {
     let flag = flags[block];
     let read = access::key_is(keys, Mode::Reading, block, high, low);
@@ -67,7 +67,7 @@ fn has_this_key(flags: &[u8], keys: &[u64], block: usize, high: u64, low: u64) -
 fn fits(flags: &[u8], keys: &[u64], queue: &[u16; 4096], count: usize, high: u64, low: u64) -> bool
     requires keyed { Keyed flags.now keys.now }
     requires queued_below { QueuedBelow queue.now count (length flags.now) }
-    ensures { result ≡ fitsQueued flags.now keys.now (take count queue.now) high low }
+    ensures { result ≡ fits_queued flags.now keys.now (take count queue.now) high low }
 {
     let mut at = 0;
     while at < count {
@@ -91,7 +91,7 @@ fn leads_or_fits(
     requires keyed { Keyed flags.now keys.now }
     requires queued_below { QueuedBelow queue.now count (length flags.now) }
     requires block_in_bounds { block < length flags.now }
-    ensures { result ≡ leadsOrFits flags.now keys.now marks.now (take count queue.now) block }
+    ensures { result ≡ leads_or_fits flags.now keys.now marks.now (take count queue.now) block }
 {
     if marks[block] == 1 {
         return true;
@@ -191,7 +191,7 @@ fn unlocking_sound(
     places: &mut [u16],
 ) -> Answer
     requires { SoundCard (lent info flags keys counts pointers multiplicities windows contents) }
-    ensures { Reports (unlockingSound words.now chosen) info flags keys counts pointers multiplicities windows contents places result }
+    ensures { Reports (unlocking_sound words.now chosen) info flags keys counts pointers multiplicities windows contents places result }
 {
     let gone = access::missing(info, flags, chosen as usize);
     let bad = reach::bad_keys(words);
@@ -239,7 +239,7 @@ pub fn unlocking(
     chosen: u16,
     places: &mut [u16],
 ) -> Answer
-    ensures { Reports (unlockingReport words.now chosen) info flags keys counts pointers multiplicities windows contents places result }
+    ensures { Reports (unlocking_report words.now chosen) info flags keys counts pointers multiplicities windows contents places result }
 {
     match audit::audit(
         info,

@@ -7,12 +7,12 @@ use mathlib.Core.List.{List}
 use native.Mathlib.Omega.{arith}
 use lib.ListN.{length, take, get_or}
 use lib.Seq.{get_or-take}
-use Rattle.laws.specs.ListsLaws.{below_or_not, same-or-other}
+use Rattle.laws.specs.ListsLaws.{below_or_not, same_or_other}
 use Rattle.card.specs.Pointers.{destination}
 use Rattle.walks.specs.declared.Direction.{Direction}
-use Rattle.walks.specs.Walk.{nearEnd, farEnd, Walkable, Edge, last, Linked, mark, Walking, Grown, Followed, Entered}
-use Rattle.walks.specs.WalkLaws.{entered-marks, entered-kept, entered-tail, entered-queue, walking-low, walking-room, walking-enter, walking-next, grown-none, grown-enter}
-use Rattle.walks.proofs.Linking.{last-most, last-leads, none-behind, in_use, far-low}
+use Rattle.walks.specs.Walk.{near_end, far_end, Walkable, Edge, last, Linked, mark, Walking, Grown, Followed, Entered}
+use Rattle.walks.specs.WalkLaws.{entered_marks, entered_kept, entered_tail, entered_queue, walking_low, walking_room, walking_enter, walking_next, grown_none, grown_enter}
+use Rattle.walks.proofs.Linking.{last_most, last_leads, none_behind, in_use, far_low}
 
 -- ---- one block's pointers
 
@@ -23,17 +23,17 @@ pub record Following (direction : Direction) (shut ws before marks queue : List 
   pub waits : head < tail
   pub is : get_or queue head 0 ≡ block
   pub high : at ≤ length ws
-  pub leaves : 1 ≤ at → nearEnd direction (get_or ws (at - 1) 0) ≡ block
-  pub passed : (k : ℕ) → at ≤ k → k < length ws → nearEnd direction (get_or ws k 0) ≡ block → get_or shut (destination (get_or ws k 0)) 0 ≡ 0
-      → mark marks (farEnd direction (get_or ws k 0)) ≡ 1
+  pub leaves : 1 ≤ at → near_end direction (get_or ws (at - 1) 0) ≡ block
+  pub passed : (k : ℕ) → at ≤ k → k < length ws → near_end direction (get_or ws k 0) ≡ block → get_or shut (destination (get_or ws k 0)) 0 ≡ 0
+      → mark marks (far_end direction (get_or ws k 0)) ≡ 1
 
 module _ {direction : Direction} {shut ws before marks queue : List ℕ} {head tail block at : ℕ}
     (h : Following direction shut ws before marks queue head tail block at) where
-  pub following-whole : at ≡ 0 → Followed (Edge direction shut ws) before marks queue (head + 1) tail
-  following-whole e = record {
-    walking = walking-next h.walking h.waits
+  pub following_whole : at ≡ 0 → Followed (Edge direction shut ws) before marks queue (head + 1) tail
+  following_whole e = record {
+    walking = walking_next h.walking h.waits
         (λ b f.
-        subst (λ (x : ℕ). mark marks x ≡ 1) f.ends (h.passed f.at (omega arith) f.within (f.starts ∙ h.is) f.isOpen));
+        subst (λ (x : ℕ). mark marks x ≡ 1) f.ends (h.passed f.at (omega arith) f.within (f.starts ∙ h.is) f.is_open));
     grown = h.grown;
   }
 
@@ -42,46 +42,46 @@ module _ {direction : Direction} {shut ws before marks queue : List ℕ} {head t
     inside : k < length ws
     inside = omega (arith, h.high)
 
-    here : nearEnd direction (get_or ws k 0) ≡ block
-    here = let e : at - 1 ≡ k = omega arith in sym (ap (λ (i : ℕ). nearEnd direction (get_or ws i 0)) e) ∙ h.leaves (omega arith)
+    here : near_end direction (get_or ws k 0) ≡ block
+    here = let e : at - 1 ≡ k = omega arith in sym (ap (λ (i : ℕ). near_end direction (get_or ws i 0)) e) ∙ h.leaves (omega arith)
 
     -- The marked blocks are still marked, and where the pointer may be followed, so is its end.
-    following-next : {marks' queue' : List ℕ} {tail' : ℕ}
+    following_next : {marks' queue' : List ℕ} {tail' : ℕ}
         → Walking (Edge direction shut ws) marks' queue' head tail' → Grown (Edge direction shut ws) before marks'
         → tail ≤ tail' → get_or queue' head 0 ≡ get_or queue head 0 → ((x : ℕ) → mark marks x ≡ 1 → mark marks' x ≡ 1)
-        → (get_or shut (destination (get_or ws k 0)) 0 ≡ 0 → mark marks' (farEnd direction (get_or ws k 0)) ≡ 1)
+        → (get_or shut (destination (get_or ws k 0)) 0 ≡ 0 → mark marks' (far_end direction (get_or ws k 0)) ≡ 1)
         → Following direction shut ws before marks' queue' head tail' block (last direction ws k block)
-    following-next w g t q kept now = record {
+    following_next w g t q kept now = record {
       walking = w;
       grown = g;
       waits = omega (arith, h.waits);
       is = q ∙ h.is;
-      high = omega (arith, last-most direction ws k block, inside);
-      leaves = λ m. last-leads direction ws k block m;
+      high = omega (arith, last_most direction ws k block, inside);
+      leaves = λ m. last_leads direction ws k block m;
       passed = λ j m n f z.
           ⊎_elim
-          (λ (b : j < k). absurd (none-behind direction ws k block j m b f))
+          (λ (b : j < k). absurd (none_behind direction ws k block j m b f))
           (λ (b : k ≤ j).
           ⊎_elim
           (λ (s : j ≡ k). rw s (now (rw s at z)))
           (λ (s : j ≡ k → ⊥). kept _ (h.passed j (omega arith) n f z))
-          (same-or-other j k))
+          (same_or_other j k))
           (below_or_not j k);
     }
 
-    following-open : {marks' queue' : List ℕ} {tail' : ℕ} → farEnd direction (get_or ws k 0) < 4096 → get_or shut (destination (get_or ws k 0)) 0 ≡ 0
-        → Entered marks queue tail (farEnd direction (get_or ws k 0)) marks' queue' tail'
+    following_open : {marks' queue' : List ℕ} {tail' : ℕ} → far_end direction (get_or ws k 0) < 4096 → get_or shut (destination (get_or ws k 0)) 0 ≡ 0
+        → Entered marks queue tail (far_end direction (get_or ws k 0)) marks' queue' tail'
         → Following direction shut ws before marks' queue' head tail' block (last direction ws k block)
-    following-open low o r =
-        let long : farEnd direction (get_or ws k 0) < length marks = omega (arith, h.walking.hasMarks) in
-        following-next (walking-enter h.walking low r)
-        (grown-enter h.grown (h.walking.isMarked head h.waits)
-        (record { at = k; within = inside; starts = here ∙ sym h.is; ends = refl; isOpen = o }) long r)
-        (entered-tail r) (entered-queue r head h.waits) (entered-kept r long) (λ z. entered-marks r long)
+    following_open low o r =
+        let long : far_end direction (get_or ws k 0) < length marks = omega (arith, h.walking.has_marks) in
+        following_next (walking_enter h.walking low r)
+        (grown_enter h.grown (h.walking.is_marked head h.waits)
+        (record { at = k; within = inside; starts = here ∙ sym h.is; ends = refl; is_open = o }) long r)
+        (entered_tail r) (entered_queue r head h.waits) (entered_kept r long) (λ z. entered_marks r long)
 
-    following-shut : (get_or shut (destination (get_or ws k 0)) 0 ≡ 0 → ⊥)
+    following_shut : (get_or shut (destination (get_or ws k 0)) 0 ≡ 0 → ⊥)
         → Following direction shut ws before marks queue head tail block (last direction ws k block)
-    following-shut n = following-next h.walking h.grown (omega arith) refl (λ x e. e) (λ z. absurd (n z))
+    following_shut n = following_next h.walking h.grown (omega arith) refl (λ x e. e) (λ z. absurd (n z))
 
 -- ---- of a table with its links
 
@@ -91,20 +91,20 @@ module _ {pointers : List ℕ} {used : ℕ} (fit : Walkable pointers used) {dire
   module _ {shut marks queue : List ℕ} {head tail : ℕ}
       (h : Walking (Edge direction shut (take used pointers)) marks queue head tail) (waits : head < tail) where
     start_is : get_or heads (get_or queue head 0) 0 ≡ last direction (take used pointers) (length (take used pointers)) (get_or queue head 0)
-    start_is = links.head (get_or queue head 0) (walking-low h head waits)
+    start_is = links.head (get_or queue head 0) (walking_low h head waits)
 
-    pub start-few : get_or heads (get_or queue head 0) 0 ≤ used
-    start-few = omega (arith, start_is, in_use fit, last-most direction (take used pointers) (length (take used pointers)) (get_or queue head 0))
+    pub start_few : get_or heads (get_or queue head 0) 0 ≤ used
+    start_few = omega (arith, start_is, in_use fit, last_most direction (take used pointers) (length (take used pointers)) (get_or queue head 0))
 
-    pub follow-none : Following direction shut (take used pointers) marks marks queue head tail (get_or queue head 0) (get_or heads (get_or queue head 0) 0)
-    follow-none = record {
+    pub follow_none : Following direction shut (take used pointers) marks marks queue head tail (get_or queue head 0) (get_or heads (get_or queue head 0) 0)
+    follow_none = record {
       walking = h;
-      grown = grown-none;
+      grown = grown_none;
       waits = waits;
       is = refl;
-      high = omega (arith, start-few, in_use fit);
-      leaves = λ m. rw start_is (last-leads direction (take used pointers) (length (take used pointers)) (get_or queue head 0) (rw start_is at m));
-      passed = λ k m o f z. absurd (none-behind direction (take used pointers) (length (take used pointers)) (get_or queue head 0) k (rw start_is at m) o f);
+      high = omega (arith, start_few, in_use fit);
+      leaves = λ m. rw start_is (last_leads direction (take used pointers) (length (take used pointers)) (get_or queue head 0) (rw start_is at m));
+      passed = λ k m o f z. absurd (none_behind direction (take used pointers) (length (take used pointers)) (get_or queue head 0) k (rw start_is at m) o f);
     }
 
   module _ {shut before marks queue : List ℕ} {head tail block at : ℕ}
@@ -116,34 +116,34 @@ module _ {pointers : List ℕ} {used : ℕ} (fit : Walkable pointers used) {dire
     placed : at - 1 < length (take used pointers)
     placed = omega (arith, h.high)
 
-    used-place : at - 1 < used
-    used-place = omega (arith, placed, in_use fit)
+    used_place : at - 1 < used
+    used_place = omega (arith, placed, in_use fit)
 
     same : get_or (take used pointers) (at - 1) 0 ≡ get_or pointers (at - 1) 0
-    same = get_or-take used pointers (at - 1) 0 used-place
+    same = get_or-take used pointers (at - 1) 0 used_place
 
-    next-is : get_or nexts (at - 1) 0 ≡ last direction (take used pointers) (at - 1) block
-    next-is = links.next (at - 1) placed ∙ ap (λ (b : ℕ). last direction (take used pointers) (at - 1) b) (here h (at - 1) one_more)
+    next_is : get_or nexts (at - 1) 0 ≡ last direction (take used pointers) (at - 1) block
+    next_is = links.next (at - 1) placed ∙ ap (λ (b : ℕ). last direction (take used pointers) (at - 1) b) (here h (at - 1) one_more)
 
-    pub follow-less : get_or nexts (at - 1) 0 < at
-    follow-less = omega (arith, next-is, last-most direction (take used pointers) (at - 1) block)
+    pub follow_less : get_or nexts (at - 1) 0 < at
+    follow_less = omega (arith, next_is, last_most direction (take used pointers) (at - 1) block)
 
     -- Where the pointer's destination is shut.
-    pub follow-shut : (get_or shut (destination (get_or pointers (at - 1) 0)) 0 ≡ 0 → ⊥)
+    pub follow_shut : (get_or shut (destination (get_or pointers (at - 1) 0)) 0 ≡ 0 → ⊥)
         → Following direction shut (take used pointers) before marks queue head tail block (get_or nexts (at - 1) 0)
-    follow-shut n = rw next-is (following-shut h (at - 1) one_more (rw same n))
+    follow_shut n = rw next_is (following_shut h (at - 1) one_more (rw same n))
 
     -- The block that the pointer leads to.
-    module _ {b : ℕ} (e : b ≡ farEnd direction (get_or pointers (at - 1) 0)) where
-      pub follow-low : b < 4096
-      follow-low = far-low fit direction (at - 1) e used-place
+    module _ {b : ℕ} (e : b ≡ far_end direction (get_or pointers (at - 1) 0)) where
+      pub follow_low : b < 4096
+      follow_low = far_low fit direction (at - 1) e used_place
 
-      pub follow-room : (mark marks b ≡ 1 → ⊥) → tail < 4096
-      follow-room = walking-room h.walking b follow-low
+      pub follow_room : (mark marks b ≡ 1 → ⊥) → tail < 4096
+      follow_room = walking_room h.walking b follow_low
 
-      pub follow-open : {marks' queue' : List ℕ} {tail' : ℕ} → get_or shut (destination (get_or pointers (at - 1) 0)) 0 ≡ 0
+      pub follow_open : {marks' queue' : List ℕ} {tail' : ℕ} → get_or shut (destination (get_or pointers (at - 1) 0)) 0 ≡ 0
           → Entered marks queue tail b marks' queue' tail'
           → Following direction shut (take used pointers) before marks' queue' head tail' block (get_or nexts (at - 1) 0)
-      follow-open o r =
-          let far : b ≡ farEnd direction (get_or (take used pointers) (at - 1) 0) = rw same e in
-          rw next-is (following-open h (at - 1) one_more (rw (← far) follow-low) (rw same o) (rw (← far) r))
+      follow_open o r =
+          let far : b ≡ far_end direction (get_or (take used pointers) (at - 1) 0) = rw same e in
+          rw next_is (following_open h (at - 1) one_more (rw (← far) follow_low) (rw same o) (rw (← far) r))

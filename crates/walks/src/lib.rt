@@ -1,7 +1,7 @@
 // Walks from block to block, along the pointers or against them, each pointer looked at once: a mark for each block that was come to, and a
 // queue of them: of those from its head on the pointers are still to be followed.
 ghost use Rattle.std.specs.Prelude.{◌≡◌, ◌+◌, ◌<◌, length, take, replicate};
-ghost use Rattle.walks.specs.Walk.{nearEnd, farEnd, Walkable, Edge, Linked, mark, Walking, Followed, Spread, Entered};
+ghost use Rattle.walks.specs.Walk.{near_end, far_end, Walkable, Edge, Linked, mark, Walking, Followed, Spread, Entered};
 
 // Along the pointers a walk comes from a pointer's source to its destination, against them from the destination to the source.
 #[derive(Drop)]
@@ -14,7 +14,7 @@ pub enum Direction {
 
 // The end that a walk comes from.
 fn near_end(direction: Direction, pointer: u32) -> u16
-    ensures { result ≡ nearEnd direction pointer }
+    ensures { result ≡ near_end direction pointer }
 {
     match direction {
         Direction::Along => (pointer / 65536) as u16,
@@ -24,7 +24,7 @@ fn near_end(direction: Direction, pointer: u32) -> u16
 
 // The end that it comes to.
 fn far_end(direction: Direction, pointer: u32) -> u16
-    ensures { result ≡ farEnd direction pointer }
+    ensures { result ≡ far_end direction pointer }
 {
     match direction {
         Direction::Along => (pointer % 65536) as u16,

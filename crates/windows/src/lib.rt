@@ -1,16 +1,16 @@
 // The windows of a block: set, opened by a host's READ or WRITE, and closed.
 ghost use Rattle.std.specs.Prelude.{◌≡◌, [], ◌+◌, ◌*◌, ◌≤◌, ◌<◌, length, set};
-ghost use Rattle.card.specs.Card.{card, windowAt};
-ghost use Rattle.card.specs.Soundness.{timeLimit};
+ghost use Rattle.card.specs.Card.{card, window_at};
+ghost use Rattle.card.specs.Soundness.{time_limit};
 ghost use Rattle.card.specs.Plan.{changes};
-ghost use Rattle.card.specs.Calls.{windowAfter, opensWindow};
+ghost use Rattle.card.specs.Calls.{window_after, opens_window};
 
 use card::{Info, Mode, Port};
 
 // Where the block's window for the mode stands in its table.
 fn window_at(mode: Mode, block: usize) -> usize
     requires { block < 65536 }
-    ensures { result ≡ windowAt mode block }
+    ensures { result ≡ window_at mode block }
 {
     match mode {
         Mode::Reading => 2 * block,
@@ -20,8 +20,8 @@ fn window_at(mode: Mode, block: usize) -> usize
 
 // The window gets the end that an interval gives it, or keeps its own where that is later.
 pub fn set_window(info: Info, windows: &mut [u64], mode: Mode, block: usize, interval: u32)
-    requires { (info.time < timeLimit) × ((block < 65536) × (2 * block + 2 ≤ length windows.old)) }
-    ensures { windows.new ≡ set windows.old (windowAt mode block) (windowAfter (card info [] [] [] [] [] windows.old []).public mode block interval) }
+    requires { (info.time < time_limit) × ((block < 65536) × (2 * block + 2 ≤ length windows.old)) }
+    ensures { windows.new ≡ set windows.old (window_at mode block) (window_after (card info [] [] [] [] [] windows.old []).public mode block interval) }
 {
     let end = info.time + (interval as u64);
     let at = window_at(mode, block);
@@ -39,8 +39,8 @@ pub fn open_window(
     block: usize,
     interval: u32,
 )
-    requires { (info.time < timeLimit) × ((block < 65536) × (2 * block + 2 ≤ length windows.old)) }
-    ensures { card info [] [] [] [] [] windows.new [] ≡ changes (card info [] [] [] [] [] windows.old []) (opensWindow port (card info [] [] [] [] [] windows.old []).public mode block interval) }
+    requires { (info.time < time_limit) × ((block < 65536) × (2 * block + 2 ≤ length windows.old)) }
+    ensures { card info [] [] [] [] [] windows.new [] ≡ changes (card info [] [] [] [] [] windows.old []) (opens_window port (card info [] [] [] [] [] windows.old []).public mode block interval) }
 {
     match port {
         Port::Host => {

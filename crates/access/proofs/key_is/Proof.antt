@@ -1,7 +1,7 @@
 -- `access::key_is` meets its contract: the two words compared are those of the mode.
 use native.Mathlib.Omega.{arith}
 use borrow.Author.Rules.{rules}
-use Rattle.access.proofs.Answers.{key-reading, key-writing}
+use Rattle.access.proofs.Answers.{key_reading, key_writing}
 use Rattle.access.proofs.key_is.Statement.{statement}
 use Rattle.access.proofs.key_is.Tie as tie
 
@@ -27,13 +27,13 @@ same-words-requires-2 : tie.Need-same-words-requires-2
 same-words-requires-2 c κs = omega arith
 
 returns : tie.Need-returns
-returns c = key-reading _ _ _ _ c.before.enum_told.given.1 c.same-words.ensures
+returns c = key_reading _ _ _ _ c.before.enum_told.given.1 c.same-words.ensures
 
 returns-2 : tie.Need-returns-2
-returns-2 c = key-writing _ _ _ _ c.before.enum-told2.given.1 c.same-words2.ensures
+returns-2 c = key_writing _ _ _ _ c.before.enum-told2.given.1 c.same-words2.ensures
 
-pub key-is-spec : {M : Type 1} → statement M
-key-is-spec =
+pub key_is_spec : {M : Type 1} → statement M
+key_is_spec =
     tie.close
     (tie.spec
     enum_told

@@ -1,7 +1,7 @@
 -- `access::key_opens` meets its contract: for reading either key opens, for writing the write key.
 use native.Mathlib.Omega.{arith}
 use borrow.Author.Rules.{rules}
-use Rattle.access.proofs.Answers.{opens-reading, opens-writing}
+use Rattle.access.proofs.Answers.{opens_reading, opens_writing}
 use Rattle.access.proofs.key_opens.Statement.{statement}
 use Rattle.access.proofs.key_opens.Tie as tie
 
@@ -24,13 +24,13 @@ key-is-requires-3 : tie.Need-key-is-requires-3
 key-is-requires-3 c κs = omega arith
 
 returns : tie.Need-returns
-returns c = λ card k g. search opens-reading
+returns c = λ card k g. search opens_reading
 
 returns-2 : tie.Need-returns-2
-returns-2 c = λ card k g. opens-writing card _ _ _ c.before.enum-told2.given.1 c.key-is3.ensures k
+returns-2 c = λ card k g. opens_writing card _ _ _ c.before.enum-told2.given.1 c.key-is3.ensures k
 
-pub key-opens-spec : {M : Type 1} → statement M
-key-opens-spec =
+pub key_opens_spec : {M : Type 1} → statement M
+key_opens_spec =
     tie.close
     (tie.spec
     enum_told

@@ -2,7 +2,7 @@
 use mathlib.Core.Path.{refl}
 use native.Mathlib.Omega.{arith}
 use borrow.Author.Rules.{rules}
-use Rattle.access.proofs.Answers.{nothing-opens, reference-refused, reference-opens, key-opens, keyless-refused}
+use Rattle.access.proofs.Answers.{nothing_opens, reference_refused, reference_opens, key_opens_law, keyless_refused}
 use Rattle.access.proofs.opens.Statement.{statement}
 use Rattle.access.proofs.opens.Tie as tie
 
@@ -19,7 +19,7 @@ enum-known-credential : tie.Need-enum-known-credential
 enum-known-credential c = search rules
 
 returns : tie.Need-returns
-returns c = search reference-refused
+returns c = search reference_refused
 
 reference-opens-requires : tie.Need-reference-opens-requires
 reference-opens-requires c κs = search
@@ -32,20 +32,20 @@ key-opens-requires c κs = omega arith
 
 returns-2 : tie.Need-returns-2
 returns-2 c =
-    let at-has-key : tie.After-has-key = search in
-    key-opens _ _ _ at-has-key.has_key_lem.ensures c.before.before.before.credential2.given.1 c.before.if2.true (c.key-opens.ensures _ refl refl)
+    let at_has_key : tie.After-has-key = search in
+    key_opens_law _ _ _ at_has_key.has_key_lem.ensures c.before.before.before.credential2.given.1 c.before.if2.true (c.key_opens_law.ensures _ refl refl)
 
 returns-3 : tie.Need-returns-3
-returns-3 c = nothing-opens _ _ _ c.before.before.before.has_key_lem.ensures c.enum_told.given.1
+returns-3 c = nothing_opens _ _ _ c.before.before.before.has_key_lem.ensures c.enum_told.given.1
 
 returns-4 : tie.Need-returns-4
-returns-4 c = search reference-opens
+returns-4 c = search reference_opens
 
 returns-5 : tie.Need-returns-5
-returns-5 c = search keyless-refused
+returns-5 c = search keyless_refused
 
-pub opens-spec : {M : Type 1} → statement M
-opens-spec =
+pub opens_spec : {M : Type 1} → statement M
+opens_spec =
     tie.close
     (tie.spec
     shared-slice-read-flag

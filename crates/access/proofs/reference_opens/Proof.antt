@@ -2,12 +2,12 @@
 use mathlib.Core.List.{[]}
 use native.Mathlib.Omega.{arith}
 use Rattle.card.specs.Card.{card}
-use Rattle.access.proofs.Answers.{reference-outside, reference-unallocated, reference-followed}
+use Rattle.access.proofs.Answers.{reference_outside, reference_unallocated, reference_followed}
 use Rattle.access.proofs.reference_opens.Statement.{statement}
 use Rattle.access.proofs.reference_opens.Tie as tie
 
 returns : tie.Need-returns
-returns c = reference-outside _ _ _ _ c.if1.true
+returns c = reference_outside _ _ _ _ c.if1.true
 
 shared-slice-read-allocated : tie.Need-shared-slice-read-allocated
 shared-slice-read-allocated c = omega arith
@@ -16,7 +16,7 @@ allocated-requires : tie.Need-allocated-requires
 allocated-requires c κs = tt
 
 returns-2 : tie.Need-returns-2
-returns-2 c = reference-unallocated _ _ _ _ c.before.allocated.ensures c.if2.true
+returns-2 c = reference_unallocated _ _ _ _ c.before.allocated.ensures c.if2.true
 
 mul-pointer : tie.Need-overflow-mul-pointer
 mul-pointer c = omega arith
@@ -35,14 +35,14 @@ window-open-requires c κs = omega arith
 
 returns-3 : tie.Need-returns-3
 returns-3 c =
-    let at-if1 : tie.Else1 = search in
+    let at_if1 : tie.Else1 = search in
     let start : tie.Start = search in
     let at = start.args in
-    reference-followed (card at.info at.flags.now [] [] at.pointers.now [] at.windows.now []).public at.mode at.block at.reference
-    at-if1.if1.left c.before.before.before.allocated.ensures c.before.before.if2.false c.before.holds.ensures c.window-open.ensures
+    reference_followed (card at.info at.flags.now [] [] at.pointers.now [] at.windows.now []).public at.mode at.block at.reference
+    at_if1.if1.left c.before.before.before.allocated.ensures c.before.before.if2.false c.before.holds.ensures c.window-open.ensures
 
-pub reference-opens-spec : {M : Type 1} → statement M
-reference-opens-spec =
+pub reference_opens_spec : {M : Type 1} → statement M
+reference_opens_spec =
     tie.close
     (tie.spec
     returns

@@ -22,8 +22,8 @@ shared-slice-read-second c = omega arith
 returns : tie.Need-returns
 returns c = refl
 
-pub same-words-spec : {M : Type 1} → statement M
-same-words-spec =
+pub same_words_spec : {M : Type 1} → statement M
+same_words_spec =
     tie.close
     (tie.spec
     mul-first

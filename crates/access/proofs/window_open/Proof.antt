@@ -1,7 +1,7 @@
 -- `access::window_open` meets its contract: the end compared is that of the mode.
 use native.Mathlib.Omega.{arith}
 use borrow.Author.Rules.{rules}
-use Rattle.access.proofs.Answers.{window-reading, window-writing}
+use Rattle.access.proofs.Answers.{window_reading, window_writing}
 use Rattle.access.proofs.window_open.Statement.{statement}
 use Rattle.access.proofs.window_open.Tie as tie
 
@@ -30,13 +30,13 @@ enum-told-2 : tie.Need-enum-told-2
 enum-told-2 c = search rules
 
 returns : tie.Need-returns
-returns c = window-reading _ _ _ c.before.enum_told.given.1
+returns c = window_reading _ _ _ c.before.enum_told.given.1
 
 returns-2 : tie.Need-returns-2
-returns-2 c = window-writing _ _ _ c.before.enum-told2.given.1
+returns-2 c = window_writing _ _ _ c.before.enum-told2.given.1
 
-pub window-open-spec : {M : Type 1} → statement M
-window-open-spec =
+pub window_open_spec : {M : Type 1} → statement M
+window_open_spec =
     tie.close
     (tie.spec
     mul_at

@@ -1,5 +1,5 @@
 -- `adapter::perform` meets its contract.
-use Rattle.adapter.specs.EffectsLaws.{effect-bad, effect-record, effect-called}
+use Rattle.adapter.specs.EffectsLaws.{effect_bad, effect_record, effect_called}
 use borrow.Author.Rules.{rules}
 use Rattle.adapter.proofs.perform.Statement.{statement}
 use Rattle.adapter.proofs.perform.Tie as tie
@@ -16,10 +16,10 @@ enum_told : tie.Need-enum-told
 enum_told c = search rules
 
 returns : tie.Need-returns
-returns c = search effect-bad
+returns c = search effect_bad
 
 returns-2 : tie.Need-returns-2
-returns-2 c = search effect-record
+returns-2 c = search effect_record
 
 load-requires : tie.Need-load-requires
 load-requires c κs = search rules
@@ -29,8 +29,8 @@ perform-requires c κs = tt
 
 settle-requires : tie.Need-settle-requires
 settle-requires c κs =
-    let at-if1 : tie.Else1 = search in
-    at-if1.if1.left
+    let at_if1 : tie.Else1 = search in
+    at_if1.if1.left
 
 same_length : tie.Need-same-length
 same_length c = search rules
@@ -64,16 +64,16 @@ same-length-10 c = search rules
 
 returns-3 : tie.Need-returns-3
 returns-3 c =
-    let at-settle : tie.After-settle = search in
-    let at-perform : tie.After-perform = search in
+    let at_settle : tie.After-settle = search in
+    let at_perform : tie.After-perform = search in
     let at_load : tie.After-load = search in
-    let at-if1 : tie.Else1 = search in
-    let at-decoding : tie.After-decoding = search in
-    let start = start-from-decoding at-decoding in
-    effect-called start.args.input.now start.args.out.now start.args.places.now start.args.value.now start.args.info.now _ _ _ _ _ _ _ _ _ _ _ _ _ _ _ at-decoding.decoding.given.1 at-if1.if1.left at_load.load.ensures at-perform.perform.ensures at-settle.settle.ensures.0 at-settle.settle.ensures.1.0 at-settle.settle.ensures.1.1
+    let at_if1 : tie.Else1 = search in
+    let at_decoding : tie.After-decoding = search in
+    let start = start-from-decoding at_decoding in
+    effect_called start.args.input.now start.args.out.now start.args.places.now start.args.value.now start.args.info.now _ _ _ _ _ _ _ _ _ _ _ _ _ _ _ at_decoding.decoding.given.1 at_if1.if1.left at_load.load.ensures at_perform.perform.ensures at_settle.settle.ensures.0 at_settle.settle.ensures.1.0 at_settle.settle.ensures.1.1
 
-pub perform-spec : {M : Type 1} → statement M
-perform-spec =
+pub perform_spec : {M : Type 1} → statement M
+perform_spec =
     tie.close
     (tie.spec
     enum-known-decoding

@@ -1,6 +1,6 @@
 -- `adapter::perform_without_buffers` meets its contract.
 use borrow.Author.Rules.{rules}
-use Rattle.adapter.specs.EffectsLaws.{no-out, no-places}
+use Rattle.adapter.specs.EffectsLaws.{no_out, no_places}
 use Rattle.adapter.proofs.perform_without_buffers.Statement.{statement}
 use Rattle.adapter.proofs.perform_without_buffers.Tie as tie
 
@@ -39,11 +39,11 @@ same-length-8 c = search rules
 
 returns : tie.Need-returns
 returns c =
-    let at-perform : tie.After-perform = search in
-    no-places (no-out at-perform.perform.ensures at-perform.perform.kept.1.1.1.1.1.1.1.1.1.1.0) at-perform.perform.kept.1.1.1.1.1.1.1.1.1.1.1.0
+    let at_perform : tie.After-perform = search in
+    no_places (no_out at_perform.perform.ensures at_perform.perform.kept.1.1.1.1.1.1.1.1.1.1.0) at_perform.perform.kept.1.1.1.1.1.1.1.1.1.1.1.0
 
-pub perform-without-buffers-spec : {M : Type 1} → statement M
-perform-without-buffers-spec =
+pub perform_without_buffers_spec : {M : Type 1} → statement M
+perform_without_buffers_spec =
     tie.close
     (tie.spec
     slice-aggregate-perform

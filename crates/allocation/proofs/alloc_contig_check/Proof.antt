@@ -3,9 +3,9 @@ use mathlib.Core.Path.{◌≡◌, sym, ◌∙◌}
 use native.Mathlib.Omega.{arith}
 use Rattle.card.specs.Card.{Card, card}
 use Rattle.card.specs.Plan.{NoneHolds}
-use Rattle.checks.specs.CheckedLaws.{refused-checks, passed-checks}
-use Rattle.allocation.proofs.Shared.{shared, count-some}
-use Rattle.allocation.proofs.Contig.{shared-refused, no_run, no-places, contig-passes, run-refused, run-passed, found, found-by}
+use Rattle.checks.specs.CheckedLaws.{refused_checks, passed_checks}
+use Rattle.allocation.proofs.Shared.{shared, count_some}
+use Rattle.allocation.proofs.Contig.{shared_refused, no_run, no_places, contig_passes, run_refused, run_passed, found, found_by}
 use borrow.Author.Rules.{rules}
 use Rattle.allocation.proofs.alloc_contig_check.Statement.{statement}
 use Rattle.allocation.proofs.alloc_contig_check.Tie as tie
@@ -26,15 +26,15 @@ cardAt start =
 -- The shared checks passed before the run is looked for.
 passed : (c : tie.After-wanted) → let start = start-from-wanted c in NoneHolds (shared start.args.port (cardAt start) start.args.o start.args.places.now)
 passed c =
-    let at-shared-check : tie.After-shared-check = search in
-    let at-enum-told : tie.After-enum-told = search in
-    passed-checks _ at-shared-check.shared-check.ensures at-enum-told.enum_told.given.1
+    let at_shared_check : tie.After-shared-check = search in
+    let at_enum_told : tie.After-enum-told = search in
+    passed_checks _ at_shared_check.shared-check.ensures at_enum_told.enum_told.given.1
 
 -- The run found is the nearest by the rule.
-nearest : (c : tie.After-nearest-run) → let start = start-from-wanted (wanted-from-nearest-run c) in c.nearest-run.result ≡ found start.args.port (cardAt start) start.args.o start.args.places.now
+nearest : (c : tie.After-nearest-run) → let start = start-from-wanted (wanted-from-nearest-run c) in c.nearest_run_law.result ≡ found start.args.port (cardAt start) start.args.o start.args.places.now
 nearest c =
     let start = start-from-wanted (wanted-from-nearest-run c) in
-    found-by start.args.port (cardAt start) start.args.o start.args.places.now c.nearest-run.ensures (wanted-from-nearest-run c).wanted.ensures
+    found_by start.args.port (cardAt start) start.args.o start.args.places.now c.nearest_run_law.ensures (wanted-from-nearest-run c).wanted.ensures
 
 shared-check-requires : tie.Need-shared-check-requires
 shared-check-requires c κs = search rules
@@ -43,7 +43,7 @@ enum-known-shared : tie.Need-enum-known-shared
 enum-known-shared c = search rules
 
 returns : tie.Need-returns
-returns c = search (run-refused, shared-refused, refused-checks)
+returns c = search (run_refused, shared_refused, refused_checks)
 
 enum_told : tie.Need-enum-told
 enum_told c = search rules
@@ -57,7 +57,7 @@ wanted-requires c κs = search rules
 nearest-run-requires : tie.Need-nearest-run-requires
 nearest-run-requires c κs =
     let start = start-from-wanted c in
-    (omega (arith, start.pre.shaped.hasLengths.flags, start.pre.shaped.inRanges.blocksHigh), count-some _ _ _ start.args.places.now start.pre (passed c))
+    (omega (arith, start.pre.shaped.has_lengths.flags, start.pre.shaped.in_ranges.blocks_high), count_some _ _ _ start.args.places.now start.pre (passed c))
 
 enum-known-first : tie.Need-enum-known-first
 enum-known-first c = search rules
@@ -67,31 +67,31 @@ enum-told-2 c = search rules
 
 returns-2 : tie.Need-returns-2
 returns-2 c =
-    let at-nearest-run : tie.After-nearest-run = search in
-    let at-wanted = wanted-from-nearest-run at-nearest-run in
-    run-refused _ _ _ _ (no_run _ _ _ _ (start-from-wanted at-wanted).pre (passed at-wanted) (sym (nearest at-nearest-run) ∙ c.enum-told2.given.1))
+    let at_nearest_run : tie.After-nearest-run = search in
+    let at_wanted = wanted-from-nearest-run at_nearest_run in
+    run_refused _ _ _ _ (no_run _ _ _ _ (start-from-wanted at_wanted).pre (passed at_wanted) (sym (nearest at_nearest_run) ∙ c.enum-told2.given.1))
 
 add-if1 : tie.Need-overflow-add-if1
 add-if1 c =
-    let at-wanted : tie.After-wanted = search in
-    let start = start-from-wanted at-wanted in
-    omega (arith, start.pre.shaped.usedHigh, start.pre.shaped.hasLengths.placesHigh)
+    let at_wanted : tie.After-wanted = search in
+    let start = start-from-wanted at_wanted in
+    omega (arith, start.pre.shaped.used_high, start.pre.shaped.has_lengths.places_high)
 
 returns-3 : tie.Need-returns-3
 returns-3 c =
-    let at-nearest-run : tie.After-nearest-run = search in
-    let at-wanted = wanted-from-nearest-run at-nearest-run in
-    run-refused _ _ _ _ (no-places _ _ _ _ (start-from-wanted at-wanted).pre (passed at-wanted) (sym (nearest at-nearest-run) ∙ c.before.before.before.first.given.1) c.if1.true)
+    let at_nearest_run : tie.After-nearest-run = search in
+    let at_wanted = wanted-from-nearest-run at_nearest_run in
+    run_refused _ _ _ _ (no_places _ _ _ _ (start-from-wanted at_wanted).pre (passed at_wanted) (sym (nearest at_nearest_run) ∙ c.before.before.before.first.given.1) c.if1.true)
 
 returns-4 : tie.Need-returns-4
 returns-4 c =
-    let at-nearest-run : tie.After-nearest-run = search in
-    let at-wanted = wanted-from-nearest-run at-nearest-run in
-    let there = sym (nearest at-nearest-run) ∙ c.before.before.before.first.given.1 in
-    run-passed _ _ _ _ (contig-passes _ _ _ _ (start-from-wanted at-wanted).pre (passed at-wanted) there c.if1.false) there
+    let at_nearest_run : tie.After-nearest-run = search in
+    let at_wanted = wanted-from-nearest-run at_nearest_run in
+    let there = sym (nearest at_nearest_run) ∙ c.before.before.before.first.given.1 in
+    run_passed _ _ _ _ (contig_passes _ _ _ _ (start-from-wanted at_wanted).pre (passed at_wanted) there c.if1.false) there
 
-pub alloc-contig-check-spec : {M : Type 1} → statement M
-alloc-contig-check-spec =
+pub alloc_contig_check_spec : {M : Type 1} → statement M
+alloc_contig_check_spec =
     tie.close
     (tie.spec
     shared-check-requires

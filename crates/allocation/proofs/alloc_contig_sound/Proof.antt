@@ -2,13 +2,13 @@
 use mathlib.Core.Path.{◌≡◌}
 use mathlib.Core.List.{[]}
 use Rattle.card.specs.Card.{Card, card}
-use Rattle.card.specs.Session.{request, performSound}
+use Rattle.card.specs.Session.{request, perform_sound}
 use Rattle.card.specs.declared.Call.TheVariants.{AllocContig}
 use Rattle.checks.specs.Checked.{Passes}
 use Rattle.runs.specs.declared.NearestRun.TheVariants.{From}
 use Rattle.outcomes.proofs.Returned.{refuses}
-use Rattle.allocation.proofs.Shared.{numbers-long, places-there}
-use Rattle.allocation.proofs.Contig.{found, refused-run, passed-run, run-narrow, run_fits, chosen, can-take-run, contig-done}
+use Rattle.allocation.proofs.Shared.{numbers_long, places_there}
+use Rattle.allocation.proofs.Contig.{found, refused_run, passed_run, run_narrow, run_fits, chosen, can_take_run, contig_done}
 use borrow.Author.Rules.{rules}
 use Rattle.allocation.proofs.alloc_contig_sound.Statement.{statement}
 use Rattle.allocation.proofs.alloc_contig_sound.Tie as tie
@@ -32,8 +32,8 @@ passed : (c : tie.After-list-run-arg)
     Passes a.port (cardAt start) (request (AllocContig a.o) [] [] a.places.now)
     × (found a.port (cardAt start) a.o a.places.now ≡ From c.before.before.before.first.given.0.0))
 passed c =
-    let at-alloc-contig-check : tie.After-alloc-contig-check = search in
-    passed-run _ _ _ _ (start-from-list-run-arg c).requires at-alloc-contig-check.alloc-contig-check.ensures c.before.before.before.first.given.1
+    let at_alloc_contig_check : tie.After-alloc-contig-check = search in
+    passed_run _ _ _ _ (start-from-list-run-arg c).requires at_alloc_contig_check.alloc-contig-check.ensures c.before.before.before.first.given.1
 
 alloc-contig-check-requires : tie.Need-alloc-contig-check-requires
 alloc-contig-check-requires c κs = search rules
@@ -54,25 +54,25 @@ list-run-requires : tie.Need-list-run-requires
 list-run-requires c κs =
     let there = passed c in
     let start = start-from-list-run-arg c in
-    (run-narrow _ _ _ _ start.pre there.0 there.1, run_fits _ _ _ _ start.pre there.0 there.1)
+    (run_narrow _ _ _ _ start.pre there.0 there.1, run_fits _ _ _ _ start.pre there.0 there.1)
 
 slice-reshare-prefix-take-all : tie.Need-slice-reshare-prefix-take-all
 slice-reshare-prefix-take-all c =
-    let at-list-run : tie.After-list-run = search in
-    let at-list-run-arg : tie.After-list-run-arg = search in
-    places-there (chosen _ _ _ _ (start-from-list-run-arg at-list-run-arg).pre (passed at-list-run-arg).0 (passed at-list-run-arg).1 at-list-run.list-run.ensures)
+    let at_list_run : tie.After-list-run = search in
+    let at_list_run_arg : tie.After-list-run-arg = search in
+    places_there (chosen _ _ _ _ (start-from-list-run-arg at_list_run_arg).pre (passed at_list_run_arg).0 (passed at_list_run_arg).1 at_list_run.list-run.ensures)
 
 slice-aggregate-take-all : tie.Need-slice-aggregate-take-all
 slice-aggregate-take-all c =
-    let at-list-run : tie.After-list-run = search in
-    let at-list-run-arg : tie.After-list-run-arg = search in
-    numbers-long (chosen _ _ _ _ (start-from-list-run-arg at-list-run-arg).pre (passed at-list-run-arg).0 (passed at-list-run-arg).1 at-list-run.list-run.ensures)
+    let at_list_run : tie.After-list-run = search in
+    let at_list_run_arg : tie.After-list-run-arg = search in
+    numbers_long (chosen _ _ _ _ (start-from-list-run-arg at_list_run_arg).pre (passed at_list_run_arg).0 (passed at_list_run_arg).1 at_list_run.list-run.ensures)
 
 take-all-requires : tie.Need-take-all-requires
 take-all-requires c κs =
-    let at-list-run : tie.After-list-run = search in
-    let at-list-run-arg : tie.After-list-run-arg = search in
-    can-take-run _ _ _ _ (start-from-list-run-arg at-list-run-arg).pre (passed at-list-run-arg).0 (passed at-list-run-arg).1 at-list-run.list-run.ensures
+    let at_list_run : tie.After-list-run = search in
+    let at_list_run_arg : tie.After-list-run-arg = search in
+    can_take_run _ _ _ _ (start-from-list-run-arg at_list_run_arg).pre (passed at_list_run_arg).0 (passed at_list_run_arg).1 at_list_run.list-run.ensures
 
 done-requires : tie.Need-done-requires
 done-requires c κs = search rules
@@ -96,11 +96,11 @@ same-length-6 : tie.Need-same-length-6
 same-length-6 c = search rules
 
 returns : tie.Need-returns
-unfolding performSound
+unfolding perform_sound
 returns c =
-    let at-alloc-contig-check : tie.After-alloc-contig-check = search in
-    refuses (cardAt (start-from-alloc-contig-check at-alloc-contig-check)) _ _ c.refused.ensures
-    (refused-run _ _ _ _ (start-from-alloc-contig-check at-alloc-contig-check).pre at-alloc-contig-check.alloc-contig-check.ensures c.before.before.why.given.1)
+    let at_alloc_contig_check : tie.After-alloc-contig-check = search in
+    refuses (cardAt (start-from-alloc-contig-check at_alloc_contig_check)) _ _ c.refused.ensures
+    (refused_run _ _ _ _ (start-from-alloc-contig-check at_alloc_contig_check).pre at_alloc_contig_check.alloc-contig-check.ensures c.before.before.why.given.1)
 
 same-length-7 : tie.Need-same-length-7
 same-length-7 c = search rules
@@ -122,13 +122,13 @@ same-length-12 c = search rules
 
 returns-2 : tie.Need-returns-2
 returns-2 c =
-    let at-take-all : tie.After-take-all = search in
-    let at-list-run : tie.After-list-run = search in
-    let at-list-run-arg : tie.After-list-run-arg = search in
-    contig-done _ _ _ _ (start-from-list-run-arg at-list-run-arg).pre (passed at-list-run-arg).0 (passed at-list-run-arg).1 at-list-run.list-run.ensures c.done.ensures at-take-all.take_all.ensures
+    let at_take_all : tie.After-take-all = search in
+    let at_list_run : tie.After-list-run = search in
+    let at_list_run_arg : tie.After-list-run-arg = search in
+    contig_done _ _ _ _ (start-from-list-run-arg at_list_run_arg).pre (passed at_list_run_arg).0 (passed at_list_run_arg).1 at_list_run.list-run.ensures c.done.ensures at_take_all.take_all.ensures
 
-pub alloc-contig-sound-spec : {M : Type 1} → statement M
-alloc-contig-sound-spec =
+pub alloc_contig_sound_spec : {M : Type 1} → statement M
+alloc_contig_sound_spec =
     tie.close
     (tie.spec
     alloc-contig-check-requires

@@ -1,13 +1,13 @@
 -- `allocation::alloc_sound` is the rule on an audited card, by what its checks find.
 use mathlib.Core.List.{[]}
 use Rattle.card.specs.Card.{Card, card}
-use Rattle.card.specs.Session.{request, performSound}
+use Rattle.card.specs.Session.{request, perform_sound}
 use Rattle.card.specs.declared.Call.TheVariants.{Alloc}
-use Rattle.checks.specs.CheckedLaws.{refused-check, passed-check}
+use Rattle.checks.specs.CheckedLaws.{refused_check, passed_check}
 use Rattle.checks.specs.Checked.{Passes}
 use Rattle.outcomes.proofs.Returned.{refuses}
-use Rattle.allocation.proofs.Shared.{numbers-long, places-there}
-use Rattle.allocation.proofs.Allocating.{can-pick, picked, can-take-picked, alloc-done}
+use Rattle.allocation.proofs.Shared.{numbers_long, places_there}
+use Rattle.allocation.proofs.Allocating.{can_pick, picked, can_take_picked, alloc_done}
 use borrow.Author.Rules.{rules}
 use Rattle.allocation.proofs.alloc_sound.Statement.{statement}
 use Rattle.allocation.proofs.alloc_sound.Tie as tie
@@ -28,9 +28,9 @@ cardAt start =
 -- The checks passed before the blocks are picked.
 passed : (c : tie.After-wanted) → let start = start-from-wanted c in Passes start.args.port (cardAt start) (request (Alloc start.args.o) [] [] start.args.places.now)
 passed c =
-    let at-alloc-check : tie.After-alloc-check = search in
-    let at-enum-told : tie.After-enum-told = search in
-    passed-check _ _ _ at-alloc-check.alloc-check.ensures at-enum-told.enum_told.given.1
+    let at_alloc_check : tie.After-alloc-check = search in
+    let at_enum_told : tie.After-enum-told = search in
+    passed_check _ _ _ at_alloc_check.alloc-check.ensures at_enum_told.enum_told.given.1
 
 alloc-check-requires : tie.Need-alloc-check-requires
 alloc-check-requires c κs = search rules
@@ -52,26 +52,26 @@ wanted-requires c κs = search rules
 
 pick-all-requires : tie.Need-pick-all-requires
 pick-all-requires c κs =
-    let at-wanted : tie.After-wanted = search in
-    can-pick _ _ _ _ (start-from-wanted at-wanted).pre (passed at-wanted) at-wanted.wanted.ensures
+    let at_wanted : tie.After-wanted = search in
+    can_pick _ _ _ _ (start-from-wanted at_wanted).pre (passed at_wanted) at_wanted.wanted.ensures
 
 slice-reshare-prefix-take-all : tie.Need-slice-reshare-prefix-take-all
 slice-reshare-prefix-take-all c =
-    let at-pick-all : tie.After-pick-all = search in
-    let at-wanted : tie.After-wanted = search in
-    places-there (picked _ _ _ _ (start-from-wanted at-wanted).pre (passed at-wanted) at-wanted.wanted.ensures at-pick-all.pick_all.ensures)
+    let at_pick_all : tie.After-pick-all = search in
+    let at_wanted : tie.After-wanted = search in
+    places_there (picked _ _ _ _ (start-from-wanted at_wanted).pre (passed at_wanted) at_wanted.wanted.ensures at_pick_all.pick_all.ensures)
 
 slice-aggregate-take-all : tie.Need-slice-aggregate-take-all
 slice-aggregate-take-all c =
-    let at-pick-all : tie.After-pick-all = search in
-    let at-wanted : tie.After-wanted = search in
-    numbers-long (picked _ _ _ _ (start-from-wanted at-wanted).pre (passed at-wanted) at-wanted.wanted.ensures at-pick-all.pick_all.ensures)
+    let at_pick_all : tie.After-pick-all = search in
+    let at_wanted : tie.After-wanted = search in
+    numbers_long (picked _ _ _ _ (start-from-wanted at_wanted).pre (passed at_wanted) at_wanted.wanted.ensures at_pick_all.pick_all.ensures)
 
 take-all-requires : tie.Need-take-all-requires
 take-all-requires c κs =
-    let at-pick-all : tie.After-pick-all = search in
-    let at-wanted : tie.After-wanted = search in
-    can-take-picked _ _ _ _ (start-from-wanted at-wanted).pre (passed at-wanted) at-wanted.wanted.ensures at-pick-all.pick_all.ensures
+    let at_pick_all : tie.After-pick-all = search in
+    let at_wanted : tie.After-wanted = search in
+    can_take_picked _ _ _ _ (start-from-wanted at_wanted).pre (passed at_wanted) at_wanted.wanted.ensures at_pick_all.pick_all.ensures
 
 done-requires : tie.Need-done-requires
 done-requires c κs = search rules
@@ -95,11 +95,11 @@ same-length-6 : tie.Need-same-length-6
 same-length-6 c = search rules
 
 returns : tie.Need-returns
-unfolding performSound
+unfolding perform_sound
 returns c =
-    let at-alloc-check : tie.After-alloc-check = search in
-    refuses (cardAt (start-from-alloc-check at-alloc-check)) _ _ c.refused.ensures
-    (refused-check _ _ _ at-alloc-check.alloc-check.ensures c.before.before.why.given.1)
+    let at_alloc_check : tie.After-alloc-check = search in
+    refuses (cardAt (start-from-alloc-check at_alloc_check)) _ _ c.refused.ensures
+    (refused_check _ _ _ at_alloc_check.alloc-check.ensures c.before.before.why.given.1)
 
 same-length-7 : tie.Need-same-length-7
 same-length-7 c = search rules
@@ -121,13 +121,13 @@ same-length-12 c = search rules
 
 returns-2 : tie.Need-returns-2
 returns-2 c =
-    let at-take-all : tie.After-take-all = search in
-    let at-pick-all : tie.After-pick-all = search in
-    let at-wanted : tie.After-wanted = search in
-    alloc-done _ _ _ _ (start-from-wanted at-wanted).pre (passed at-wanted) at-wanted.wanted.ensures at-pick-all.pick_all.ensures c.done.ensures at-take-all.take_all.ensures
+    let at_take_all : tie.After-take-all = search in
+    let at_pick_all : tie.After-pick-all = search in
+    let at_wanted : tie.After-wanted = search in
+    alloc_done _ _ _ _ (start-from-wanted at_wanted).pre (passed at_wanted) at_wanted.wanted.ensures at_pick_all.pick_all.ensures c.done.ensures at_take_all.take_all.ensures
 
-pub alloc-sound-spec : {M : Type 1} → statement M
-alloc-sound-spec =
+pub alloc_sound_spec : {M : Type 1} → statement M
+alloc_sound_spec =
     tie.close
     (tie.spec
     alloc-check-requires

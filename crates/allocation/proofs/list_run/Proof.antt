@@ -1,7 +1,7 @@
 -- `allocation::list_run` puts the numbers into the first places: those so far are there. The measure is what is left.
 use Prim.Native.Nat.{◌-◌}
 use native.Mathlib.Omega.{arith}
-use Rattle.allocation.proofs.Listing.{Listed, listed_start, listed_more, listed-whole}
+use Rattle.allocation.proofs.Listing.{Listed, listed_start, listed_more, listed_whole}
 use borrow.Author.Rules.{rules}
 use Rattle.allocation.proofs.list_run.Statement.{statement}
 use Rattle.allocation.proofs.list_run.Tie as tie
@@ -20,16 +20,16 @@ add-places c = omega (arith, c.before.loop.invariant.narrow)
 
 cast-places : tie.Need-overflow-cast-places invariant-loop decreases-loop
 cast-places c =
-    let at-loop : tie.At-loop invariant-loop decreases-loop = search in
-    omega (arith, at-loop.loop.inv.narrow)
+    let at_loop : tie.At-loop invariant-loop decreases-loop = search in
+    omega (arith, at_loop.loop.inv.narrow)
 
 mul-places : tie.Need-overflow-mul-places invariant-loop decreases-loop
 mul-places c = search rules
 
 slice-write-places : tie.Need-slice-write-places invariant-loop decreases-loop
 slice-write-places c =
-    let at-loop : tie.At-loop invariant-loop decreases-loop = search in
-    omega (arith, at-loop.loop.inv.fits, at-loop.loop.inv.samePlaces)
+    let at_loop : tie.At-loop invariant-loop decreases-loop = search in
+    omega (arith, at_loop.loop.inv.fits, at_loop.loop.inv.same_places)
 
 add-listed : tie.Need-overflow-add-listed invariant-loop decreases-loop
 add-listed c = search rules
@@ -44,10 +44,10 @@ same_length : tie.Need-same-length invariant-loop decreases-loop
 same_length c = search
 
 returns : tie.Need-returns invariant-loop decreases-loop
-returns c = search listed-whole
+returns c = search listed_whole
 
-pub list-run-spec : {M : Type 1} → statement M
-list-run-spec =
+pub list_run_spec : {M : Type 1} → statement M
+list_run_spec =
     tie.close
     (tie.spec
     invariant-loop

@@ -1,7 +1,7 @@
 -- `allocation::next` gives the nearest block that is not passed.
 use mathlib.Core.Logic.{inl, inr}
 use native.Mathlib.Omega.{arith}
-use Rattle.allocation.proofs.Outward.{next_up, next_down, next-nearer}
+use Rattle.allocation.proofs.Outward.{next_up, next_down, next_nearer}
 use borrow.Author.Rules.{rules}
 use Rattle.allocation.proofs.next.Statement.{statement}
 use Rattle.allocation.proofs.next.Tie as tie
@@ -31,10 +31,10 @@ returns-3 : tie.Need-returns-3
 returns-3 c = next_down c.before.before.before.requires _ (omega arith) (inr (omega (arith, c.if3.true)))
 
 returns-4 : tie.Need-returns-4
-returns-4 c = next-nearer c.before.before.before.requires c.before.if2.false (omega (arith, c.if3.false))
+returns-4 c = next_nearer c.before.before.before.requires c.before.if2.false (omega (arith, c.if3.false))
 
-pub next-spec : {M : Type 1} → statement M
-next-spec =
+pub next_spec : {M : Type 1} → statement M
+next_spec =
     tie.close
     (tie.spec
     returns

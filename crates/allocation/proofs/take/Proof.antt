@@ -1,15 +1,15 @@
 -- `allocation::take` leaves the tables with one block more taken.
 use native.Mathlib.Omega.{arith}
-use Rattle.allocation.proofs.Taking.{block-taken}
+use Rattle.allocation.proofs.Taking.{block_taken}
 use borrow.Author.Rules.{rules}
 use Rattle.allocation.proofs.take.Statement.{statement}
 use Rattle.allocation.proofs.take.Tie as tie
 
 mul_at : tie.Need-overflow-mul-at
-mul_at c = omega (arith, c.before.before.before.requires.inContents)
+mul_at c = omega (arith, c.before.before.before.requires.in_contents)
 
 add-end : tie.Need-overflow-add-end
-add-end c = omega (arith, c.before.before.before.requires.inContents)
+add-end c = omega (arith, c.before.before.before.requires.in_contents)
 
 sub-clear : tie.Need-overflow-sub-clear
 sub-clear c = omega arith
@@ -18,7 +18,7 @@ part-clear-start : tie.Need-slice-bounds-clear-start
 part-clear-start c = omega arith
 
 part-clear-end : tie.Need-slice-bounds-clear-end
-part-clear-end c = omega (arith, c.before.before.before.requires.inContents)
+part-clear-end c = omega (arith, c.before.before.before.requires.in_contents)
 
 clear-requires : tie.Need-clear-requires
 clear-requires c κs = tt
@@ -35,7 +35,7 @@ slice-read-counts c = search
 add-counts : tie.Need-overflow-add-counts
 add-counts c =
     let start : tie.Start = search in
-    omega (arith, start.pre.countLow)
+    omega (arith, start.pre.count_low)
 
 mul-counts-2 : tie.Need-overflow-mul-counts-2
 mul-counts-2 c = omega arith
@@ -53,7 +53,7 @@ same-length-3 : tie.Need-same-length-3
 same-length-3 c = search rules
 
 returns : tie.Need-returns
-returns c = search block-taken
+returns c = search block_taken
 
 pub take_spec : {M : Type 1} → statement M
 take_spec =

@@ -4,8 +4,8 @@ use mathlib.Core.Path.{sym}
 use native.Mathlib.Omega.{arith}
 use lib.ListN.{length}
 use Rattle.card.specs.Card.{card}
-use Rattle.allocation.proofs.Collecting.{Collected, collected-start, can-take, addable, collected-taken, flags-same, counts_same, contents-same, mergeable, collected-whole}
-use Rattle.tables.specs.InUseLaws.{sound-paired}
+use Rattle.allocation.proofs.Collecting.{Collected, collected_start, can_take, addable, collected_taken, flags_same, counts_same, contents_same, mergeable, collected_whole}
+use Rattle.tables.specs.InUseLaws.{sound_paired}
 use borrow.Author.Rules.{rules}
 use Rattle.allocation.proofs.take_all.Statement.{statement}
 use Rattle.allocation.proofs.take_all.Tie as tie
@@ -19,7 +19,7 @@ decreases-loop info flags₀ keys counts₀ pointers multiplicities windows cont
     length numbers - taken
 
 loop-holds : tie.Need-loop-init invariant-loop decreases-loop
-loop-holds c = search collected-start
+loop-holds c = search collected_start
 
 mul-number : tie.Need-overflow-mul-number invariant-loop decreases-loop
 mul-number c = search rules
@@ -38,13 +38,13 @@ add-pointer c = omega (arith, c.shared-slice-known4.given c.before.before.loop.t
 
 cast-take : tie.Need-overflow-cast-take invariant-loop decreases-loop
 cast-take c =
-    let at-loop : tie.At-loop invariant-loop decreases-loop = search in
-    omega (arith, c.before.before.before.shared-slice-known4.given at-loop.loop.taken)
+    let at_loop : tie.At-loop invariant-loop decreases-loop = search in
+    omega (arith, c.before.before.before.shared-slice-known4.given at_loop.loop.taken)
 
 take-requires : tie.Need-take-requires invariant-loop decreases-loop
 take-requires c κs =
-    let at-loop-test : tie.In-loop invariant-loop decreases-loop = search in
-    can-take at-loop-test.before.loop.inv at-loop-test.loop-test.taken
+    let at_loop_test : tie.In-loop invariant-loop decreases-loop = search in
+    can_take at_loop_test.before.loop.inv at_loop_test.loop-test.taken
 
 slice-aggregate-insert : tie.Need-slice-aggregate-insert invariant-loop decreases-loop
 slice-aggregate-insert c = search sym
@@ -59,24 +59,24 @@ loop-less : tie.Need-loop-smaller invariant-loop decreases-loop
 loop-less c = search rules
 
 loop-again : tie.Need-loop-preserved invariant-loop decreases-loop
-loop-again c = search collected-taken
+loop-again c = search collected_taken
 
 slice-aggregate-merge : tie.Need-slice-aggregate-merge invariant-loop decreases-loop
 slice-aggregate-merge c = search sym
 
 merge-requires : tie.Need-merge-requires invariant-loop decreases-loop
-merge-requires c κs = (mergeable c.before.before.before.before.loop.invariant c.before.before.before.loop-test.false, search sound-paired)
+merge-requires c κs = (mergeable c.before.before.before.before.loop.invariant c.before.before.before.loop-test.false, search sound_paired)
 
 add-with-used : tie.Need-overflow-add-with-used invariant-loop decreases-loop
 add-with-used c =
     let start : tie.Start invariant-loop decreases-loop = search in
-    omega (arith, start.pre.room, start.pre.sound.shaped.hasLengths.placesHigh)
+    omega (arith, start.pre.room, start.pre.sound.shaped.has_lengths.places_high)
 
 with-used-requires : tie.Need-with-used-requires invariant-loop decreases-loop
 with-used-requires c κs = tt
 
 same_length : tie.Need-same-length invariant-loop decreases-loop
-same_length c = search flags-same
+same_length c = search flags_same
 
 same-length-2 : tie.Need-same-length-2 invariant-loop decreases-loop
 same-length-2 c = search counts_same
@@ -88,13 +88,13 @@ same-length-4 : tie.Need-same-length-4 invariant-loop decreases-loop
 same-length-4 c = search
 
 same-length-5 : tie.Need-same-length-5 invariant-loop decreases-loop
-same-length-5 c = search contents-same
+same-length-5 c = search contents_same
 
 returns : tie.Need-returns invariant-loop decreases-loop
 returns c =
-    let at-loop : tie.At-loop invariant-loop decreases-loop = search in
-    let at-merge : tie.After-merge invariant-loop decreases-loop = search in
-    collected-whole at-loop.loop.inv at-merge.before.before.before.before.loop-test.left c.with-used.ensures at-merge.merge.ensures
+    let at_loop : tie.At-loop invariant-loop decreases-loop = search in
+    let at_merge : tie.After-merge invariant-loop decreases-loop = search in
+    collected_whole at_loop.loop.inv at_merge.before.before.before.before.loop-test.left c.with-used.ensures at_merge.merge.ensures
 
 pub take_all_spec : {M : Type 1} → statement M
 take_all_spec =

@@ -1,7 +1,7 @@
 -- `audit::block_sound` is the clauses of one block.
 use borrow.Author.Rules.{rules}
 use Rattle.audit.specs.Walks.{rowed}
-use Rattle.audit.proofs.BlockTests.{sound-block}
+use Rattle.audit.proofs.BlockTests.{sound_block}
 use Rattle.audit.proofs.block_sound.Statement.{statement}
 use Rattle.audit.proofs.block_sound.Tie as tie
 
@@ -72,10 +72,10 @@ returns : tie.Need-returns
 returns c =
     let start : tie.Start = search in
     let a = start.args in
-    search (sound-block (rowed a.info a.flags.now a.keys.now a.counts.now a.windows.now))
+    search (sound_block (rowed a.info a.flags.now a.keys.now a.counts.now a.windows.now))
 
-pub block-sound-spec : {M : Type 1} → statement M
-block-sound-spec =
+pub block_sound_spec : {M : Type 1} → statement M
+block_sound_spec =
     tie.close
     (tie.spec
     shared-slice-read-flag

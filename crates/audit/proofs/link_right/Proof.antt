@@ -1,6 +1,6 @@
 -- `audit::link_right` is the test of one pointer's ends.
 use borrow.Author.Rules.{rules}
-use Rattle.audit.proofs.BlockTests.{looked-up}
+use Rattle.audit.proofs.BlockTests.{looked_up}
 use Rattle.audit.proofs.link_right.Statement.{statement}
 use Rattle.audit.proofs.link_right.Tie as tie
 
@@ -14,8 +14,8 @@ is-allocated-requires : tie.Need-is-allocated-requires
 is-allocated-requires c κs = search rules
 
 returns : tie.Need-returns
-returns c = search looked-up
+returns c = search looked_up
 
-pub link-right-spec : {M : Type 1} → statement M
-link-right-spec =
+pub link_right_spec : {M : Type 1} → statement M
+link_right_spec =
     tie.close (tie.spec cast-source cast-destination is-allocated-requires returns)

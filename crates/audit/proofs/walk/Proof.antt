@@ -1,6 +1,6 @@
 -- `audit::walk` judges a card of the right shape.
 use borrow.Author.Rules.{rules}
-use Rattle.audit.proofs.Whole.{fault-total, fault-pointers, fault-unused, whole}
+use Rattle.audit.proofs.Whole.{fault_total, fault_pointers, fault_unused, whole}
 use Rattle.audit.proofs.walk.Statement.{statement}
 use Rattle.audit.proofs.walk.Tie as tie
 
@@ -8,7 +8,7 @@ mul-if1 : tie.Need-overflow-mul-if1
 mul-if1 c = search rules
 
 returns : tie.Need-returns
-returns c = search fault-total
+returns c = search fault_total
 
 walk-pointers-requires : tie.Need-walk-pointers-requires
 walk-pointers-requires c κs = search rules
@@ -23,13 +23,13 @@ returns-2 : tie.Need-returns-2
 returns-2 c = search whole
 
 returns-3 : tie.Need-returns-3
-returns-3 c = search fault-unused
+returns-3 c = search fault_unused
 
 returns-4 : tie.Need-returns-4
-returns-4 c = search fault-pointers
+returns-4 c = search fault_pointers
 
-pub walk-spec : {M : Type 1} → statement M
-walk-spec =
+pub walk_spec : {M : Type 1} → statement M
+walk_spec =
     tie.close
     (tie.spec
     mul-if1

@@ -4,13 +4,13 @@ use native.Mathlib.Omega.{arith}
 use Prim.Native.Nat.{◌-◌}
 use mathlib.Core.Path.{ap, sym, ◌∙◌}
 use lib.ListN.{get_or}
-use Rattle.audit.specs.Walks.{rowed, blockSound, judged}
-use Rattle.audit.proofs.Passing.{PassedBelow, passed_none, passed-more, passed-fault, passed-whole}
+use Rattle.audit.specs.Walks.{rowed, block_sound, judged}
+use Rattle.audit.proofs.Passing.{PassedBelow, passed_none, passed_more, passed_fault, passed_whole}
 use Rattle.audit.proofs.walk_blocks.Statement.{statement}
 use Rattle.audit.proofs.walk_blocks.Tie as tie
 
 abbrev invariant-loop : tie.invariant-loop
-invariant-loop info flags keys counts windows tally blocks b₀ b = PassedBelow (λ k. blockSound (rowed info flags keys counts windows) (get_or tally k 0) k) info.blocks b
+invariant-loop info flags keys counts windows tally blocks b₀ b = PassedBelow (λ k. block_sound (rowed info flags keys counts windows) (get_or tally k 0) k) info.blocks b
 
 abbrev decreases-loop : tie.decreases-loop
 decreases-loop info flags keys counts windows tally blocks b₀ b = info.blocks - b
@@ -37,19 +37,19 @@ loop-less c = search rules
 
 loop-again : tie.Need-loop-preserved invariant-loop decreases-loop
 loop-again c =
-    let at-loop : tie.At-loop invariant-loop decreases-loop = search in
-    passed-more at-loop.loop.inv (omega arith) (sym c.before.block-sound.ensures ∙ c.if2.true)
+    let at_loop : tie.At-loop invariant-loop decreases-loop = search in
+    passed_more at_loop.loop.inv (omega arith) (sym c.before.block-sound.ensures ∙ c.if2.true)
 
 returns : tie.Need-returns invariant-loop decreases-loop
-returns c = sym (ap judged (passed-whole c.before.loop.invariant c.if1.true))
+returns c = sym (ap judged (passed_whole c.before.loop.invariant c.if1.true))
 
 returns-2 : tie.Need-returns-2 invariant-loop decreases-loop
 returns-2 c =
-    let at-loop : tie.At-loop invariant-loop decreases-loop = search in
-    sym (ap judged (passed-fault at-loop.loop.inv (omega arith) (sym c.before.block-sound.ensures ∙ c.if2.false)))
+    let at_loop : tie.At-loop invariant-loop decreases-loop = search in
+    sym (ap judged (passed_fault at_loop.loop.inv (omega arith) (sym c.before.block-sound.ensures ∙ c.if2.false)))
 
-pub walk-blocks-spec : {M : Type 1} → statement M
-walk-blocks-spec =
+pub walk_blocks_spec : {M : Type 1} → statement M
+walk_blocks_spec =
     tie.close
     (tie.spec
     invariant-loop

@@ -3,7 +3,7 @@ use borrow.Author.Rules.{rules}
 use native.Mathlib.Omega.{arith}
 use Prim.Native.Nat.{◌-◌}
 use mathlib.Core.Logic.{⊎_elim}
-use Rattle.audit.proofs.Tallying.{TalliedAt, walk_none, placed, room, walk_more, walk-fault, walk-whole}
+use Rattle.audit.proofs.Tallying.{TalliedAt, walk_none, placed, room, walk_more, walk_fault, walk_whole}
 use Rattle.audit.proofs.walk_pointers.Statement.{statement}
 use Rattle.audit.proofs.walk_pointers.Tie as tie
 
@@ -39,8 +39,8 @@ cast-destination c = search rules
 
 cast-tally : tie.Need-overflow-cast-tally invariant-walk decreases-walk
 cast-tally c =
-    let at-walk : tie.At-walk invariant-walk decreases-walk = search in
-    omega (arith, c.before.before.shared-slice-known5.given at-walk.walk.i)
+    let at_walk : tie.At-walk invariant-walk decreases-walk = search in
+    omega (arith, c.before.before.shared-slice-known5.given at_walk.walk.i)
 
 mul-tally : tie.Need-overflow-mul-tally invariant-walk decreases-walk
 mul-tally c = search rules
@@ -50,22 +50,22 @@ element-copy-out-tally c = search placed
 
 add-tally : tie.Need-overflow-add-tally invariant-walk decreases-walk
 add-tally c =
-    let at-walk : tie.At-walk invariant-walk decreases-walk = search in
+    let at_walk : tie.At-walk invariant-walk decreases-walk = search in
     let start : tie.Start invariant-walk decreases-walk = search in
-    omega (arith, room start.pre.0 at-walk.walk.inv _ _ (placed start.pre.0 _ _ _ _ c.before.before.link-right.ensures c.before.if1.true) (omega arith) (c.before.before.before.shared-slice-known5.given at-walk.walk.i).fits)
+    omega (arith, room start.pre.0 at_walk.walk.inv _ _ (placed start.pre.0 _ _ _ _ c.before.before.link_right_law.ensures c.before.if1.true) (omega arith) (c.before.before.before.shared-slice-known5.given at_walk.walk.i).fits)
 
 element-write-tally : tie.Need-element-write-tally invariant-walk decreases-walk
 element-write-tally c = search placed
 
 cast-least : tie.Need-overflow-cast-least invariant-walk decreases-walk
 cast-least c =
-    let at-walk : tie.At-walk invariant-walk decreases-walk = search in
-    omega (arith, c.before.before.before.before.shared-slice-known4.given at-walk.walk.i)
+    let at_walk : tie.At-walk invariant-walk decreases-walk = search in
+    omega (arith, c.before.before.before.before.shared-slice-known4.given at_walk.walk.i)
 
 add-least : tie.Need-overflow-add-least invariant-walk decreases-walk
 add-least c =
-    let at-walk : tie.At-walk invariant-walk decreases-walk = search in
-    omega (arith, c.before.before.before.before.shared-slice-known4.given at-walk.walk.i)
+    let at_walk : tie.At-walk invariant-walk decreases-walk = search in
+    omega (arith, c.before.before.before.before.shared-slice-known4.given at_walk.walk.i)
 
 add-i : tie.Need-overflow-add-i invariant-walk decreases-walk
 add-i c = search rules
@@ -75,19 +75,19 @@ walk-less c = search rules
 
 walk-again : tie.Need-walk-preserved invariant-walk decreases-walk
 walk-again c =
-    let at-walk : tie.At-walk invariant-walk decreases-walk = search in
+    let at_walk : tie.At-walk invariant-walk decreases-walk = search in
     let start : tie.Start invariant-walk decreases-walk = search in
-    walk_more start.pre.0 at-walk.walk.inv _ c.before.before.link-right.ensures (omega arith) (c.before.before.before.shared-slice-known5.given at-walk.walk.i).fits c.before.if1.true
+    walk_more start.pre.0 at_walk.walk.inv _ c.before.before.link_right_law.ensures (omega arith) (c.before.before.before.shared-slice-known5.given at_walk.walk.i).fits c.before.if1.true
 
 returns : tie.Need-returns invariant-walk decreases-walk
 returns c =
     let start : tie.Start invariant-walk decreases-walk = search in
     let fit = start.pre.0 in
     let h = c.before.walk.invariant in
-    ⊎_elim (λ w. walk-whole fit h w.left) (λ w. walk-fault fit h _ w.3.ensures w.0.taken (w.2.given _).fits w.4.left) c.walk-test.branch
+    ⊎_elim (λ w. walk_whole fit h w.left) (λ w. walk_fault fit h _ w.3.ensures w.0.taken (w.2.given _).fits w.4.left) c.walk-test.branch
 
-pub walk-pointers-spec : {M : Type 1} → statement M
-walk-pointers-spec =
+pub walk_pointers_spec : {M : Type 1} → statement M
+walk_pointers_spec =
     tie.close
     (tie.spec
     invariant-walk

@@ -4,7 +4,7 @@ use Prim.Native.Nat.{◌-◌}
 use mathlib.Core.Logic.{⊎_elim}
 use lib.Dec.{eqb}
 use lib.ListN.{length}
-use Rattle.audit.proofs.Passing.{Remaining, remaining-start, remaining-more, remaining-fault, remaining-whole}
+use Rattle.audit.proofs.Passing.{Remaining, remaining_start, remaining_more, remaining_fault, remaining_whole}
 use Rattle.audit.proofs.walk_unused.Statement.{statement}
 use Rattle.audit.proofs.walk_unused.Tie as tie
 
@@ -15,7 +15,7 @@ abbrev decreases-walk : tie.decreases-walk
 decreases-walk pointers multiplicities used places i₀ i = length pointers - i
 
 walk-holds : tie.Need-walk-init invariant-walk decreases-walk
-walk-holds c = search remaining-start
+walk-holds c = search remaining_start
 
 mul-if1 : tie.Need-overflow-mul-if1 invariant-walk decreases-walk
 mul-if1 c = search rules
@@ -36,13 +36,13 @@ walk-less : tie.Need-walk-smaller invariant-walk decreases-walk
 walk-less c = search rules
 
 walk-again : tie.Need-walk-preserved invariant-walk decreases-walk
-walk-again c = search remaining-more
+walk-again c = search remaining_more
 
 returns : tie.Need-returns invariant-walk decreases-walk
-returns c = let h = c.before.walk.invariant in ⊎_elim (λ w. remaining-whole h w.left) (λ w. remaining-fault h w.0.taken w.3.left) c.walk-test.branch
+returns c = let h = c.before.walk.invariant in ⊎_elim (λ w. remaining_whole h w.left) (λ w. remaining_fault h w.0.taken w.3.left) c.walk-test.branch
 
-pub walk-unused-spec : {M : Type 1} → statement M
-walk-unused-spec =
+pub walk_unused_spec : {M : Type 1} → statement M
+walk_unused_spec =
     tie.close
     (tie.spec
     invariant-walk

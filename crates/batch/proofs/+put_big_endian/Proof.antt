@@ -1,7 +1,7 @@
 -- `batch::put_big_endian` writes a number by writing its front, and then its last byte behind it. The measure is the width.
 use borrow.Author.Rules.{rules}
 use native.Mathlib.Omega.{arith}
-use Rattle.batch.proofs.AnswerBytesLaws.{big-endian-none, big-endian-room, big-endian-more}
+use Rattle.batch.proofs.AnswerBytesLaws.{big_endian_none, big_endian_room, big_endian_more}
 use Prim.Native.Nat.{ℕ, ◌<◌}
 use borrow.Fn.Kinds.{In}
 use borrow.Fn.PlainCycle.{Measures, is, falls, and}
@@ -15,91 +15,91 @@ use Rattle.batch.proofs.+put_big_endian.Tie.{close}
 abbrev μ-put-big-endian : Measures 1 put-big-endian-kinds.ps ℕ
 μ-put-big-endian κs a = a.1.1.0
 
-abbrev put-big-endian-at : ℕ → In 1 put-big-endian-kinds.ps
-put-big-endian-at t =
+abbrev put_big_endian_at : ℕ → In 1 put-big-endian-kinds.ps
+put_big_endian_at t =
     and
     1
     put-big-endian-kinds.ps
     (is 1 put-big-endian-kinds.ps μ-put-big-endian t)
     put-big-endian.Pre
 
-abbrev put-big-endian-below : ℕ → In 1 put-big-endian-kinds.ps
-put-big-endian-below t =
+abbrev put_big_endian_below : ℕ → In 1 put-big-endian-kinds.ps
+put_big_endian_below t =
     and
     1
     put-big-endian-kinds.ps
     (falls 1 put-big-endian-kinds.ps ◌<◌ μ-put-big-endian t)
     put-big-endian.Pre
 
-put-big-endian-sub-put-big-endian : (t : ℕ) → put-big-endian-lts.Need-overflow-sub-put-big-endian (
-  put-big-endian-below t,
+put_big_endian_sub_put_big_endian : (t : ℕ) → put-big-endian-lts.Need-overflow-sub-put-big-endian (
+  put_big_endian_below t,
   put-big-endian.Post,
   put-byte-reads.Asked,
   put-byte-reads.Learnt,
-) (put-big-endian-at t) put-big-endian.Post
-put-big-endian-sub-put-big-endian t c = omega (arith, c.before.if1.false)
+) (put_big_endian_at t) put-big-endian.Post
+put_big_endian_sub_put_big_endian t c = omega (arith, c.before.if1.false)
 
-put-big-endian-put-big-endian-requires : (t : ℕ) → put-big-endian-lts.Need-put-big-endian-requires (
-  put-big-endian-below t,
+put_big_endian_put_big_endian_requires : (t : ℕ) → put-big-endian-lts.Need-put-big-endian-requires (
+  put_big_endian_below t,
   put-big-endian.Post,
   put-byte-reads.Asked,
   put-byte-reads.Learnt,
-) (put-big-endian-at t) put-big-endian.Post
-put-big-endian-put-big-endian-requires t c κs = (omega (arith, c.before.before.before.requires.0, c.before.if1.false), omega (arith, c.before.before.before.requires.1, c.before.if1.false))
+) (put_big_endian_at t) put-big-endian.Post
+put_big_endian_put_big_endian_requires t c κs = (omega (arith, c.before.before.before.requires.0, c.before.if1.false), omega (arith, c.before.before.before.requires.1, c.before.if1.false))
 
-put-big-endian-cast-put-byte : (t : ℕ) → put-big-endian-lts.Need-overflow-cast-put-byte (
-  put-big-endian-below t,
+put_big_endian_cast_put_byte : (t : ℕ) → put-big-endian-lts.Need-overflow-cast-put-byte (
+  put_big_endian_below t,
   put-big-endian.Post,
   put-byte-reads.Asked,
   put-byte-reads.Learnt,
-) (put-big-endian-at t) put-big-endian.Post
-put-big-endian-cast-put-byte t c = search rules
+) (put_big_endian_at t) put-big-endian.Post
+put_big_endian_cast_put_byte t c = search rules
 
-put-big-endian-put-byte-requires : (t : ℕ) → put-big-endian-lts.Need-put-byte-requires (
-  put-big-endian-below t,
+put_big_endian_put_byte_requires : (t : ℕ) → put-big-endian-lts.Need-put-byte-requires (
+  put_big_endian_below t,
   put-big-endian.Post,
   put-byte-reads.Asked,
   put-byte-reads.Learnt,
-) (put-big-endian-at t) put-big-endian.Post
-put-big-endian-put-byte-requires t c κs = search big-endian-room
+) (put_big_endian_at t) put-big-endian.Post
+put_big_endian_put_byte_requires t c κs = search big_endian_room
 
-put-big-endian-returns : (t : ℕ) → put-big-endian-lts.Need-returns (
-  put-big-endian-below t,
+put_big_endian_returns : (t : ℕ) → put-big-endian-lts.Need-returns (
+  put_big_endian_below t,
   put-big-endian.Post,
   put-byte-reads.Asked,
   put-byte-reads.Learnt,
-) (put-big-endian-at t) put-big-endian.Post
-put-big-endian-returns t c = search big-endian-none
+) (put_big_endian_at t) put-big-endian.Post
+put_big_endian_returns t c = search big_endian_none
 
-put-big-endian-same-length : (t : ℕ) → put-big-endian-lts.Need-same-length (
-  put-big-endian-below t,
+put_big_endian_same_length : (t : ℕ) → put-big-endian-lts.Need-same-length (
+  put_big_endian_below t,
   put-big-endian.Post,
   put-byte-reads.Asked,
   put-byte-reads.Learnt,
-) (put-big-endian-at t) put-big-endian.Post
-put-big-endian-same-length t c = search rules
+) (put_big_endian_at t) put-big-endian.Post
+put_big_endian_same_length t c = search rules
 
-put-big-endian-returns-2 : (t : ℕ) → put-big-endian-lts.Need-returns-2 (
-  put-big-endian-below t,
+put_big_endian_returns_2 : (t : ℕ) → put-big-endian-lts.Need-returns-2 (
+  put_big_endian_below t,
   put-big-endian.Post,
   put-byte-reads.Asked,
   put-byte-reads.Learnt,
-) (put-big-endian-at t) put-big-endian.Post
-put-big-endian-returns-2 t c = search big-endian-more
+) (put_big_endian_at t) put-big-endian.Post
+put_big_endian_returns_2 t c = search big_endian_more
 
 pub +put-big-endian-spec : {M : Type 1} → statement M
 +put-big-endian-spec = close μ-put-big-endian λ t. put-big-endian-lts.spec (
-  put-big-endian-below t,
+  put_big_endian_below t,
   put-big-endian.Post,
   put-byte-reads.Asked,
   put-byte-reads.Learnt,
 )
-    (put-big-endian-at t)
+    (put_big_endian_at t)
     put-big-endian.Post
-    (put-big-endian-sub-put-big-endian t)
-    (put-big-endian-put-big-endian-requires t)
-    (put-big-endian-cast-put-byte t)
-    (put-big-endian-put-byte-requires t)
-    (put-big-endian-returns t)
-    (put-big-endian-same-length t)
-    (put-big-endian-returns-2 t)
+    (put_big_endian_sub_put_big_endian t)
+    (put_big_endian_put_big_endian_requires t)
+    (put_big_endian_cast_put_byte t)
+    (put_big_endian_put_byte_requires t)
+    (put_big_endian_returns t)
+    (put_big_endian_same_length t)
+    (put_big_endian_returns_2 t)

@@ -1,6 +1,6 @@
 -- `batch::answer_call` meets its contract.
 use native.Mathlib.Omega.{arith}
-use Rattle.batch.proofs.Answered.{part-within, answer-room, answered}
+use Rattle.batch.proofs.Answered.{part_within, answer_room_law, answered}
 use borrow.Author.Rules.{rules}
 use Rattle.batch.proofs.answer_call.Statement.{statement}
 use Rattle.batch.proofs.answer_call.Tie as tie
@@ -19,7 +19,7 @@ add_start c = search rules
 add-end : tie.Need-overflow-add-end
 add-end c =
     let start : tie.Start = search in
-    omega (arith, part-within start.args.info.bytes start.args.call start.args.at c.lent-size.ensures start.pre.1, start.good.1.1.1.1.1.1.1.1.1.1.1.1.0.1)
+    omega (arith, part_within start.args.info.bytes start.args.call start.args.at c.lent_size.ensures start.pre.1, start.good.1.1.1.1.1.1.1.1.1.1.1.1.0.1)
 
 sub-perform-judged : tie.Need-overflow-sub-perform-judged
 sub-perform-judged c = search rules
@@ -28,7 +28,7 @@ part-perform-judged-start : tie.Need-slice-bounds-perform-judged-start
 part-perform-judged-start c = search rules
 
 part-perform-judged-end : tie.Need-slice-bounds-perform-judged-end
-part-perform-judged-end c = search part-within
+part-perform-judged-end c = search part_within
 
 slice-aggregate-perform-judged : tie.Need-slice-aggregate-perform-judged
 slice-aggregate-perform-judged c = search rules
@@ -41,10 +41,10 @@ slice-aggregate-put-answer-bytes c = search rules
 
 put-answer-bytes-requires : tie.Need-put-answer-bytes-requires
 put-answer-bytes-requires c κs =
-    let at-perform-judged : tie.After-perform-judged = search in
-    let at-lent-size : tie.After-lent-size = search in
-    let start = start-from-lent-size at-lent-size in
-    answer-room start.args.port _ start.args.call start.args.payload.now start.args.to.now start.args.at at-lent-size.lent-size.ensures start.pre.1 at-perform-judged.perform-judged.ensures at-perform-judged.perform-judged.kept.1.1.1.1.1.1.1.1.1.1.1.1.0 at-perform-judged.perform-judged.kept.1.1.1.1.1.1.1.1.1.1.1.1.1.0
+    let at_perform_judged : tie.After-perform-judged = search in
+    let at_lent_size : tie.After-lent-size = search in
+    let start = start-from-lent-size at_lent_size in
+    answer_room_law start.args.port _ start.args.call start.args.payload.now start.args.to.now start.args.at at_lent_size.lent_size.ensures start.pre.1 at_perform_judged.perform-judged.ensures at_perform_judged.perform-judged.kept.1.1.1.1.1.1.1.1.1.1.1.1.0 at_perform_judged.perform-judged.kept.1.1.1.1.1.1.1.1.1.1.1.1.1.0
 
 same_length : tie.Need-same-length
 same_length c = search rules
@@ -72,13 +72,13 @@ same-length-8 c = search rules
 
 returns : tie.Need-returns
 returns c =
-    let at-perform-judged : tie.After-perform-judged = search in
-    let at-lent-size : tie.After-lent-size = search in
-    let start = start-from-lent-size at-lent-size in
-    answered start.args.port _ start.args.call start.args.payload.now start.args.to.now start.args.at at-lent-size.lent-size.ensures start.pre.1 at-perform-judged.perform-judged.ensures at-perform-judged.perform-judged.kept.1.1.1.1.1.1.1.1.1.1.1.1.0 at-perform-judged.perform-judged.kept.1.1.1.1.1.1.1.1.1.1.1.1.1.0 c.before.before.before.put-answer-bytes.ensures
+    let at_perform_judged : tie.After-perform-judged = search in
+    let at_lent_size : tie.After-lent-size = search in
+    let start = start-from-lent-size at_lent_size in
+    answered start.args.port _ start.args.call start.args.payload.now start.args.to.now start.args.at at_lent_size.lent_size.ensures start.pre.1 at_perform_judged.perform-judged.ensures at_perform_judged.perform-judged.kept.1.1.1.1.1.1.1.1.1.1.1.1.0 at_perform_judged.perform-judged.kept.1.1.1.1.1.1.1.1.1.1.1.1.1.0 c.before.before.before.put-answer-bytes.ensures
 
-pub answer-call-spec : {M : Type 1} → statement M
-answer-call-spec =
+pub answer_call_spec : {M : Type 1} → statement M
+answer_call_spec =
     tie.close
     (tie.spec
     lent-size-requires

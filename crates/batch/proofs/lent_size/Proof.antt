@@ -1,5 +1,5 @@
 -- `batch::lent_size` meets its contract.
-use Rattle.batch.proofs.AnswerBytesLaws.{lent-neither, lent-blocks, lent-whole, lent_none}
+use Rattle.batch.proofs.AnswerBytesLaws.{lent_neither, lent_blocks, lent_whole, lent_none}
 use borrow.Author.Rules.{rules}
 use Rattle.batch.proofs.lent_size.Statement.{statement}
 use Rattle.batch.proofs.lent_size.Tie as tie
@@ -17,19 +17,19 @@ enum-told-3 : tie.Need-enum-told-3
 enum-told-3 c = search rules
 
 returns : tie.Need-returns
-returns c = search lent-neither
+returns c = search lent_neither
 
 returns-2 : tie.Need-returns-2
-returns-2 c = search lent-whole
+returns-2 c = search lent_whole
 
 returns-3 : tie.Need-returns-3
 returns-3 c = search lent_none
 
 returns-4 : tie.Need-returns-4
-returns-4 c = search lent-blocks
+returns-4 c = search lent_blocks
 
-pub lent-size-spec : {M : Type 1} → statement M
-lent-size-spec =
+pub lent_size_spec : {M : Type 1} → statement M
+lent_size_spec =
     tie.close
     (tie.spec
     filled-by-requires

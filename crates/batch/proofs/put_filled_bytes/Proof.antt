@@ -38,11 +38,11 @@ same_length c = search rules
 
 returns-3 : tie.Need-returns-3
 returns-3 c =
-    let at-filled : tie.After-filled = search in
-    rw at-filled.filled.given.1 c.before.before.put-first-pairs.ensures
+    let at_filled : tie.After-filled = search in
+    rw at_filled.filled.given.1 c.before.before.put-first-pairs.ensures
 
-pub put-filled-bytes-spec : {M : Type 1} → statement M
-put-filled-bytes-spec =
+pub put_filled_bytes_spec : {M : Type 1} → statement M
+put_filled_bytes_spec =
     tie.close
     (tie.spec
     enum_told

@@ -6,7 +6,7 @@ use mathlib.Core.Path.{refl}
 use lib.ListN.{length, take}
 use Rattle.lines.proofs.WrittenPart.{part_none}
 use Rattle.serving.specs.Serve.{pairs}
-use Rattle.batch.proofs.AnswerBytesLaws.{Pairing, pairing-more, pairing-done}
+use Rattle.batch.proofs.AnswerBytesLaws.{Pairing, pairing_more, pairing_done}
 use Rattle.batch.proofs.put_pairs.Statement.{statement}
 use Rattle.batch.proofs.put_pairs.Tie as tie
 
@@ -33,8 +33,8 @@ of-block-requires c κs = tt
 
 put-big-endian-requires : tie.Need-put-big-endian-requires invariant-loop decreases-loop
 put-big-endian-requires c κs =
-    let at-loop : tie.At-loop invariant-loop decreases-loop = search in
-    omega (arith, at-loop.loop.inv.room, c.before.before.before.loop-test.true)
+    let at_loop : tie.At-loop invariant-loop decreases-loop = search in
+    omega (arith, at_loop.loop.inv.room, c.before.before.before.loop-test.true)
 
 add-i : tie.Need-overflow-add-i invariant-loop decreases-loop
 add-i c = search rules
@@ -43,16 +43,16 @@ loop-less : tie.Need-loop-smaller invariant-loop decreases-loop
 loop-less c = search rules
 
 loop-again : tie.Need-loop-preserved invariant-loop decreases-loop
-loop-again c = search pairing-more
+loop-again c = search pairing_more
 
 same_length : tie.Need-same-length invariant-loop decreases-loop
 same_length c = c.before.loop.invariant.kept
 
 returns : tie.Need-returns invariant-loop decreases-loop
-returns c = search pairing-done
+returns c = search pairing_done
 
-pub put-pairs-spec : {M : Type 1} → statement M
-put-pairs-spec =
+pub put_pairs_spec : {M : Type 1} → statement M
+put_pairs_spec =
     tie.close
     (tie.spec
     invariant-loop

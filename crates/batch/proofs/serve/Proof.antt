@@ -3,7 +3,7 @@
 use mathlib.Core.Path.{refl, sym, ◌∙◌}
 use native.Mathlib.Omega.{arith}
 use Rattle.input.proofs.SameTables.{same_tables}
-use Rattle.batch.proofs.Serving.{ServeLoop, serving-none, serving-at, serving-stopped, serving-further, serving-more}
+use Rattle.batch.proofs.Serving.{ServeLoop, serving_none, serving_at, serving_stopped, serving_further, serving_more}
 use Prim.Native.Nat.{◌-◌}
 use lib.ListN.{length}
 use Rattle.batch.proofs.serve.Statement.{statement}
@@ -28,109 +28,109 @@ audit-requires c κs = tt
 loop-holds : tie.Need-loop-init invariant-loop decreases-loop
 loop-holds c =
     let start : tie.Start invariant-loop decreases-loop = search in
-    record { tables = same_tables _ _ _ _ _ _ _; sameAnswers = refl; serving = serving-none start.args.wire _ start.args.input.now start.args.answers.now }
+    record { tables = same_tables _ _ _ _ _ _ _; same_answers = refl; serving = serving_none start.args.wire _ start.args.input.now start.args.answers.now }
 
 serve-turn-requires : tie.Need-serve-turn-requires invariant-loop decreases-loop
 serve-turn-requires c κs =
-    let at-loop : tie.At-loop invariant-loop decreases-loop = search in
-    let at-audit : tie.After-audit invariant-loop decreases-loop = search in
-    (at-audit.audit.ensures ∙ sym at-loop.loop.inv.serving.judged, search serving-at)
+    let at_loop : tie.At-loop invariant-loop decreases-loop = search in
+    let at_audit : tie.After-audit invariant-loop decreases-loop = search in
+    (at_audit.audit.ensures ∙ sym at_loop.loop.inv.serving.judged, search serving_at)
 
 went-requires : tie.Need-went-requires invariant-loop decreases-loop
 went-requires c κs = tt
 
 add-count : tie.Need-overflow-add-count invariant-loop decreases-loop
 add-count c =
-    let at-loop : tie.At-loop invariant-loop decreases-loop = search in
+    let at_loop : tie.At-loop invariant-loop decreases-loop = search in
     let start : tie.Start invariant-loop decreases-loop = search in
-    omega (arith, at-loop.loop.inv.serving.counted, at-loop.loop.inv.serving.within, start.good.1.1.1.1.1.1.1.1.1.0.1)
+    omega (arith, at_loop.loop.inv.serving.counted, at_loop.loop.inv.serving.within, start.good.1.1.1.1.1.1.1.1.1.0.1)
 
 loop-less : tie.Need-loop-smaller invariant-loop decreases-loop
 loop-less c =
-    let at-serve-turn : tie.After-serve-turn invariant-loop decreases-loop = search in
-    let at-loop : tie.At-loop invariant-loop decreases-loop = search in
-    let at-slice-known8 : tie.After-slice-known8 invariant-loop decreases-loop = search in
-    let start = start-from-slice-known8 at-slice-known8 in
-    omega (arith, serving-further start.args.wire _ start.args.input.now start.args.answers.now at-loop.loop.inv.serving at-serve-turn.serve-turn.ensures (sym c.before.went.ensures ∙ c.if1.true), at-serve-turn.serve-turn.ensures.within)
+    let at_serve_turn : tie.After-serve-turn invariant-loop decreases-loop = search in
+    let at_loop : tie.At-loop invariant-loop decreases-loop = search in
+    let at_slice_known8 : tie.After-slice-known8 invariant-loop decreases-loop = search in
+    let start = start-from-slice-known8 at_slice_known8 in
+    omega (arith, serving_further start.args.wire _ start.args.input.now start.args.answers.now at_loop.loop.inv.serving at_serve_turn.serve-turn.ensures (sym c.before.went.ensures ∙ c.if1.true), at_serve_turn.serve-turn.ensures.within)
 
 loop-again : tie.Need-loop-preserved invariant-loop decreases-loop
 loop-again c =
-    let at-serve-turn : tie.After-serve-turn invariant-loop decreases-loop = search in
-    let at-loop : tie.At-loop invariant-loop decreases-loop = search in
-    let at-slice-known8 : tie.After-slice-known8 invariant-loop decreases-loop = search in
-    let start = start-from-slice-known8 at-slice-known8 in
+    let at_serve_turn : tie.After-serve-turn invariant-loop decreases-loop = search in
+    let at_loop : tie.At-loop invariant-loop decreases-loop = search in
+    let at_slice_known8 : tie.After-slice-known8 invariant-loop decreases-loop = search in
+    let start = start-from-slice-known8 at_slice_known8 in
     record {
       tables = record {
-        sameFlags = at-serve-turn.serve-turn.kept.1.1.1.0 ∙ at-loop.loop.inv.tables.sameFlags;
-        sameKeys = at-serve-turn.serve-turn.kept.1.1.1.1.0 ∙ at-loop.loop.inv.tables.sameKeys;
-        sameCounts = at-serve-turn.serve-turn.kept.1.1.1.1.1.0 ∙ at-loop.loop.inv.tables.sameCounts;
-        samePointers = at-serve-turn.serve-turn.kept.1.1.1.1.1.1.0 ∙ at-loop.loop.inv.tables.samePointers;
-        sameMultiplicities = at-serve-turn.serve-turn.kept.1.1.1.1.1.1.1.0 ∙ at-loop.loop.inv.tables.sameMultiplicities;
-        sameWindows = at-serve-turn.serve-turn.kept.1.1.1.1.1.1.1.1.0 ∙ at-loop.loop.inv.tables.sameWindows;
-        sameContents = at-serve-turn.serve-turn.kept.1.1.1.1.1.1.1.1.1.0 ∙ at-loop.loop.inv.tables.sameContents;
+        same_flags = at_serve_turn.serve-turn.kept.1.1.1.0 ∙ at_loop.loop.inv.tables.same_flags;
+        same_keys = at_serve_turn.serve-turn.kept.1.1.1.1.0 ∙ at_loop.loop.inv.tables.same_keys;
+        same_counts = at_serve_turn.serve-turn.kept.1.1.1.1.1.0 ∙ at_loop.loop.inv.tables.same_counts;
+        same_pointers = at_serve_turn.serve-turn.kept.1.1.1.1.1.1.0 ∙ at_loop.loop.inv.tables.same_pointers;
+        same_multiplicities = at_serve_turn.serve-turn.kept.1.1.1.1.1.1.1.0 ∙ at_loop.loop.inv.tables.same_multiplicities;
+        same_windows = at_serve_turn.serve-turn.kept.1.1.1.1.1.1.1.1.0 ∙ at_loop.loop.inv.tables.same_windows;
+        same_contents = at_serve_turn.serve-turn.kept.1.1.1.1.1.1.1.1.1.0 ∙ at_loop.loop.inv.tables.same_contents;
       };
-      sameAnswers = at-serve-turn.serve-turn.kept.1.1.1.1.1.1.1.1.1.1.1.1.0 ∙ at-loop.loop.inv.sameAnswers;
-      serving = serving-more start.args.wire _ start.args.input.now start.args.answers.now at-loop.loop.inv.serving at-serve-turn.serve-turn.ensures (sym c.before.went.ensures ∙ c.if1.true);
+      same_answers = at_serve_turn.serve-turn.kept.1.1.1.1.1.1.1.1.1.1.1.1.0 ∙ at_loop.loop.inv.same_answers;
+      serving = serving_more start.args.wire _ start.args.input.now start.args.answers.now at_loop.loop.inv.serving at_serve_turn.serve-turn.ensures (sym c.before.went.ensures ∙ c.if1.true);
     }
 
 same_length : tie.Need-same-length invariant-loop decreases-loop
 same_length c =
-    let at-serve-turn : tie.After-serve-turn invariant-loop decreases-loop = search in
-    let at-loop : tie.At-loop invariant-loop decreases-loop = search in
-    at-serve-turn.serve-turn.kept.1.1.1.0 ∙ at-loop.loop.inv.tables.sameFlags
+    let at_serve_turn : tie.After-serve-turn invariant-loop decreases-loop = search in
+    let at_loop : tie.At-loop invariant-loop decreases-loop = search in
+    at_serve_turn.serve-turn.kept.1.1.1.0 ∙ at_loop.loop.inv.tables.same_flags
 
 same-length-2 : tie.Need-same-length-2 invariant-loop decreases-loop
 same-length-2 c =
-    let at-serve-turn : tie.After-serve-turn invariant-loop decreases-loop = search in
-    let at-loop : tie.At-loop invariant-loop decreases-loop = search in
-    at-serve-turn.serve-turn.kept.1.1.1.1.0 ∙ at-loop.loop.inv.tables.sameKeys
+    let at_serve_turn : tie.After-serve-turn invariant-loop decreases-loop = search in
+    let at_loop : tie.At-loop invariant-loop decreases-loop = search in
+    at_serve_turn.serve-turn.kept.1.1.1.1.0 ∙ at_loop.loop.inv.tables.same_keys
 
 same-length-3 : tie.Need-same-length-3 invariant-loop decreases-loop
 same-length-3 c =
-    let at-serve-turn : tie.After-serve-turn invariant-loop decreases-loop = search in
-    let at-loop : tie.At-loop invariant-loop decreases-loop = search in
-    at-serve-turn.serve-turn.kept.1.1.1.1.1.0 ∙ at-loop.loop.inv.tables.sameCounts
+    let at_serve_turn : tie.After-serve-turn invariant-loop decreases-loop = search in
+    let at_loop : tie.At-loop invariant-loop decreases-loop = search in
+    at_serve_turn.serve-turn.kept.1.1.1.1.1.0 ∙ at_loop.loop.inv.tables.same_counts
 
 same-length-4 : tie.Need-same-length-4 invariant-loop decreases-loop
 same-length-4 c =
-    let at-serve-turn : tie.After-serve-turn invariant-loop decreases-loop = search in
-    let at-loop : tie.At-loop invariant-loop decreases-loop = search in
-    at-serve-turn.serve-turn.kept.1.1.1.1.1.1.0 ∙ at-loop.loop.inv.tables.samePointers
+    let at_serve_turn : tie.After-serve-turn invariant-loop decreases-loop = search in
+    let at_loop : tie.At-loop invariant-loop decreases-loop = search in
+    at_serve_turn.serve-turn.kept.1.1.1.1.1.1.0 ∙ at_loop.loop.inv.tables.same_pointers
 
 same-length-5 : tie.Need-same-length-5 invariant-loop decreases-loop
 same-length-5 c =
-    let at-serve-turn : tie.After-serve-turn invariant-loop decreases-loop = search in
-    let at-loop : tie.At-loop invariant-loop decreases-loop = search in
-    at-serve-turn.serve-turn.kept.1.1.1.1.1.1.1.0 ∙ at-loop.loop.inv.tables.sameMultiplicities
+    let at_serve_turn : tie.After-serve-turn invariant-loop decreases-loop = search in
+    let at_loop : tie.At-loop invariant-loop decreases-loop = search in
+    at_serve_turn.serve-turn.kept.1.1.1.1.1.1.1.0 ∙ at_loop.loop.inv.tables.same_multiplicities
 
 same-length-6 : tie.Need-same-length-6 invariant-loop decreases-loop
 same-length-6 c =
-    let at-serve-turn : tie.After-serve-turn invariant-loop decreases-loop = search in
-    let at-loop : tie.At-loop invariant-loop decreases-loop = search in
-    at-serve-turn.serve-turn.kept.1.1.1.1.1.1.1.1.0 ∙ at-loop.loop.inv.tables.sameWindows
+    let at_serve_turn : tie.After-serve-turn invariant-loop decreases-loop = search in
+    let at_loop : tie.At-loop invariant-loop decreases-loop = search in
+    at_serve_turn.serve-turn.kept.1.1.1.1.1.1.1.1.0 ∙ at_loop.loop.inv.tables.same_windows
 
 same-length-7 : tie.Need-same-length-7 invariant-loop decreases-loop
 same-length-7 c =
-    let at-serve-turn : tie.After-serve-turn invariant-loop decreases-loop = search in
-    let at-loop : tie.At-loop invariant-loop decreases-loop = search in
-    at-serve-turn.serve-turn.kept.1.1.1.1.1.1.1.1.1.0 ∙ at-loop.loop.inv.tables.sameContents
+    let at_serve_turn : tie.After-serve-turn invariant-loop decreases-loop = search in
+    let at_loop : tie.At-loop invariant-loop decreases-loop = search in
+    at_serve_turn.serve-turn.kept.1.1.1.1.1.1.1.1.1.0 ∙ at_loop.loop.inv.tables.same_contents
 
 same-length-8 : tie.Need-same-length-8 invariant-loop decreases-loop
 same-length-8 c =
-    let at-serve-turn : tie.After-serve-turn invariant-loop decreases-loop = search in
-    let at-loop : tie.At-loop invariant-loop decreases-loop = search in
-    at-serve-turn.serve-turn.kept.1.1.1.1.1.1.1.1.1.1.1.1.0 ∙ at-loop.loop.inv.sameAnswers
+    let at_serve_turn : tie.After-serve-turn invariant-loop decreases-loop = search in
+    let at_loop : tie.At-loop invariant-loop decreases-loop = search in
+    at_serve_turn.serve-turn.kept.1.1.1.1.1.1.1.1.1.1.1.1.0 ∙ at_loop.loop.inv.same_answers
 
 returns : tie.Need-returns invariant-loop decreases-loop
 returns c =
-    let at-serve-turn : tie.After-serve-turn invariant-loop decreases-loop = search in
-    let at-loop : tie.At-loop invariant-loop decreases-loop = search in
-    let at-slice-known8 : tie.After-slice-known8 invariant-loop decreases-loop = search in
-    let start = start-from-slice-known8 at-slice-known8 in
-    serving-stopped start.args.wire _ start.args.input.now start.args.answers.now at-loop.loop.inv.serving at-serve-turn.serve-turn.ensures (sym c.before.went.ensures ∙ c.if1.false)
+    let at_serve_turn : tie.After-serve-turn invariant-loop decreases-loop = search in
+    let at_loop : tie.At-loop invariant-loop decreases-loop = search in
+    let at_slice_known8 : tie.After-slice-known8 invariant-loop decreases-loop = search in
+    let start = start-from-slice-known8 at_slice_known8 in
+    serving_stopped start.args.wire _ start.args.input.now start.args.answers.now at_loop.loop.inv.serving at_serve_turn.serve-turn.ensures (sym c.before.went.ensures ∙ c.if1.false)
 
-pub serve-spec : {M : Type 1} → statement M
-serve-spec =
+pub serve_spec : {M : Type 1} → statement M
+serve_spec =
     tie.close
     (tie.spec
     invariant-loop

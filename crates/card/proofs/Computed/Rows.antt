@@ -7,17 +7,17 @@ use mathlib.Core.Option.{or_else}
 use mathlib.Core.Path.{◌≡◌, refl}
 use lib.Dec.{eqb, ltb, leb}
 use lib.ListN.{length, replicate}
-use Rattle.card.specs.Lists.{sumBelow}
+use Rattle.card.specs.Lists.{sum_below}
 use Rattle.card.specs.Pointers.{pointer}
 use Rattle.card.specs.Contents.{zeros}
 use Rattle.card.specs.Card.{Card, card}
-use Rattle.card.specs.Plan.{withUsed, withTime}
-use Rattle.card.specs.Calls.{freshInfo, format}
-use Rattle.card.specs.Session.{Request, portOf, free as freeEither, tick as tickEither, sweep as sweepEither, isSweep, refusals, Sent, performed, replies, afterAll, traits}
-use Rattle.card.specs.Ledger.{made, taken, madeInAll, takenInAll}
-use Rattle.card.specs.RentAdded.{added, addedInAll}
-use Rattle.card.specs.Reach.{shows, someShows, presents, presented, isOne, takesLast, lastTaken, keyPresented, sealed}
-use Rattle.card.specs.Trials.{rules, blankCard, playerCard, lending, send, read, write_all, alloc, create, delete, deleteTree, key, free, tick, trialTable, trialReports, rentedFor, rentTable, rentReports, waitingTable, waitingReports}
+use Rattle.card.specs.Plan.{with_used, with_time}
+use Rattle.card.specs.Calls.{fresh_info, format}
+use Rattle.card.specs.Session.{Request, port_of, free as freeEither, tick as tickEither, sweep as sweepEither, is_sweep, refusals, Sent, performed, replies, after_all, traits}
+use Rattle.card.specs.Ledger.{made, taken, made_in_all, taken_in_all}
+use Rattle.card.specs.RentAdded.{added, added_in_all}
+use Rattle.card.specs.Reach.{shows, some_shows, presents, presented, is_one, takes_last, last_taken, key_presented, sealed}
+use Rattle.card.specs.Trials.{rules, blank_card, player_card, lending, send, read, write_all, alloc, create, delete, delete_tree, key, free, tick, trial_table, trial_reports, rented_for, rent_table, rent_reports, waiting_table, waiting_reports}
 use Rattle.card.specs.Statements.Refusals.{RefusalUnchanged, RefusedIff, PortsAlike}
 use Rattle.card.specs.Statements.Sound.{DoneSound, CountsRight, PointersAscending, FormatSound}
 use Rattle.card.specs.Statements.Unallocated.{Untouched, FreedWaits}
@@ -25,7 +25,7 @@ use Rattle.card.specs.Statements.Sweeping.{SweptGone}
 use Rattle.card.specs.Statements.Ledger.{MadeAndTaken, Ledger, CountsLedger}
 use Rattle.card.specs.Statements.Runs.{RunFound, RunAdjoins, RunNearest}
 use Rattle.card.specs.Statements.Keys.{OneKeyUnsealed, OtherKeyKept, OwnKeySet, BothWindowsClosed, WriteAccessNeeded}
-use Rattle.card.specs.Statements.Windows.{byRead, byWrite, byRenew, WindowSetBy, WindowLater, IntervalZeroKept, WindowsKept}
+use Rattle.card.specs.Statements.Windows.{by_read, by_write, by_renew, WindowSetBy, WindowLater, IntervalZeroKept, WindowsKept}
 use Rattle.card.specs.Statements.Trees.{TreeLeast, TreeSpares, TreeCycle, TreeKeyed, TreeHides}
 use Rattle.card.specs.Statements.Secrecy.{SameHidden, Secrecy}
 use Rattle.card.specs.Statements.Rent.{RentSummed, RentUnchanged, RentNearest, RentAlike}
@@ -42,26 +42,26 @@ use Rattle.card.specs.declared.Call.TheVariants.{Delete, Renew, Force, Tick, Swe
 use Rattle.card.specs.declared.AllocOperands.{AllocOperands}
 use Rattle.card.specs.declared.DeleteOperands.{DeleteOperands}
 use Rattle.card.specs.declared.KeyOperands.{KeyOperands}
-use Rattle.card.proofs.Computed.Same.{same_list, same_lists, replyNumbers}
+use Rattle.card.proofs.Computed.Same.{same_list, same_lists, reply_numbers}
 use Rattle.card.proofs.Computed.Row.{Row, refutes, nothing}
-use Rattle.card.proofs.Computed.SoundLaws.{isSound}
+use Rattle.card.proofs.Computed.SoundLaws.{is_sound}
 use Rattle.card.proofs.Computed.Bounds.{bounds}
-use Rattle.card.proofs.Computed.Refusals.{refusalUnchangedRow, firstNumber, refusedIffRow, portsAlikeRow}
-use Rattle.card.proofs.Computed.Sound.{doneSoundRow, countsRightRow, pointersAscendingRow, formatSoundRow}
-use Rattle.card.proofs.Computed.Unallocated.{untouchedRow, freedWaitsRow}
-use Rattle.card.proofs.Computed.Secrecy.{withContents, sameHiddenRow, secrecyRow}
-use Rattle.card.proofs.Computed.Sweeping.{sweptGoneRow}
-use Rattle.card.proofs.Computed.Ledger.{madeAndTakenRow, ledgerRow, countsLedgerRow}
-use Rattle.card.proofs.Computed.Rent.{rentSummedRow, rentUnchangedRow, rentNearestRow, rentAlikeRow}
-use Rattle.card.proofs.Computed.Runs.{noneHold, runFoundRow, runAdjoinsRow, runNearestRow}
-use Rattle.card.proofs.Computed.Trees.{treeLeastRow, treeSparesRow, treeCycleRow, treeKeyedRow, treeHidesRow}
-use Rattle.card.proofs.Computed.Keys.{oneKeyUnsealedRow, otherKeyKeptRow, ownKeySetRow, bothWindowsClosedRow, writeAccessNeededRow}
-use Rattle.card.proofs.Computed.Windows.{endsSooner, windowSetByRow, windowLaterRow, intervalZeroKeptRow, windowsKeptRow}
-use Rattle.card.proofs.Computed.Trials.{allLines, trialsRow, rentTrialsRow, waitingTrialsRow}
+use Rattle.card.proofs.Computed.Refusals.{refusal_unchanged_row, first_number, refused_iff_row, ports_alike_row}
+use Rattle.card.proofs.Computed.Sound.{done_sound_row, counts_right_row, pointers_ascending_row, format_sound_row}
+use Rattle.card.proofs.Computed.Unallocated.{untouched_row, freed_waits_row}
+use Rattle.card.proofs.Computed.Secrecy.{with_contents, same_hidden_row, secrecy_row}
+use Rattle.card.proofs.Computed.Sweeping.{swept_gone_row}
+use Rattle.card.proofs.Computed.Ledger.{made_and_taken_row, ledger_row, counts_ledger_row}
+use Rattle.card.proofs.Computed.Rent.{rent_summed_row, rent_unchanged_row, rent_nearest_row, rent_alike_row}
+use Rattle.card.proofs.Computed.Runs.{none_hold, run_found_row, run_adjoins_row, run_nearest_row}
+use Rattle.card.proofs.Computed.Trees.{tree_least_row, tree_spares_row, tree_cycle_row, tree_keyed_row, tree_hides_row}
+use Rattle.card.proofs.Computed.Keys.{one_key_unsealed_row, other_key_kept_row, own_key_set_row, both_windows_closed_row, write_access_needed_row}
+use Rattle.card.proofs.Computed.Windows.{ends_sooner, window_set_by_row, window_later_row, interval_zero_kept_row, windows_kept_row}
+use Rattle.card.proofs.Computed.Trials.{all_lines, trials_row, rent_trials_row, waiting_trials_row}
 
 -- To compute a row, its proof unfolds this one name. A wrong rule makes use of `or_else`.
 unfoldable pub computing : Unit {0}
-unfolding or_else rules playerCard refusals portOf isSweep replies afterAll sumBelow made taken madeInAll takenInAll added addedInAll traits shows someShows presents presented keyPresented sealed isOne takesLast lastTaken trialTable trialReports rentTable rentReports waitingTable waitingReports bounds same_list same_lists replyNumbers allLines firstNumber noneHold
+unfolding or_else rules player_card refusals port_of is_sweep replies after_all sum_below made taken made_in_all taken_in_all added added_in_all traits shows some_shows presents presented key_presented sealed is_one takes_last last_taken trial_table trial_reports rent_table rent_reports waiting_table waiting_reports bounds same_list same_lists reply_numbers all_lines first_number none_hold
 computing = tt
 
 -- ---- cards, drawn by hand: no rule has made them
@@ -69,16 +69,16 @@ computing = tt
 -- N 16, R 1, B 512 and P 32, at second 0 with no window open, each pointer once.
 abbrev drawn : (used : ℕ) (flags keys counts pointers contents : List ℕ) → Card
 drawn used flags keys counts pointers contents =
-    card (withUsed (freshInfo 16 1 512) used) flags keys counts pointers (replicate used 1 ++ zeros (length pointers - used)) (zeros 32) contents
+    card (with_used (fresh_info 16 1 512) used) flags keys counts pointers (replicate used 1 ++ zeros (length pointers - used)) (zeros 32) contents
 
 -- A card at this second, with these windows.
 abbrev timed : Card → ℕ → List ℕ → Card
 timed c time windows =
-    card (withTime c.public.info time c.public.info.total) c.public.flags c.keys c.public.counts c.public.pointers c.public.multiplicities windows c.contents
+    card (with_time c.public.info time c.public.info.total) c.public.flags c.keys c.public.counts c.public.pointers c.public.multiplicities windows c.contents
 
 -- The root points to blocks 1 and 2.
-abbrev twoBelow : Card
-twoBelow = drawn 2 (1 ∷ 1 ∷ 1 ∷ zeros 13) (zeros 64) (0 ∷ 1 ∷ 1 ∷ zeros 13) (1 ∷ 2 ∷ zeros 30) (zeros 8192)
+abbrev two_below : Card
+two_below = drawn 2 (1 ∷ 1 ∷ 1 ∷ zeros 13) (zeros 64) (0 ∷ 1 ∷ 1 ∷ zeros 13) (1 ∷ 2 ∷ zeros 30) (zeros 8192)
 
 -- The root points to block 1, and that to block 2.
 abbrev chain : Card
@@ -89,8 +89,8 @@ abbrev twice : Card
 twice = drawn 3 (1 ∷ 1 ∷ 1 ∷ zeros 13) (zeros 64) (0 ∷ 1 ∷ 2 ∷ zeros 13) (1 ∷ 2 ∷ 65538 ∷ zeros 29) (zeros 8192)
 
 -- The root points to block 1, and that to block 2, which has a write key.
-abbrev chainKeyed : Card
-chainKeyed = drawn 2 (1 ∷ 1 ∷ 5 ∷ zeros 13) (zeros 10 ++ (3 ∷ 4 ∷ zeros 52)) (0 ∷ 1 ∷ 1 ∷ zeros 13) (1 ∷ 65538 ∷ zeros 30) (zeros 8192)
+abbrev chain_keyed : Card
+chain_keyed = drawn 2 (1 ∷ 1 ∷ 5 ∷ zeros 13) (zeros 10 ++ (3 ∷ 4 ∷ zeros 52)) (0 ∷ 1 ∷ 1 ∷ zeros 13) (1 ∷ 65538 ∷ zeros 30) (zeros 8192)
 
 -- A chain of pointers through all blocks, from each to the next.
 abbrev path : Card
@@ -107,7 +107,7 @@ cycle = drawn 3 (1 ∷ 1 ∷ 1 ∷ zeros 13) (zeros 64) (0 ∷ 2 ∷ 1 ∷ zeros
 -- The root points to blocks 1 and 2, and those to block 3, block 1 twice.
 abbrev shared : Card
 shared =
-    card (withUsed (freshInfo 16 1 512) 4) (1 ∷ 1 ∷ 1 ∷ 1 ∷ zeros 12) (zeros 64) (0 ∷ 1 ∷ 1 ∷ 3 ∷ zeros 12) (1 ∷ 2 ∷ 65539 ∷ 131075 ∷ zeros 28)
+    card (with_used (fresh_info 16 1 512) 4) (1 ∷ 1 ∷ 1 ∷ 1 ∷ zeros 12) (zeros 64) (0 ∷ 1 ∷ 1 ∷ 3 ∷ zeros 12) (1 ∷ 2 ∷ 65539 ∷ 131075 ∷ zeros 28)
     (1 ∷ 1 ∷ 2 ∷ 1 ∷ zeros 28)
     (zeros 32)
     (zeros 8192)
@@ -115,7 +115,7 @@ shared =
 -- The root points to block 2, so many times, and no other block is taken.
 abbrev often : ℕ → Card
 often times =
-    card (withUsed (freshInfo 16 1 512) 1) (1 ∷ 0 ∷ 1 ∷ zeros 13) (zeros 64) (0 ∷ 0 ∷ times ∷ zeros 13) (2 ∷ zeros 31) (times ∷ zeros 31) (zeros 32) (zeros 8192)
+    card (with_used (fresh_info 16 1 512) 1) (1 ∷ 0 ∷ 1 ∷ zeros 13) (zeros 64) (0 ∷ 0 ∷ times ∷ zeros 13) (2 ∷ zeros 31) (times ∷ zeros 31) (zeros 32) (zeros 8192)
 
 -- The root points to block 2 alone, so that block 1 is free between two that are not.
 abbrev gapped : Card
@@ -132,8 +132,8 @@ apart left =
     (zeros 8192)
 
 -- The root points to block 2, between the blocks 1 and 3, which wait.
-abbrev twoWaiting : List ℕ → Card
-twoWaiting contents = drawn 1 (1 ∷ 8 ∷ 1 ∷ 8 ∷ zeros 12) (zeros 64) (0 ∷ 0 ∷ 1 ∷ zeros 13) (2 ∷ zeros 31) contents
+abbrev two_waiting : List ℕ → Card
+two_waiting contents = drawn 1 (1 ∷ 8 ∷ 1 ∷ 8 ∷ zeros 12) (zeros 64) (0 ∷ 0 ∷ 1 ∷ zeros 13) (2 ∷ zeros 31) contents
 
 -- One byte all over the contents of a card; or all over the blocks 1 and 3, and 7 over the others.
 abbrev filled : ℕ → List ℕ
@@ -147,19 +147,19 @@ abbrev keyed : List ℕ → Card
 keyed contents = drawn 1 (1 ∷ 7 ∷ zeros 14) (zeros 4 ++ (1 ∷ 2 ∷ 3 ∷ 4 ∷ zeros 56)) (0 ∷ 1 ∷ zeros 14) (1 ∷ zeros 31) contents
 
 -- The root points to block 1, which has a read key alone, or a write key alone.
-abbrev readKeyed : Card
-readKeyed = drawn 1 (1 ∷ 3 ∷ zeros 14) (zeros 4 ++ (1 ∷ 2 ∷ zeros 58)) (0 ∷ 1 ∷ zeros 14) (1 ∷ zeros 31) (zeros 8192)
+abbrev read_keyed : Card
+read_keyed = drawn 1 (1 ∷ 3 ∷ zeros 14) (zeros 4 ++ (1 ∷ 2 ∷ zeros 58)) (0 ∷ 1 ∷ zeros 14) (1 ∷ zeros 31) (zeros 8192)
 
-abbrev writeKeyed : Card
-writeKeyed = drawn 1 (1 ∷ 5 ∷ zeros 14) (zeros 6 ++ (3 ∷ 4 ∷ zeros 56)) (0 ∷ 1 ∷ zeros 14) (1 ∷ zeros 31) (zeros 8192)
+abbrev write_keyed : Card
+write_keyed = drawn 1 (1 ∷ 5 ∷ zeros 14) (zeros 6 ++ (3 ∷ 4 ∷ zeros 56)) (0 ∷ 1 ∷ zeros 14) (1 ∷ zeros 31) (zeros 8192)
 
 -- The root has both keys, and there is no other block.
-abbrev keyedRoot : List ℕ → Card
-keyedRoot contents = drawn 0 (7 ∷ zeros 15) (1 ∷ 2 ∷ 3 ∷ 4 ∷ zeros 60) (zeros 16) (zeros 32) contents
+abbrev keyed_root : List ℕ → Card
+keyed_root contents = drawn 0 (7 ∷ zeros 15) (1 ∷ 2 ∷ 3 ∷ 4 ∷ zeros 60) (zeros 16) (zeros 32) contents
 
 -- The fresh card with an open window in its table, and 7 in every byte.
 abbrev opened : Card
-opened = card (freshInfo 16 1 512) (1 ∷ zeros 15) (zeros 64) (zeros 16) (zeros 32) (zeros 32) (0 ∷ 0 ∷ 10 ∷ zeros 29) (replicate 8192 7)
+opened = card (fresh_info 16 1 512) (1 ∷ zeros 15) (zeros 64) (zeros 16) (zeros 32) (zeros 32) (0 ∷ 0 ∷ 10 ∷ zeros 29) (replicate 8192 7)
 
 -- One byte in every place from block 2 on.
 abbrev pub below : ℕ → List ℕ
@@ -184,453 +184,453 @@ hosted call = record { call = call; lent = lending [] }
 abbrev reads : ℕ → Credential → ℕ → Request
 reads b credential interval = (read Host b credential interval).request
 
-abbrev pub atMostOne : ℕ → Bool
-atMostOne b = leb b 1
+abbrev pub at_most_one : ℕ → Bool
+at_most_one b = leb b 1
 
--- ---- refusal-unchanged
+-- ---- refusal_unchanged
 
-abbrev refused-read-empties-its-buffer : Row RefusalUnchanged
-refused-read-empties-its-buffer = refusalUnchangedRow playerCard (read Host 5 Nothing 0)
+abbrev refused_read_empties_its_buffer : Row RefusalUnchanged
+refused_read_empties_its_buffer = refusal_unchanged_row player_card (read Host 5 Nothing 0)
 
-abbrev delete-answers-a-refusal-and-deletes : Row RefusalUnchanged
-delete-answers-a-refusal-and-deletes = refusalUnchangedRow twoBelow (delete Service 0 1)
+abbrev delete_answers_a_refusal_and_deletes : Row RefusalUnchanged
+delete_answers_a_refusal_and_deletes = refusal_unchanged_row two_below (delete Service 0 1)
 
-abbrev tree-deleted-before-fifteen-is-judged : Row RefusalUnchanged
-tree-deleted-before-fifteen-is-judged = refusalUnchangedRow (keyed (zeros 8192)) (deleteTree Service 0 1)
+abbrev tree_deleted_before_fifteen_is_judged : Row RefusalUnchanged
+tree_deleted_before_fifteen_is_judged = refusal_unchanged_row (keyed (zeros 8192)) (delete_tree Service 0 1)
 
--- ---- ports-alike
+-- ---- ports_alike
 
-abbrev service-free-answers-nothing : Row PortsAlike
-service-free-answers-nothing = portsAlikeRow freeEither playerCard (lending [])
+abbrev service_free_answers_nothing : Row PortsAlike
+service_free_answers_nothing = ports_alike_row freeEither player_card (lending [])
 
-abbrev service-tick-stands-still : Row PortsAlike
-service-tick-stands-still = portsAlikeRow (tickEither (record { seconds = 5 })) playerCard (lending [])
+abbrev service_tick_stands_still : Row PortsAlike
+service_tick_stands_still = ports_alike_row (tickEither (record { seconds = 5 })) player_card (lending [])
 
-abbrev service-sweep-sweeps-nothing : Row PortsAlike
-service-sweep-sweeps-nothing = portsAlikeRow (sweepEither (record { most = 1 })) (twoWaiting (filled 7)) (lending [])
+abbrev service_sweep_sweeps_nothing : Row PortsAlike
+service_sweep_sweeps_nothing = ports_alike_row (sweepEither (record { most = 1 })) (two_waiting (filled 7)) (lending [])
 
--- ---- done-sound
+-- ---- done_sound
 
-abbrev freed-block-keeps-its-keys : Row DoneSound
-freed-block-keeps-its-keys = doneSoundRow (keyed (zeros 8192)) (delete Service 0 1)
+abbrev freed_block_keeps_its_keys : Row DoneSound
+freed_block_keeps_its_keys = done_sound_row (keyed (zeros 8192)) (delete Service 0 1)
 
-abbrev root-pointed-to-at-the-service-port : Row DoneSound
-root-pointed-to-at-the-service-port = doneSoundRow twoBelow (create Service 1 Nothing 0 Nothing)
+abbrev root_pointed_to_at_the_service_port : Row DoneSound
+root_pointed_to_at_the_service_port = done_sound_row two_below (create Service 1 Nothing 0 Nothing)
 
-abbrev no-seven-at-the-highest-multiplicity : Row DoneSound
-no-seven-at-the-highest-multiplicity = doneSoundRow (often 65535) (create Service 0 Nothing 2 Nothing)
+abbrev no_seven_at_the_highest_multiplicity : Row DoneSound
+no_seven_at_the_highest_multiplicity = done_sound_row (often 65535) (create Service 0 Nothing 2 Nothing)
 
-abbrev multiplicity-left-behind-the-pointers : Row DoneSound
-multiplicity-left-behind-the-pointers = doneSoundRow twoBelow (delete Service 0 2)
+abbrev multiplicity_left_behind_the_pointers : Row DoneSound
+multiplicity_left_behind_the_pointers = done_sound_row two_below (delete Service 0 2)
 
--- ---- counts-right
+-- ---- counts_right
 
-abbrev dropped-pointer-still-counted : Row CountsRight
-dropped-pointer-still-counted = countsRightRow twice (delete Service 1 2)
+abbrev dropped_pointer_still_counted : Row CountsRight
+dropped_pointer_still_counted = counts_right_row twice (delete Service 1 2)
 
-abbrev created-pointer-counted-at-its-source : Row CountsRight
-created-pointer-counted-at-its-source = countsRightRow twoBelow (create Service 1 Nothing 2 Nothing)
+abbrev created_pointer_counted_at_its_source : Row CountsRight
+created_pointer_counted_at_its_source = counts_right_row two_below (create Service 1 Nothing 2 Nothing)
 
-abbrev pointer-counted-once-whatever-its-multiplicity : Row CountsRight
-pointer-counted-once-whatever-its-multiplicity = countsRightRow twoBelow (create Service 0 Nothing 1 Nothing)
+abbrev pointer_counted_once_whatever_its_multiplicity : Row CountsRight
+pointer_counted_once_whatever_its_multiplicity = counts_right_row two_below (create Service 0 Nothing 1 Nothing)
 
--- ---- made-and-taken, ledger and counts-ledger
+-- ---- made_and_taken, ledger and counts_ledger
 
-abbrev existing-pointer-not-raised : Row MadeAndTaken
-existing-pointer-not-raised = madeAndTakenRow twoBelow (create Service 0 Nothing 1 Nothing) 0 1
+abbrev existing_pointer_not_raised : Row MadeAndTaken
+existing_pointer_not_raised = made_and_taken_row two_below (create Service 0 Nothing 1 Nothing) 0 1
 
-abbrev delete-takes-the-pointer-whole : Row MadeAndTaken
-delete-takes-the-pointer-whole = madeAndTakenRow (often 2) (delete Service 0 2) 0 2
+abbrev delete_takes_the_pointer_whole : Row MadeAndTaken
+delete_takes_the_pointer_whole = made_and_taken_row (often 2) (delete Service 0 2) 0 2
 
-abbrev allotted-block-pointed-to-twice : Row Ledger
-allotted-block-pointed-to-twice = ledgerRow playerCard (alloc Service 0 65535 1 ∷ []) 0 1
+abbrev allotted_block_pointed_to_twice : Row Ledger
+allotted_block_pointed_to_twice = ledger_row player_card (alloc Service 0 65535 1 ∷ []) 0 1
 
-abbrev multiplicities-not-shifted : Row Ledger
-multiplicities-not-shifted = ledgerRow (often 2) (alloc Service 0 65535 1 ∷ delete Service 0 2 ∷ []) 0 2
+abbrev multiplicities_not_shifted : Row Ledger
+multiplicities_not_shifted = ledger_row (often 2) (alloc Service 0 65535 1 ∷ delete Service 0 2 ∷ []) 0 2
 
-abbrev removed-pointer-taken-once : Row MadeAndTaken
-removed-pointer-taken-once = madeAndTakenRow (often 2) (deleteTree Service 0 2) 0 2
+abbrev removed_pointer_taken_once : Row MadeAndTaken
+removed_pointer_taken_once = made_and_taken_row (often 2) (delete_tree Service 0 2) 0 2
 
-abbrev raised-pointer-counted-twice : Row CountsLedger
-raised-pointer-counted-twice = countsLedgerRow twoBelow (create Service 0 Nothing 1 Nothing ∷ []) 1
+abbrev raised_pointer_counted_twice : Row CountsLedger
+raised_pointer_counted_twice = counts_ledger_row two_below (create Service 0 Nothing 1 Nothing ∷ []) 1
 
-abbrev lowered-pointer-still-counted : Row CountsLedger
-lowered-pointer-still-counted = countsLedgerRow (often 2) (delete Service 0 2 ∷ []) 2
+abbrev lowered_pointer_still_counted : Row CountsLedger
+lowered_pointer_still_counted = counts_ledger_row (often 2) (delete Service 0 2 ∷ []) 2
 
--- ---- pointers-ascending
+-- ---- pointers_ascending
 
-abbrev dropped-pointer-leaves-a-one : Row PointersAscending
-dropped-pointer-leaves-a-one = pointersAscendingRow twoBelow (delete Service 0 2)
+abbrev dropped_pointer_leaves_a_one : Row PointersAscending
+dropped_pointer_leaves_a_one = pointers_ascending_row two_below (delete Service 0 2)
 
-abbrev created-pointer-put-last : Row PointersAscending
-created-pointer-put-last = pointersAscendingRow chain (create Service 0 Nothing 2 Nothing)
+abbrev created_pointer_put_last : Row PointersAscending
+created_pointer_put_last = pointers_ascending_row chain (create Service 0 Nothing 2 Nothing)
 
--- ---- format-sound
+-- ---- format_sound
 
-abbrev format-leaves-the-pointers : Row FormatSound
-format-leaves-the-pointers = formatSoundRow 16 1 512 twoBelow
+abbrev format_leaves_the_pointers : Row FormatSound
+format_leaves_the_pointers = format_sound_row 16 1 512 two_below
 
-abbrev format-leaves-the-multiplicities : Row FormatSound
-format-leaves-the-multiplicities = formatSoundRow 16 1 512 twoBelow
+abbrev format_leaves_the_multiplicities : Row FormatSound
+format_leaves_the_multiplicities = format_sound_row 16 1 512 two_below
 
-abbrev format-leaves-the-windows : Row FormatSound
-format-leaves-the-windows = formatSoundRow 16 1 512 opened
+abbrev format_leaves_the_windows : Row FormatSound
+format_leaves_the_windows = format_sound_row 16 1 512 opened
 
 -- ---- untouched
 
-abbrev unallocated-block-written : Row Untouched
-unallocated-block-written = untouchedRow playerCard (write_all Service 5 Nothing 0 7) 5
+abbrev unallocated_block_written : Row Untouched
+unallocated_block_written = untouched_row player_card (write_all Service 5 Nothing 0 7) 5
 
-abbrev reused-block-unzeroed : Row Untouched
-reused-block-unzeroed = untouchedRow (withContents playerCard (replicate 8192 7)) (alloc Service 0 65535 1) 1
+abbrev reused_block_unzeroed : Row Untouched
+reused_block_unzeroed = untouched_row (with_contents player_card (replicate 8192 7)) (alloc Service 0 65535 1) 1
 
-abbrev waiting-block-taken : Row Untouched
-waiting-block-taken = untouchedRow (twoWaiting (filled 7)) (alloc Service 0 1 1) 1
+abbrev waiting_block_taken : Row Untouched
+waiting_block_taken = untouched_row (two_waiting (filled 7)) (alloc Service 0 1 1) 1
 
-abbrev free-sweeps-a-block : Row Untouched
-free-sweeps-a-block = untouchedRow (twoWaiting (filled 7)) free 1
+abbrev free_sweeps_a_block : Row Untouched
+free_sweeps_a_block = untouched_row (two_waiting (filled 7)) free 1
 
--- ---- freed-waits and swept-gone
+-- ---- freed_waits and swept_gone
 
-abbrev freed-at-once : Row FreedWaits
-freed-at-once = freedWaitsRow twoBelow (delete Service 0 1) 1
+abbrev freed_at_once : Row FreedWaits
+freed_at_once = freed_waits_row two_below (delete Service 0 1) 1
 
-abbrev freed-block-overwritten : Row FreedWaits
-freed-block-overwritten = freedWaitsRow (withContents chain (filled 7)) (deleteTree Service 0 1) 2
+abbrev freed_block_overwritten : Row FreedWaits
+freed_block_overwritten = freed_waits_row (with_contents chain (filled 7)) (delete_tree Service 0 1) 2
 
 -- The other card differs in the blocks that wait.
-abbrev swept-block-unfilled : Row SweptGone
-swept-block-unfilled = sweptGoneRow (twoWaiting (filled 7)) (differing 6) (record { most = 1 })
+abbrev swept_block_unfilled : Row SweptGone
+swept_block_unfilled = swept_gone_row (two_waiting (filled 7)) (differing 6) (record { most = 1 })
 
-abbrev swept-block-left-waiting : Row SweptGone
-swept-block-left-waiting = sweptGoneRow (twoWaiting (filled 7)) (differing 6) (record { most = 1 })
+abbrev swept_block_left_waiting : Row SweptGone
+swept_block_left_waiting = swept_gone_row (two_waiting (filled 7)) (differing 6) (record { most = 1 })
 
-abbrev highest-swept : Row SweptGone
-highest-swept = sweptGoneRow (twoWaiting (filled 7)) (differing 6) (record { most = 1 })
+abbrev highest_swept : Row SweptGone
+highest_swept = swept_gone_row (two_waiting (filled 7)) (differing 6) (record { most = 1 })
 
-abbrev one-more-swept : Row SweptGone
-one-more-swept = sweptGoneRow (twoWaiting (filled 7)) (differing 6) (record { most = 1 })
+abbrev one_more_swept : Row SweptGone
+one_more_swept = swept_gone_row (two_waiting (filled 7)) (differing 6) (record { most = 1 })
 
-abbrev sweep-answers-what-was-asked-for : Row SweptGone
-sweep-answers-what-was-asked-for = sweptGoneRow (twoWaiting (filled 7)) (differing 6) (record { most = 5 })
+abbrev sweep_answers_what_was_asked_for : Row SweptGone
+sweep_answers_what_was_asked_for = swept_gone_row (two_waiting (filled 7)) (differing 6) (record { most = 5 })
 
--- ---- refused-iff
+-- ---- refused_iff
 
-abbrev done-though-refused : Row RefusedIff
-done-though-refused = refusedIffRow blankCard free
+abbrev done_though_refused : Row RefusedIff
+done_though_refused = refused_iff_row blank_card free
 
-abbrev last-refusal-answered : Row RefusedIff
-last-refusal-answered = refusedIffRow playerCard (read Host 5 Nothing 86401)
+abbrev last_refusal_answered : Row RefusedIff
+last_refusal_answered = refused_iff_row player_card (read Host 5 Nothing 86401)
 
--- ---- run-found, run-adjoins and run-nearest: a run below the root, by its hint and count
+-- ---- run_found, run_adjoins and run_nearest: a run below the root, by its hint and count
 
 abbrev below0 : ℕ → ℕ → AllocOperands
 below0 hint count = record { reference = 0; credential = Nothing; hint = hint; count = count }
 
-abbrev run-in-the-first-stretch-alone : Row RunFound
-run-in-the-first-stretch-alone = runFoundRow Service gapped (below0 65535 3) (lending [])
+abbrev run_in_the_first_stretch_alone : Row RunFound
+run_in_the_first_stretch_alone = run_found_row Service gapped (below0 65535 3) (lending [])
 
-abbrev fourteen-before-ten : Row RunFound
-fourteen-before-ten = runFoundRow Service playerCard (below0 65535 16) (lending [])
+abbrev fourteen_before_ten : Row RunFound
+fourteen_before_ten = run_found_row Service player_card (below0 65535 16) (lending [])
 
-abbrev eleven-before-fourteen : Row RunFound
-eleven-before-fourteen = runFoundRow Service (apart 0) (below0 65535 5) (lending [])
+abbrev eleven_before_fourteen : Row RunFound
+eleven_before_fourteen = run_found_row Service (apart 0) (below0 65535 5) (lending [])
 
-abbrev allocated-block-in-the-middle : Row RunAdjoins
-allocated-block-in-the-middle = runAdjoinsRow Service gapped (below0 65535 3) (lending [])
+abbrev allocated_block_in_the_middle : Row RunAdjoins
+allocated_block_in_the_middle = run_adjoins_row Service gapped (below0 65535 3) (lending [])
 
-abbrev run-past-the-last-block : Row RunAdjoins
-run-past-the-last-block = runAdjoinsRow Service playerCard (below0 15 2) (lending [])
+abbrev run_past_the_last_block : Row RunAdjoins
+run_past_the_last_block = run_adjoins_row Service player_card (below0 15 2) (lending [])
 
-abbrev waiting-block-in-a-run : Row RunAdjoins
-waiting-block-in-a-run = runAdjoinsRow Service (twoWaiting (filled 7)) (below0 65535 2) (lending [])
+abbrev waiting_block_in_a_run : Row RunAdjoins
+waiting_block_in_a_run = run_adjoins_row Service (two_waiting (filled 7)) (below0 65535 2) (lending [])
 
-abbrev run-given-descending : Row RunAdjoins
-run-given-descending = runAdjoinsRow Service playerCard (below0 8 3) (lending [])
+abbrev run_given_descending : Row RunAdjoins
+run_given_descending = run_adjoins_row Service player_card (below0 8 3) (lending [])
 
-abbrev nearest-block-for-the-first : Row RunNearest
-nearest-block-for-the-first = runNearestRow Service (apart 24) (below0 9 3) (lending []) 12
+abbrev nearest_block_for_the_first : Row RunNearest
+nearest_block_for_the_first = run_nearest_row Service (apart 24) (below0 9 3) (lending []) 12
 
-abbrev hint-passed-over : Row RunNearest
-hint-passed-over = runNearestRow Service playerCard (below0 8 3) (lending []) 8
+abbrev hint_passed_over : Row RunNearest
+hint_passed_over = run_nearest_row Service player_card (below0 8 3) (lending []) 8
 
--- ---- tree-least, tree-spares, tree-cycle and tree-keyed: a pointer removed, by its ends, and with it a tree
+-- ---- tree_least, tree_spares, tree_cycle and tree_keyed: a pointer removed, by its ends, and with it a tree
 
 abbrev tree_of : ℕ → ℕ → DeleteOperands
 tree_of a b = record { source = a; credential = Nothing; destination = b }
 
-abbrev noRoot : ℕ → Bool
-noRoot b = ltb 0 b
+abbrev no_root : ℕ → Bool
+no_root b = ltb 0 b
 
-abbrev one-generation-only : Row TreeLeast
-one-generation-only = treeLeastRow Service chain (tree_of 0 1) (lending []) noRoot
+abbrev one_generation_only : Row TreeLeast
+one_generation_only = tree_least_row Service chain (tree_of 0 1) (lending []) no_root
 
-abbrev two-rounds-too-few : Row TreeLeast
-two-rounds-too-few = treeLeastRow Service path (tree_of 0 1) (lending []) noRoot
+abbrev two_rounds_too_few : Row TreeLeast
+two_rounds_too_few = tree_least_row Service path (tree_of 0 1) (lending []) no_root
 
-abbrev pointer-from-outside-overlooked : Row TreeLeast
-pointer-from-outside-overlooked = treeLeastRow Service twice (tree_of 0 1) (lending []) (λ b. eqb b 1)
+abbrev pointer_from_outside_overlooked : Row TreeLeast
+pointer_from_outside_overlooked = tree_least_row Service twice (tree_of 0 1) (lending []) (λ b. eqb b 1)
 
-abbrev root-freed-with-its-tree : Row TreeLeast
-root-freed-with-its-tree = treeLeastRow Service chain (tree_of 0 1) (lending []) noRoot
+abbrev root_freed_with_its_tree : Row TreeLeast
+root_freed_with_its_tree = tree_least_row Service chain (tree_of 0 1) (lending []) no_root
 
-abbrev counts-left-with-freed-sources : Row TreeSpares
-counts-left-with-freed-sources = treeSparesRow Service twice (tree_of 0 1) (lending [])
+abbrev counts_left_with_freed_sources : Row TreeSpares
+counts_left_with_freed_sources = tree_spares_row Service twice (tree_of 0 1) (lending [])
 
-abbrev freed-blocks-keep-their-pointers : Row TreeSpares
-freed-blocks-keep-their-pointers = treeSparesRow Service twice (tree_of 0 1) (lending [])
+abbrev freed_blocks_keep_their_pointers : Row TreeSpares
+freed_blocks_keep_their_pointers = tree_spares_row Service twice (tree_of 0 1) (lending [])
 
-abbrev multiplicities-left-in-their-places : Row TreeSpares
-multiplicities-left-in-their-places = treeSparesRow Service shared (tree_of 0 1) (lending [])
+abbrev multiplicities_left_in_their_places : Row TreeSpares
+multiplicities_left_in_their_places = tree_spares_row Service shared (tree_of 0 1) (lending [])
 
-abbrev greatest-set-freed : Row TreeCycle
-greatest-set-freed = treeCycleRow Service cycle (tree_of 0 1) (lending []) noRoot
+abbrev greatest_set_freed : Row TreeCycle
+greatest_set_freed = tree_cycle_row Service cycle (tree_of 0 1) (lending []) no_root
 
-abbrev destination-freed-though-pointed-to : Row TreeCycle
-destination-freed-though-pointed-to = treeCycleRow Service cycle (tree_of 0 1) (lending []) noRoot
+abbrev destination_freed_though_pointed_to : Row TreeCycle
+destination_freed_though_pointed_to = tree_cycle_row Service cycle (tree_of 0 1) (lending []) no_root
 
-abbrev fifteen-judged-on-read-keys : Row TreeKeyed
-fifteen-judged-on-read-keys = treeKeyedRow Service writeKeyed (tree_of 0 1) (lending [])
+abbrev fifteen_judged_on_read_keys : Row TreeKeyed
+fifteen_judged_on_read_keys = tree_keyed_row Service write_keyed (tree_of 0 1) (lending [])
 
-abbrev fifteen-judged-on-the-destination-alone : Row TreeKeyed
-fifteen-judged-on-the-destination-alone = treeKeyedRow Service chainKeyed (tree_of 0 1) (lending [])
+abbrev fifteen_judged_on_the_destination_alone : Row TreeKeyed
+fifteen_judged_on_the_destination_alone = tree_keyed_row Service chain_keyed (tree_of 0 1) (lending [])
 
--- ---- tree-hides
+-- ---- tree_hides
 
 -- The root points to block 1, and that to block 2, which has both keys. The root's window for writing is open.
-abbrev belowOpen : Card
-belowOpen =
+abbrev below_open : Card
+below_open =
     timed (drawn 2 (1 ∷ 1 ∷ 7 ∷ zeros 13) (zeros 8 ++ (5 ∷ 6 ∷ 7 ∷ 8 ∷ zeros 52)) (0 ∷ 1 ∷ 1 ∷ zeros 13) (1 ∷ 65538 ∷ zeros 30) (below 5)) 0 (0 ∷ 10 ∷ zeros 30)
 
-abbrev treeFrom1 : Credential → DeleteOperands
-treeFrom1 credential = record { source = 1; credential = credential; destination = 2 }
+abbrev tree_from1 : Credential → DeleteOperands
+tree_from1 credential = record { source = 1; credential = credential; destination = 2 }
 
-abbrev fifteen-never-judged : Row TreeHides
-fifteen-never-judged = treeHidesRow nested (treeFrom1 (KeyCredential 3 4)) (lending []) atMostOne
+abbrev fifteen_never_judged : Row TreeHides
+fifteen_never_judged = tree_hides_row nested (tree_from1 (KeyCredential 3 4)) (lending []) at_most_one
 
-abbrev fifteen-judged-on-the-source : Row TreeHides
-fifteen-judged-on-the-source = treeHidesRow belowOpen (treeFrom1 (Reference 0)) (lending []) atMostOne
+abbrev fifteen_judged_on_the_source : Row TreeHides
+fifteen_judged_on_the_source = tree_hides_row below_open (tree_from1 (Reference 0)) (lending []) at_most_one
 
--- ---- one-key-unsealed
+-- ---- one_key_unsealed
 
-abbrev sealed-by-one-key : Row OneKeyUnsealed
-sealed-by-one-key = oneKeyUnsealedRow (λ high low. false) readKeyed Reading 1
+abbrev sealed_by_one_key : Row OneKeyUnsealed
+sealed_by_one_key = one_key_unsealed_row (λ high low. false) read_keyed Reading 1
 
-abbrev sealed-by-the-write-key : Row OneKeyUnsealed
-sealed-by-the-write-key = oneKeyUnsealedRow (λ high low. false) writeKeyed Writing 1
+abbrev sealed_by_the_write_key : Row OneKeyUnsealed
+sealed_by_the_write_key = one_key_unsealed_row (λ high low. false) write_keyed Writing 1
 
--- ---- other-key-kept, own-key-set, both-windows-closed and write-access-needed: a key of block 1, by its credential and the new key
+-- ---- other_key_kept, own_key_set, both_windows_closed and write_access_needed: a key of block 1, by its credential and the new key
 
 abbrev of1 : Credential → NewKey → KeyOperands
 of1 credential key = record { block = 1; credential = credential; key = key }
 
 -- Block 1 has both keys, and both of its windows are open.
-abbrev keyedOpen : Card
-keyedOpen = timed (keyed (zeros 8192)) 0 (0 ∷ 0 ∷ 10 ∷ 10 ∷ zeros 28)
+abbrev keyed_open : Card
+keyed_open = timed (keyed (zeros 8192)) 0 (0 ∷ 0 ∷ 10 ∷ 10 ∷ zeros 28)
 
-abbrev write-key-cleared-with-the-read-key : Row OtherKeyKept
-write-key-cleared-with-the-read-key = otherKeyKeptRow Service (keyed (zeros 8192)) Reading (of1 Nothing (Present 5 6)) (lending [])
+abbrev write_key_cleared_with_the_read_key : Row OtherKeyKept
+write_key_cleared_with_the_read_key = other_key_kept_row Service (keyed (zeros 8192)) Reading (of1 Nothing (Present 5 6)) (lending [])
 
-abbrev flag-of-the-other-key-cleared : Row OtherKeyKept
-flag-of-the-other-key-cleared = otherKeyKeptRow Service (keyed (zeros 8192)) Reading (of1 Nothing (Present 5 6)) (lending [])
+abbrev flag_of_the_other_key_cleared : Row OtherKeyKept
+flag_of_the_other_key_cleared = other_key_kept_row Service (keyed (zeros 8192)) Reading (of1 Nothing (Present 5 6)) (lending [])
 
-abbrev absent-key-flagged : Row OwnKeySet
-absent-key-flagged = ownKeySetRow Service (keyed (zeros 8192)) Writing (of1 Nothing Absent) (lending [])
+abbrev absent_key_flagged : Row OwnKeySet
+absent_key_flagged = own_key_set_row Service (keyed (zeros 8192)) Writing (of1 Nothing Absent) (lending [])
 
-abbrev low-word-set-first : Row OwnKeySet
-low-word-set-first = ownKeySetRow Service twoBelow Writing (of1 Nothing (Present 3 4)) (lending [])
+abbrev low_word_set_first : Row OwnKeySet
+low_word_set_first = own_key_set_row Service two_below Writing (of1 Nothing (Present 3 4)) (lending [])
 
-abbrev window-of-its-own-mode-closed : Row BothWindowsClosed
-window-of-its-own-mode-closed = bothWindowsClosedRow Host keyedOpen Writing (of1 (KeyCredential 3 4) (Present 3 4)) (lending [])
+abbrev window_of_its_own_mode_closed : Row BothWindowsClosed
+window_of_its_own_mode_closed = both_windows_closed_row Host keyed_open Writing (of1 (KeyCredential 3 4) (Present 3 4)) (lending [])
 
-abbrev windows-left-by-an-absent-key : Row BothWindowsClosed
-windows-left-by-an-absent-key = bothWindowsClosedRow Service keyedOpen Reading (of1 Nothing Absent) (lending [])
+abbrev windows_left_by_an_absent_key : Row BothWindowsClosed
+windows_left_by_an_absent_key = both_windows_closed_row Service keyed_open Reading (of1 Nothing Absent) (lending [])
 
-abbrev old-read-key-sets-a-new-one : Row WriteAccessNeeded
-old-read-key-sets-a-new-one = writeAccessNeededRow (keyed (zeros 8192)) Reading (of1 (KeyCredential 1 2) (Present 5 6)) (lending [])
+abbrev old_read_key_sets_a_new_one : Row WriteAccessNeeded
+old_read_key_sets_a_new_one = write_access_needed_row (keyed (zeros 8192)) Reading (of1 (KeyCredential 1 2) (Present 5 6)) (lending [])
 
-abbrev key-taken-away-without-access : Row WriteAccessNeeded
-key-taken-away-without-access = writeAccessNeededRow twoBelow Writing (of1 Nothing Absent) (lending [])
+abbrev key_taken_away_without_access : Row WriteAccessNeeded
+key_taken_away_without_access = write_access_needed_row two_below Writing (of1 Nothing Absent) (lending [])
 
--- ---- window-set-by
+-- ---- window_set_by
 
-abbrev window-set-by-a-refused-read : Row WindowSetBy
-window-set-by-a-refused-read = windowSetByRow twoBelow (read Host 1 Nothing 10) Reading 1
+abbrev window_set_by_a_refused_read : Row WindowSetBy
+window_set_by_a_refused_read = window_set_by_row two_below (read Host 1 Nothing 10) Reading 1
 
-abbrev service-read-opens-a-window : Row WindowSetBy
-service-read-opens-a-window = windowSetByRow playerCard (read Service 0 Nothing 10) Reading 0
+abbrev service_read_opens_a_window : Row WindowSetBy
+service_read_opens_a_window = window_set_by_row player_card (read Service 0 Nothing 10) Reading 0
 
--- ---- window-later, interval-zero-kept and windows-kept: the root with both keys, at second 20, its windows with these ends
+-- ---- window_later, interval_zero_kept and windows_kept: the root with both keys, at second 20, its windows with these ends
 
 abbrev at20 : ℕ → ℕ → Card
-at20 reading writing = timed (keyedRoot (zeros 8192)) 20 (reading ∷ writing ∷ zeros 30)
+at20 reading writing = timed (keyed_root (zeros 8192)) 20 (reading ∷ writing ∷ zeros 30)
 
 abbrev force : ℕ → Sent
 force b = send Host (Force (record { block = b }))
 
-abbrev renewReading : ℕ → Sent
-renewReading interval = send Host (Renew (record { mode = 0; block = 0; high = 1; low = 2; interval = interval }))
+abbrev renew_reading : ℕ → Sent
+renew_reading interval = send Host (Renew (record { mode = 0; block = 0; high = 1; low = 2; interval = interval }))
 
-abbrev interval-counted-from-the-end : Row WindowLater
-interval-counted-from-the-end = windowLaterRow (at20 30 0) (read Host 0 (KeyCredential 1 2) 15) (byRead _)
+abbrev interval_counted_from_the_end : Row WindowLater
+interval_counted_from_the_end = window_later_row (at20 30 0) (read Host 0 (KeyCredential 1 2) 15) (by_read _)
 
-abbrev renew-leaves-an-open-window : Row WindowLater
-renew-leaves-an-open-window = windowLaterRow (at20 30 0) (renewReading 15) (byRenew _)
+abbrev renew_leaves_an_open_window : Row WindowLater
+renew_leaves_an_open_window = window_later_row (at20 30 0) (renew_reading 15) (by_renew _)
 
-abbrev later-end-by-interval-0 : Row IntervalZeroKept
-later-end-by-interval-0 = intervalZeroKeptRow (at20 10 0) (read Host 0 (KeyCredential 1 2) 0) (byRead _)
+abbrev later_end_by_interval_0 : Row IntervalZeroKept
+later_end_by_interval_0 = interval_zero_kept_row (at20 10 0) (read Host 0 (KeyCredential 1 2) 0) (by_read _)
 
-abbrev interval-0-closes : Row IntervalZeroKept
-interval-0-closes = intervalZeroKeptRow (at20 0 30) (write_all Host 0 (KeyCredential 3 4) 0 7) (byWrite _)
+abbrev interval_0_closes : Row IntervalZeroKept
+interval_0_closes = interval_zero_kept_row (at20 0 30) (write_all Host 0 (KeyCredential 3 4) 0 7) (by_write _)
 
-abbrev renew-cuts : Row WindowsKept
-renew-cuts = windowsKeptRow (at20 30 0) (renewReading 5) Reading 0
+abbrev renew_cuts : Row WindowsKept
+renew_cuts = windows_kept_row (at20 30 0) (renew_reading 5) Reading 0
 
-abbrev interval-of-5-cuts : Row WindowsKept
-interval-of-5-cuts = windowsKeptRow (at20 30 0) (read Host 0 (KeyCredential 1 2) 5) Reading 0
+abbrev interval_of_5_cuts : Row WindowsKept
+interval_of_5_cuts = windows_kept_row (at20 30 0) (read Host 0 (KeyCredential 1 2) 5) Reading 0
 
-abbrev write-compares-with-the-read-window : Row WindowsKept
-write-compares-with-the-read-window = windowsKeptRow (at20 30 60) (write_all Host 0 (KeyCredential 3 4) 5 7) Writing 0
+abbrev write_compares_with_the_read_window : Row WindowsKept
+write_compares_with_the_read_window = windows_kept_row (at20 30 60) (write_all Host 0 (KeyCredential 3 4) 5 7) Writing 0
 
-abbrev force-shuts-another-block : Row WindowsKept
-force-shuts-another-block = windowsKeptRow keyedOpen (force 0) Reading 1
+abbrev force_shuts_another_block : Row WindowsKept
+force_shuts_another_block = windows_kept_row keyed_open (force 0) Reading 1
 
--- What `windows-kept` excepts happens: on a sound card FORCE, either key change, freeing and FORMAT each let a window end sooner.
+-- What `windows_kept` excepts happens: on a sound card FORCE, either key change, freeing and FORMAT each let a window end sooner.
 abbrev shortens : Card → Card → Mode → ℕ → Bool
-shortens c d m b = isSound c && endsSooner c d m b
+shortens c d m b = is_sound c && ends_sooner c d m b
 
-pub force-shortens : shortens (at20 30 60) (performed (at20 30 60) (force 0)).after Reading 0 ≡ true
+pub force_shortens : shortens (at20 30 60) (performed (at20 30 60) (force 0)).after Reading 0 ≡ true
 unfolding computing
-force-shortens = refl
+force_shortens = refl
 
-pub key-read-shortens : shortens (at20 30 60) (performed (at20 30 60) (key Service Reading 0 Nothing (Present 5 6))).after Writing 0 ≡ true
+pub key_read_shortens : shortens (at20 30 60) (performed (at20 30 60) (key Service Reading 0 Nothing (Present 5 6))).after Writing 0 ≡ true
 unfolding computing
-key-read-shortens = refl
+key_read_shortens = refl
 
-pub key-write-shortens : shortens (at20 30 60) (performed (at20 30 60) (key Service Writing 0 Nothing (Present 5 6))).after Reading 0 ≡ true
+pub key_write_shortens : shortens (at20 30 60) (performed (at20 30 60) (key Service Writing 0 Nothing (Present 5 6))).after Reading 0 ≡ true
 unfolding computing
-key-write-shortens = refl
+key_write_shortens = refl
 
-pub freeing-shortens : shortens keyedOpen (performed keyedOpen (delete Service 0 1)).after Reading 1 ≡ true
+pub freeing_shortens : shortens keyed_open (performed keyed_open (delete Service 0 1)).after Reading 1 ≡ true
 unfolding computing
-freeing-shortens = refl
+freeing_shortens = refl
 
-pub format-shortens : shortens (at20 30 60) (format 16 1 512 (at20 30 60)).after Writing 0 ≡ true
+pub format_shortens : shortens (at20 30 60) (format 16 1 512 (at20 30 60)).after Writing 0 ≡ true
 unfolding computing
-format-shortens = refl
+format_shortens = refl
 
--- ---- same-hidden
+-- ---- same_hidden
 
-abbrev reach-looks-at-contents : Row SameHidden
-reach-looks-at-contents = sameHiddenRow (λ high low. eqb high 9 && eqb low 2) (keyed (replicate 8192 9)) (zeros 8192) (λ b. eqb b 0) Reading 1
+abbrev reach_looks_at_contents : Row SameHidden
+reach_looks_at_contents = same_hidden_row (λ high low. eqb high 9 && eqb low 2) (keyed (replicate 8192 9)) (zeros 8192) (λ b. eqb b 0) Reading 1
 
 -- Without a key presented a root with both keys is sealed, whatever it holds.
-abbrev sealed-by-its-contents : Row SameHidden
-sealed-by-its-contents = sameHiddenRow (λ high low. false) (keyedRoot (replicate 8192 9)) (zeros 8192) (λ b. false) Reading 0
+abbrev sealed_by_its_contents : Row SameHidden
+sealed_by_its_contents = same_hidden_row (λ high low. false) (keyed_root (replicate 8192 9)) (zeros 8192) (λ b. false) Reading 0
 
 -- ---- secrecy
 
-abbrev any-key-opens : Row Secrecy
-any-key-opens = secrecyRow nested (below 6) atMostOne (reads 2 (KeyCredential 5 0) 0 ∷ [])
+abbrev any_key_opens : Row Secrecy
+any_key_opens = secrecy_row nested (below 6) at_most_one (reads 2 (KeyCredential 5 0) 0 ∷ [])
 
-abbrev reference-stands-in-for-a-key : Row Secrecy
-reference-stands-in-for-a-key = secrecyRow nested (below 6) atMostOne (reads 1 (KeyCredential 1 2) 10 ∷ reads 2 (Reference 1) 0 ∷ [])
+abbrev reference_stands_in_for_a_key : Row Secrecy
+reference_stands_in_for_a_key = secrecy_row nested (below 6) at_most_one (reads 1 (KeyCredential 1 2) 10 ∷ reads 2 (Reference 1) 0 ∷ [])
 
-abbrev closed-parent-opens-its-children : Row Secrecy
-closed-parent-opens-its-children = secrecyRow nested (below 6) atMostOne (reads 3 (Reference 2) 0 ∷ [])
+abbrev closed_parent_opens_its_children : Row Secrecy
+closed_parent_opens_its_children = secrecy_row nested (below 6) at_most_one (reads 3 (Reference 2) 0 ∷ [])
 
-abbrev renew-presents-no-key : Row Secrecy
-renew-presents-no-key = secrecyRow nested (below 6) atMostOne (hosted (Renew (record { mode = 0; block = 2; high = 5; low = 6; interval = 10 })) ∷ reads 3 (Reference 2) 0 ∷ [])
+abbrev renew_presents_no_key : Row Secrecy
+renew_presents_no_key = secrecy_row nested (below 6) at_most_one (hosted (Renew (record { mode = 0; block = 2; high = 5; low = 6; interval = 10 })) ∷ reads 3 (Reference 2) 0 ∷ [])
 
-abbrev last-pointer-to-the-source : Row Secrecy
-last-pointer-to-the-source = secrecyRow nested (below 6) atMostOne (hosted (Delete (record { source = 1; credential = KeyCredential 3 4; destination = 4 })) ∷ hosted (Sweep (record { most = 1 })) ∷ [])
+abbrev last_pointer_to_the_source : Row Secrecy
+last_pointer_to_the_source = secrecy_row nested (below 6) at_most_one (hosted (Delete (record { source = 1; credential = KeyCredential 3 4; destination = 4 })) ∷ hosted (Sweep (record { most = 1 })) ∷ [])
 
 -- Two blocks wait, and differ; the others are within reach, or free.
 abbrev sweeps : ℕ → List Request
 sweeps most = hosted (Sweep (record { most = most })) ∷ []
 
-abbrev sweep-reads-what-it-sweeps : Row Secrecy
-sweep-reads-what-it-sweeps = secrecyRow (twoWaiting (differing 1)) (differing 2) (λ b. eqb b 0 || eqb b 2) (sweeps 2)
+abbrev sweep_reads_what_it_sweeps : Row Secrecy
+sweep_reads_what_it_sweeps = secrecy_row (two_waiting (differing 1)) (differing 2) (λ b. eqb b 0 || eqb b 2) (sweeps 2)
 
-abbrev byte-left-by-sweep : Row Secrecy
-byte-left-by-sweep = secrecyRow (twoWaiting (differing 1)) (differing 2) (λ b. eqb b 0 || eqb b 2) (sweeps 2)
+abbrev byte_left_by_sweep : Row Secrecy
+byte_left_by_sweep = secrecy_row (two_waiting (differing 1)) (differing 2) (λ b. eqb b 0 || eqb b 2) (sweeps 2)
 
--- ---- rent-summed, rent-unchanged, rent-nearest and rent-alike
+-- ---- rent_summed, rent_unchanged, rent_nearest and rent_alike
 
-abbrev rent-left-to-the-next-tick : Row RentSummed
-rent-left-to-the-next-tick = rentSummedRow twoBelow (tick 5 ∷ [])
+abbrev rent_left_to_the_next_tick : Row RentSummed
+rent_left_to_the_next_tick = rent_summed_row two_below (tick 5 ∷ [])
 
-abbrev rent-replaces-the-total : Row RentSummed
-rent-replaces-the-total = rentSummedRow twoBelow (tick 5 ∷ tick 7 ∷ [])
+abbrev rent_replaces_the_total : Row RentSummed
+rent_replaces_the_total = rent_summed_row two_below (tick 5 ∷ tick 7 ∷ [])
 
-abbrev rent-paid-by-asking : Row RentUnchanged
-rent-paid-by-asking = rentUnchangedRow (rentedFor 86400 43200) (record { price = 1000 })
+abbrev rent_paid_by_asking : Row RentUnchanged
+rent_paid_by_asking = rent_unchanged_row (rented_for 86400 43200) (record { price = 1000 })
 
-abbrev second-passes-by-asking : Row RentUnchanged
-second-passes-by-asking = rentUnchangedRow (rentedFor 86400 43200) (record { price = 1000 })
+abbrev second_passes_by_asking : Row RentUnchanged
+second_passes_by_asking = rent_unchanged_row (rented_for 86400 43200) (record { price = 1000 })
 
-abbrev half-a-cent-downward : Row RentNearest
-half-a-cent-downward = rentNearestRow (rentedFor 86400 43200) (record { price = 1000 }) 1
+abbrev half_a_cent_downward : Row RentNearest
+half_a_cent_downward = rent_nearest_row (rented_for 86400 43200) (record { price = 1000 }) 1
 
-abbrev every-fraction-upward : Row RentNearest
-every-fraction-upward = rentNearestRow (rentedFor 86400 43199) (record { price = 1000 }) 0
+abbrev every_fraction_upward : Row RentNearest
+every_fraction_upward = rent_nearest_row (rented_for 86400 43199) (record { price = 1000 }) 0
 
 -- Four blocks for so long that another thousandth of a cent is seen.
 abbrev ticks : List Request
 ticks = hosted (Tick (record { seconds = 100000000 })) ∷ []
 
-abbrev price-read-from-contents : Row RentAlike
-price-read-from-contents = rentAlikeRow nested (below 6) atMostOne ticks (record { price = 1000 })
+abbrev price_read_from_contents : Row RentAlike
+price_read_from_contents = rent_alike_row nested (below 6) at_most_one ticks (record { price = 1000 })
 
-abbrev seconds-read-from-contents : Row RentAlike
-seconds-read-from-contents = rentAlikeRow nested (below 6) atMostOne ticks (record { price = 1000 })
+abbrev seconds_read_from_contents : Row RentAlike
+seconds_read_from_contents = rent_alike_row nested (below 6) at_most_one ticks (record { price = 1000 })
 
--- ---- trials and rent-trials: a row of each table, by its place
+-- ---- trials and rent_trials: a row of each table, by its place
 
-abbrev root-counted-as-free : Row Trials
-root-counted-as-free = trialsRow 0
+abbrev root_counted_as_free : Row Trials
+root_counted_as_free = trials_row 0
 
-abbrev window-open-at-its-end : Row Trials
-window-open-at-its-end = trialsRow 7
+abbrev window_open_at_its_end : Row Trials
+window_open_at_its_end = trials_row 7
 
-abbrev destination-tested-for-reading : Row Trials
-destination-tested-for-reading = trialsRow 13
+abbrev destination_tested_for_reading : Row Trials
+destination_tested_for_reading = trials_row 13
 
-abbrev write-window-serves-reading : Row Trials
-write-window-serves-reading = trialsRow 15
+abbrev write_window_serves_reading : Row Trials
+write_window_serves_reading = trials_row 15
 
-abbrev nine-judged-on-places : Row Trials
-nine-judged-on-places = trialsRow 22
+abbrev nine_judged_on_places : Row Trials
+nine_judged_on_places = trials_row 22
 
-abbrev eleven-on-an-existing-pointer : Row Trials
-eleven-on-an-existing-pointer = trialsRow 24
+abbrev eleven_on_an_existing_pointer : Row Trials
+eleven_on_an_existing_pointer = trials_row 24
 
-abbrev rent-for-the-roots : Row Trials
-rent-for-the-roots = trialsRow 31
+abbrev rent_for_the_roots : Row Trials
+rent_for_the_roots = trials_row 31
 
-abbrev free-counts-waiting-blocks : Row Trials
-free-counts-waiting-blocks = trialsRow 12
+abbrev free_counts_waiting_blocks : Row Trials
+free_counts_waiting_blocks = trials_row 12
 
-abbrev waiting-block-pays-rent : Row Trials
-waiting-block-pays-rent = trialsRow 32
+abbrev waiting_block_pays_rent : Row Trials
+waiting_block_pays_rent = trials_row 32
 
-abbrev waiting-block-goes-with-a-tree : Row Trials
-waiting-block-goes-with-a-tree = trialsRow 35
+abbrev waiting_block_goes_with_a_tree : Row Trials
+waiting_block_goes_with_a_tree = trials_row 35
 
-abbrev waiting-block-refused : Row WaitingTrials
-waiting-block-refused = waitingTrialsRow 1
+abbrev waiting_block_refused : Row WaitingTrials
+waiting_block_refused = waiting_trials_row 1
 
-abbrev window-of-a-waiting-block-allowed : Row WaitingTrials
-window-of-a-waiting-block-allowed = waitingTrialsRow 4
+abbrev window_of_a_waiting_block_allowed : Row WaitingTrials
+window_of_a_waiting_block_allowed = waiting_trials_row 4
 
-abbrev flag-9-taken-for-allocated : Row WaitingTrials
-flag-9-taken-for-allocated = waitingTrialsRow 8
+abbrev flag_9_taken_for_allocated : Row WaitingTrials
+flag_9_taken_for_allocated = waiting_trials_row 8
 
-abbrev highest-price-refused : Row RentTrials
-highest-price-refused = rentTrialsRow 5
+abbrev highest_price_refused : Row RentTrials
+highest_price_refused = rent_trials_row 5
 
-abbrev total-compared-with-the-blocks-of-the-card : Row RentTrials
-total-compared-with-the-blocks-of-the-card = rentTrialsRow 7
+abbrev total_compared_with_the_blocks_of_the_card : Row RentTrials
+total_compared_with_the_blocks_of_the_card = rent_trials_row 7
 
 -- ---- the row of an edit
 

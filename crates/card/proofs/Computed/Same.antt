@@ -4,7 +4,7 @@ use mathlib.Core.Bool.{Bool, true, false, ◌&&◌}
 use mathlib.Core.List.{List, [], ◌∷◌}
 use lib.Dec.{eqb}
 use Rattle.card.specs.Card.{Card}
-use Rattle.card.specs.Calls.{answerNumber, answerValues}
+use Rattle.card.specs.Calls.{answer_number, answer_values}
 use Rattle.card.specs.Session.{Reply}
 
 unfoldable pub same_list : List ℕ → List ℕ → Bool
@@ -22,8 +22,8 @@ same_lists (x ∷ xs) (y ∷ ys) = same_list x y && same_lists xs ys
 -- ---- what is compared
 
 -- A card's record and its seven tables.
-abbrev pub cardNumbers : Card → List (List ℕ)
-cardNumbers c =
+abbrev pub card_numbers : Card → List (List ℕ)
+card_numbers c =
     (c.public.info.blocks ∷ c.public.info.roots ∷ c.public.info.bytes ∷ c.public.info.used ∷ c.public.info.time ∷ c.public.info.total ∷ [])
     ∷ c.public.flags
     ∷ c.keys
@@ -35,6 +35,6 @@ cardNumbers c =
     ∷ []
 
 -- The answers to a list of calls, with what the buffers hold.
-unfoldable pub replyNumbers : List Reply → List (List ℕ)
-replyNumbers [] = []
-replyNumbers (r ∷ rs) = (answerNumber r.answer ∷ answerValues r.answer) ∷ r.out ∷ r.places ∷ replyNumbers rs
+unfoldable pub reply_numbers : List Reply → List (List ℕ)
+reply_numbers [] = []
+reply_numbers (r ∷ rs) = (answer_number r.answer ∷ answer_values r.answer) ∷ r.out ∷ r.places ∷ reply_numbers rs

@@ -1,4 +1,4 @@
--- `done-sound`, `counts-right`, `pointers-ascending` and `format-sound` as tests, which follow from them.
+-- `done_sound`, `counts_right`, `pointers_ascending` and `format_sound` as tests, which follow from them.
 use Prim.Native.Nat.{ℕ}
 use mathlib.Core.Bool.{Bool, true, ◌&&◌}
 use mathlib.Core.Path.{◌≡◌}
@@ -6,55 +6,55 @@ use lib.Dec.{eqb}
 use lib.ListN.{drop}
 use borrow.Author.Tests.{eq-eqb}
 use Rattle.card.specs.Lists.{all, all_below}
-use Rattle.card.specs.Pointers.{ascending, pointersTo}
-use Rattle.card.specs.Card.{Card, count, inUse, timesInUse}
+use Rattle.card.specs.Pointers.{ascending, pointers_to}
+use Rattle.card.specs.Card.{Card, count, in_use, times_in_use}
 use Rattle.card.specs.Soundness.{ranges, lengths}
 use Rattle.card.specs.Calls.{format}
 use Rattle.card.specs.Session.{Sent, performed}
 use Rattle.card.specs.Statements.Sound.{DoneSound, CountsRight, PointersAscending, FormatSound}
-use Rattle.card.proofs.Computed.TestLaws.{and-true, true-allBelow}
+use Rattle.card.proofs.Computed.TestLaws.{and_true, true_all_below}
 use Rattle.card.proofs.Computed.Row.{implies, true_implies, Row}
-use Rattle.card.proofs.Computed.SoundLaws.{isSound, isSound-true, true-isSound}
+use Rattle.card.proofs.Computed.SoundLaws.{is_sound, is_sound_true, true_is_sound}
 
-abbrev pub doneSoundTest : Card → Sent → Bool
-doneSoundTest c s = implies (isSound c) (isSound (performed c s).after)
+abbrev pub done_sound_test : Card → Sent → Bool
+done_sound_test c s = implies (is_sound c) (is_sound (performed c s).after)
 
-abbrev pub countsRightTest : Card → Sent → Bool
-countsRightTest c s =
+abbrev pub counts_right_test : Card → Sent → Bool
+counts_right_test c s =
     let p = (performed c s).after.public in
-    implies (isSound c) (all_below (λ b. eqb (count p b) (pointersTo b (inUse p) (timesInUse p))) p.info.blocks)
+    implies (is_sound c) (all_below (λ b. eqb (count p b) (pointers_to b (in_use p) (times_in_use p))) p.info.blocks)
 
-abbrev pub pointersAscendingTest : Card → Sent → Bool
-pointersAscendingTest c s =
+abbrev pub pointers_ascending_test : Card → Sent → Bool
+pointers_ascending_test c s =
     let p = (performed c s).after.public in
-    implies (isSound c) (ascending (inUse p) && all (λ w. eqb w 0) (drop p.info.used p.pointers))
+    implies (is_sound c) (ascending (in_use p) && all (λ w. eqb w 0) (drop p.info.used p.pointers))
 
-abbrev pub formatSoundTest : ℕ → ℕ → ℕ → Card → Bool
-formatSoundTest blocks roots bytes c = implies (ranges blocks roots bytes && lengths blocks bytes c) (isSound (format blocks roots bytes c).after)
+abbrev pub format_sound_test : ℕ → ℕ → ℕ → Card → Bool
+format_sound_test blocks roots bytes c = implies (ranges blocks roots bytes && lengths blocks bytes c) (is_sound (format blocks roots bytes c).after)
 
-pub done-sound-tests : DoneSound → (c : Card) (s : Sent) → doneSoundTest c s ≡ true
-done-sound-tests statement c s = true_implies (isSound c) _ (λ h. true-isSound (statement s.port c s.request (isSound-true h)))
+pub done_sound_tests : DoneSound → (c : Card) (s : Sent) → done_sound_test c s ≡ true
+done_sound_tests statement c s = true_implies (is_sound c) _ (λ h. true_is_sound (statement s.port c s.request (is_sound_true h)))
 
-abbrev pub doneSoundRow : Card → Sent → Row DoneSound
-doneSoundRow c s = record { test = doneSoundTest c s; follows = λ statement. done-sound-tests statement c s }
+abbrev pub done_sound_row : Card → Sent → Row DoneSound
+done_sound_row c s = record { test = done_sound_test c s; follows = λ statement. done_sound_tests statement c s }
 
-pub counts-right-tests : CountsRight → (c : Card) (s : Sent) → countsRightTest c s ≡ true
-counts-right-tests counts-right c s =
-    true_implies (isSound c) _ (λ h. true-allBelow _ _ (λ b l. eq-eqb _ _ (counts-right s.port c s.request (isSound-true h) b l)))
+pub counts_right_tests : CountsRight → (c : Card) (s : Sent) → counts_right_test c s ≡ true
+counts_right_tests counts_right c s =
+    true_implies (is_sound c) _ (λ h. true_all_below _ _ (λ b l. eq-eqb _ _ (counts_right s.port c s.request (is_sound_true h) b l)))
 
-abbrev pub countsRightRow : (c : Card) (s : Sent) → Row CountsRight
-countsRightRow c s = record { test = countsRightTest c s; follows = λ statement. counts-right-tests statement c s }
+abbrev pub counts_right_row : (c : Card) (s : Sent) → Row CountsRight
+counts_right_row c s = record { test = counts_right_test c s; follows = λ statement. counts_right_tests statement c s }
 
-pub pointers-ascending-tests : PointersAscending → (c : Card) (s : Sent) → pointersAscendingTest c s ≡ true
-pointers-ascending-tests pointers-ascending c s =
-    true_implies (isSound c) _
-    (λ h. let r = pointers-ascending s.port c s.request (isSound-true h) in and-true _ _ r.ascends r.restZero)
+pub pointers_ascending_tests : PointersAscending → (c : Card) (s : Sent) → pointers_ascending_test c s ≡ true
+pointers_ascending_tests pointers_ascending c s =
+    true_implies (is_sound c) _
+    (λ h. let r = pointers_ascending s.port c s.request (is_sound_true h) in and_true _ _ r.ascends r.rest_zero)
 
-abbrev pub pointersAscendingRow : (c : Card) (s : Sent) → Row PointersAscending
-pointersAscendingRow c s = record { test = pointersAscendingTest c s; follows = λ statement. pointers-ascending-tests statement c s }
+abbrev pub pointers_ascending_row : (c : Card) (s : Sent) → Row PointersAscending
+pointers_ascending_row c s = record { test = pointers_ascending_test c s; follows = λ statement. pointers_ascending_tests statement c s }
 
-pub format-sound-tests : FormatSound → (blocks roots bytes : ℕ) (c : Card) → formatSoundTest blocks roots bytes c ≡ true
-format-sound-tests format-sound blocks roots bytes c = true_implies (ranges blocks roots bytes && lengths blocks bytes c) _ (λ h. true-isSound (format-sound blocks roots bytes c h))
+pub format_sound_tests : FormatSound → (blocks roots bytes : ℕ) (c : Card) → format_sound_test blocks roots bytes c ≡ true
+format_sound_tests format_sound blocks roots bytes c = true_implies (ranges blocks roots bytes && lengths blocks bytes c) _ (λ h. true_is_sound (format_sound blocks roots bytes c h))
 
-abbrev pub formatSoundRow : (blocks roots bytes : ℕ) (c : Card) → Row FormatSound
-formatSoundRow blocks roots bytes c = record { test = formatSoundTest blocks roots bytes c; follows = λ statement. format-sound-tests statement blocks roots bytes c }
+abbrev pub format_sound_row : (blocks roots bytes : ℕ) (c : Card) → Row FormatSound
+format_sound_row blocks roots bytes c = record { test = format_sound_test blocks roots bytes c; follows = λ statement. format_sound_tests statement blocks roots bytes c }

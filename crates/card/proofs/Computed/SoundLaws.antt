@@ -5,16 +5,16 @@ use mathlib.Core.List.{[], ◌∷◌}
 use mathlib.Core.Path.{◌≡◌, refl, ap}
 use lib.Dec.{eqb}
 use borrow.Author.Tests.{eqb-true, eq-eqb, lt-ltb, ltb-true, le-leb, leb-true, ltb-false, not-false, le-ltb}
-use Rattle.card.specs.Card.{Public, Card, allocatedFlag, keyFlag, waitingFlag, freeFlag, flag, allocated, isRoot, windowEnd, count, keyHigh}
-use Rattle.card.specs.Soundness.{rangeClauses, ranges, lengthClauses, lengths, shapeClauses, shape, flagsLow, rootAllocated, keyZero, unallocatedEmpty, absentKeyZero, countRight, pointedTo, windowInTime, totalInTime, soundClauses, sound}
+use Rattle.card.specs.Card.{Public, Card, allocated_flag, key_flag, waiting_flag, free_flag, flag, allocated, is_root, window_end, count, key_high}
+use Rattle.card.specs.Soundness.{range_clauses, ranges, length_clauses, lengths, shape_clauses, shape, flags_low, root_allocated, key_zero, unallocated_empty, absent_key_zero, count_right, pointed_to, window_in_time, total_in_time, sound_clauses, sound}
 use Rattle.card.specs.SoundCard.{InRanges, HasLengths, Shaped, KeyZero, Empty, Consistent, SoundCard}
 use Rattle.card.specs.Reach.{pointed}
 use Rattle.card.specs.declared.Mode.{Mode}
 use Rattle.card.specs.declared.Mode.TheVariants.{Reading, Writing}
-use Rattle.card.proofs.Computed.TestLaws.{and_left, and_right, and-true, or-false, or_else, every_true, true-every, allBelow-true, true-allBelow, or-false-left, or-false-right}
+use Rattle.card.proofs.Computed.TestLaws.{and_left, and_right, and_true, or_false, or_else, every_true, true_every, all_below_true, true_all_below, or_false_left, or_false_right}
 
-abbrev pub isSound : Card → Bool
-isSound c = shape c && sound c
+abbrev pub is_sound : Card → Bool
+is_sound c = shape c && sound c
 
 -- A decided choice: where a test fails, one thing holds; so the two joined hold.
 or_from : (a b : Bool) → (a ≡ false → b ≡ true) → a || b ≡ true
@@ -23,37 +23,37 @@ or_from false b f = f refl
 
 -- ---- shape
 
-pub ranges-true : (blocks roots bytes : ℕ) → ranges blocks roots bytes ≡ true → InRanges blocks roots bytes
+pub ranges_true : (blocks roots bytes : ℕ) → ranges blocks roots bytes ≡ true → InRanges blocks roots bytes
 unfolding ranges
-ranges-true blocks roots bytes e =
-    let h = every_true (rangeClauses blocks roots bytes) e in
+ranges_true blocks roots bytes e =
+    let h = every_true (range_clauses blocks roots bytes) e in
     record {
-      blocksLow = leb-true _ _ h.0;
-      blocksHigh = leb-true _ _ h.1.0;
-      rootsLow = leb-true _ _ h.1.1.0;
-      rootsHigh = leb-true _ _ h.1.1.1.0;
-      bytesLow = leb-true _ _ h.1.1.1.1.0;
-      bytesHigh = leb-true _ _ h.1.1.1.1.1.0;
-      bytesDivide = eqb-true _ _ h.1.1.1.1.1.1.0;
+      blocks_low = leb-true _ _ h.0;
+      blocks_high = leb-true _ _ h.1.0;
+      roots_low = leb-true _ _ h.1.1.0;
+      roots_high = leb-true _ _ h.1.1.1.0;
+      bytes_low = leb-true _ _ h.1.1.1.1.0;
+      bytes_high = leb-true _ _ h.1.1.1.1.1.0;
+      bytes_divide = eqb-true _ _ h.1.1.1.1.1.1.0;
     }
 
-pub true-ranges : {blocks roots bytes : ℕ} → InRanges blocks roots bytes → ranges blocks roots bytes ≡ true
+pub true_ranges : {blocks roots bytes : ℕ} → InRanges blocks roots bytes → ranges blocks roots bytes ≡ true
 unfolding ranges
-true-ranges h =
-    true-every _ (
-      le-leb _ _ h.blocksLow,
+true_ranges h =
+    true_every _ (
+      le-leb _ _ h.blocks_low,
       (
-        le-leb _ _ h.blocksHigh,
+        le-leb _ _ h.blocks_high,
         (
-          le-leb _ _ h.rootsLow,
+          le-leb _ _ h.roots_low,
           (
-            le-leb _ _ h.rootsHigh,
+            le-leb _ _ h.roots_high,
             (
-              le-leb _ _ h.bytesLow,
+              le-leb _ _ h.bytes_low,
               (
-                le-leb _ _ h.bytesHigh,
+                le-leb _ _ h.bytes_high,
                 (
-                  eq-eqb _ _ h.bytesDivide,
+                  eq-eqb _ _ h.bytes_divide,
                   tt,
                 ),
               ),
@@ -63,34 +63,34 @@ true-ranges h =
       ),
     )
 
-pub lengths-true : (blocks bytes : ℕ) (c : Card) → lengths blocks bytes c ≡ true → HasLengths blocks bytes c
+pub lengths_true : (blocks bytes : ℕ) (c : Card) → lengths blocks bytes c ≡ true → HasLengths blocks bytes c
 unfolding lengths
-lengths-true blocks bytes c e =
-    let h = every_true (lengthClauses blocks bytes c) e in
+lengths_true blocks bytes c e =
+    let h = every_true (length_clauses blocks bytes c) e in
     record {
       flags = eqb-true _ _ h.0;
       keys = eqb-true _ _ h.1.0;
       counts = eqb-true _ _ h.1.1.0;
-      placesLow = leb-true _ _ h.1.1.1.0;
-      placesHigh = leb-true _ _ h.1.1.1.1.0;
+      places_low = leb-true _ _ h.1.1.1.0;
+      places_high = leb-true _ _ h.1.1.1.1.0;
       multiplicities = eqb-true _ _ h.1.1.1.1.1.0;
       windows = eqb-true _ _ h.1.1.1.1.1.1.0;
       contents = eqb-true _ _ h.1.1.1.1.1.1.1.0;
     }
 
-pub true-lengths : {blocks bytes : ℕ} {c : Card} → HasLengths blocks bytes c → lengths blocks bytes c ≡ true
+pub true_lengths : {blocks bytes : ℕ} {c : Card} → HasLengths blocks bytes c → lengths blocks bytes c ≡ true
 unfolding lengths
-true-lengths h =
-    true-every _ (
+true_lengths h =
+    true_every _ (
       eq-eqb _ _ h.flags,
       (
         eq-eqb _ _ h.keys,
         (
           eq-eqb _ _ h.counts,
           (
-            le-leb _ _ h.placesLow,
+            le-leb _ _ h.places_low,
             (
-              le-leb _ _ h.placesHigh,
+              le-leb _ _ h.places_high,
               (
                 eq-eqb _ _ h.multiplicities,
                 (
@@ -107,28 +107,28 @@ true-lengths h =
       ),
     )
 
-pub shape-true : (c : Card) → shape c ≡ true → Shaped c
+pub shape_true : (c : Card) → shape c ≡ true → Shaped c
 unfolding shape
-shape-true c e =
-    let h = every_true (shapeClauses c) e in
+shape_true c e =
+    let h = every_true (shape_clauses c) e in
     record {
-      inRanges = ranges-true _ _ _ h.0;
-      timeHigh = ltb-true _ _ h.1.0;
-      hasLengths = lengths-true _ _ c h.1.1.0;
-      usedHigh = leb-true _ _ h.1.1.1.0;
+      in_ranges = ranges_true _ _ _ h.0;
+      time_high = ltb-true _ _ h.1.0;
+      has_lengths = lengths_true _ _ c h.1.1.0;
+      used_high = leb-true _ _ h.1.1.1.0;
     }
 
-pub true-shape : {c : Card} → Shaped c → shape c ≡ true
+pub true_shape : {c : Card} → Shaped c → shape c ≡ true
 unfolding shape
-true-shape h =
-    true-every _ (
-      true-ranges h.inRanges,
+true_shape h =
+    true_every _ (
+      true_ranges h.in_ranges,
       (
-        lt-ltb _ _ h.timeHigh,
+        lt-ltb _ _ h.time_high,
         (
-          true-lengths h.hasLengths,
+          true_lengths h.has_lengths,
           (
-            le-leb _ _ h.usedHigh,
+            le-leb _ _ h.used_high,
             tt,
           ),
         ),
@@ -137,43 +137,43 @@ true-shape h =
 
 -- ---- soundness
 
-pub keyZero-true : (c : Card) (b : ℕ) (mode : Mode) → keyZero c b mode ≡ true → KeyZero c mode b
-unfolding keyZero
-keyZero-true c b mode e = record { high = eqb-true _ _ (and_left _ _ e); low = eqb-true _ _ (and_right (eqb (keyHigh c.keys mode b) 0) _ e) }
+pub key_zero_true : (c : Card) (b : ℕ) (mode : Mode) → key_zero c b mode ≡ true → KeyZero c mode b
+unfolding key_zero
+key_zero_true c b mode e = record { high = eqb-true _ _ (and_left _ _ e); low = eqb-true _ _ (and_right (eqb (key_high c.keys mode b) 0) _ e) }
 
-pub true-keyZero : {c : Card} {mode : Mode} {b : ℕ} → KeyZero c mode b → keyZero c b mode ≡ true
-unfolding keyZero
-true-keyZero h = and-true _ _ (eq-eqb _ _ h.high) (eq-eqb _ _ h.low)
+pub true_key_zero : {c : Card} {mode : Mode} {b : ℕ} → KeyZero c mode b → key_zero c b mode ≡ true
+unfolding key_zero
+true_key_zero h = and_true _ _ (eq-eqb _ _ h.high) (eq-eqb _ _ h.low)
 
-pub unallocatedEmpty-true : (c : Card) (b : ℕ) → unallocatedEmpty c b ≡ true → allocatedFlag (flag c.public b) ≡ false → Empty c b
-unfolding unallocatedEmpty
-unallocatedEmpty-true c b e f =
+pub unallocated_empty_true : (c : Card) (b : ℕ) → unallocated_empty c b ≡ true → allocated_flag (flag c.public b) ≡ false → Empty c b
+unfolding unallocated_empty
+unallocated_empty_true c b e f =
     let p = c.public in
-    let h = every_true ((freeFlag (flag p b) || waitingFlag (flag p b)) ∷ keyZero c b Reading ∷ keyZero c b Writing ∷ eqb (count p b) 0 ∷ eqb (windowEnd p Reading b) 0 ∷ eqb (windowEnd p Writing b) 0 ∷ []) (or_else _ _ e f) in
+    let h = every_true ((free_flag (flag p b) || waiting_flag (flag p b)) ∷ key_zero c b Reading ∷ key_zero c b Writing ∷ eqb (count p b) 0 ∷ eqb (window_end p Reading b) 0 ∷ eqb (window_end p Writing b) 0 ∷ []) (or_else _ _ e f) in
     record {
-      freeOrWaiting = h.0;
-      keysZero = elim [ Reading ↦ keyZero-true c b Reading h.1.0 | Writing ↦ keyZero-true c b Writing h.1.1.0 ];
-      countZero = eqb-true _ _ h.1.1.1.0;
-      windowZero = elim [ Reading ↦ eqb-true _ _ h.1.1.1.1.0 | Writing ↦ eqb-true _ _ h.1.1.1.1.1.0 ];
+      free_or_waiting = h.0;
+      keys_zero = elim [ Reading ↦ key_zero_true c b Reading h.1.0 | Writing ↦ key_zero_true c b Writing h.1.1.0 ];
+      count_zero = eqb-true _ _ h.1.1.1.0;
+      window_zero = elim [ Reading ↦ eqb-true _ _ h.1.1.1.1.0 | Writing ↦ eqb-true _ _ h.1.1.1.1.1.0 ];
     }
 
-pub true-unallocatedEmpty : (c : Card) (b : ℕ) → (allocatedFlag (flag c.public b) ≡ false → Empty c b) → unallocatedEmpty c b ≡ true
-unfolding unallocatedEmpty
-true-unallocatedEmpty c b f =
-    or_from (allocatedFlag (flag c.public b)) _
+pub true_unallocated_empty : (c : Card) (b : ℕ) → (allocated_flag (flag c.public b) ≡ false → Empty c b) → unallocated_empty c b ≡ true
+unfolding unallocated_empty
+true_unallocated_empty c b f =
+    or_from (allocated_flag (flag c.public b)) _
     (λ e.
-    true-every _ (
-      (f e).freeOrWaiting,
+    true_every _ (
+      (f e).free_or_waiting,
       (
-        true-keyZero ((f e).keysZero Reading),
+        true_key_zero ((f e).keys_zero Reading),
         (
-          true-keyZero ((f e).keysZero Writing),
+          true_key_zero ((f e).keys_zero Writing),
           (
-            eq-eqb _ _ (f e).countZero,
+            eq-eqb _ _ (f e).count_zero,
             (
-              eq-eqb _ _ ((f e).windowZero Reading),
+              eq-eqb _ _ ((f e).window_zero Reading),
               (
-                eq-eqb _ _ ((f e).windowZero Writing),
+                eq-eqb _ _ ((f e).window_zero Writing),
                 tt,
               ),
             ),
@@ -183,97 +183,97 @@ true-unallocatedEmpty c b f =
     ))
 
 -- At each block below N, by the clause at that block.
-pub rootAllocated-true : (c : Card) (b : ℕ) → rootAllocated c b ≡ true → b < c.public.info.roots → allocatedFlag (flag c.public b) ≡ true
-unfolding rootAllocated
-rootAllocated-true c b e l = or_else _ _ e (ap not (lt-ltb _ _ l))
+pub root_allocated_true : (c : Card) (b : ℕ) → root_allocated c b ≡ true → b < c.public.info.roots → allocated_flag (flag c.public b) ≡ true
+unfolding root_allocated
+root_allocated_true c b e l = or_else _ _ e (ap not (lt-ltb _ _ l))
 
-pub true-rootAllocated : (c : Card) (b : ℕ) → (b < c.public.info.roots → allocatedFlag (flag c.public b) ≡ true) → rootAllocated c b ≡ true
-unfolding rootAllocated
-true-rootAllocated c b f = or_from (not (isRoot c.public b)) _ (λ e. f (ltb-true _ _ (not-false _ e)))
+pub true_root_allocated : (c : Card) (b : ℕ) → (b < c.public.info.roots → allocated_flag (flag c.public b) ≡ true) → root_allocated c b ≡ true
+unfolding root_allocated
+true_root_allocated c b f = or_from (not (is_root c.public b)) _ (λ e. f (ltb-true _ _ (not-false _ e)))
 
-pub absentKeyZero-true : (c : Card) (b : ℕ) (mode : Mode) → absentKeyZero c b mode ≡ true → keyFlag mode (flag c.public b) ≡ false → KeyZero c mode b
-unfolding absentKeyZero
-absentKeyZero-true c b mode e f = keyZero-true c b mode (or_else _ _ e f)
+pub absent_key_zero_true : (c : Card) (b : ℕ) (mode : Mode) → absent_key_zero c b mode ≡ true → key_flag mode (flag c.public b) ≡ false → KeyZero c mode b
+unfolding absent_key_zero
+absent_key_zero_true c b mode e f = key_zero_true c b mode (or_else _ _ e f)
 
-pub true-absentKeyZero : (c : Card) (b : ℕ) (mode : Mode) → (keyFlag mode (flag c.public b) ≡ false → KeyZero c mode b) → absentKeyZero c b mode ≡ true
-unfolding absentKeyZero
-true-absentKeyZero c b mode f = or_from (keyFlag mode (flag c.public b)) _ (λ e. true-keyZero (f e))
+pub true_absent_key_zero : (c : Card) (b : ℕ) (mode : Mode) → (key_flag mode (flag c.public b) ≡ false → KeyZero c mode b) → absent_key_zero c b mode ≡ true
+unfolding absent_key_zero
+true_absent_key_zero c b mode f = or_from (key_flag mode (flag c.public b)) _ (λ e. true_key_zero (f e))
 
-pub pointedTo-true : (c : Card) (b : ℕ) → pointedTo c b ≡ true → c.public.info.roots ≤ b → allocatedFlag (flag c.public b) ≡ true → 1 ≤ count c.public b
-unfolding pointedTo
-pointedTo-true c b e l a =
+pub pointed_to_true : (c : Card) (b : ℕ) → pointed_to c b ≡ true → c.public.info.roots ≤ b → allocated_flag (flag c.public b) ≡ true → 1 ≤ count c.public b
+unfolding pointed_to
+pointed_to_true c b e l a =
     leb-true _ _
-    (or_else (isRoot c.public b || not (allocatedFlag (flag c.public b))) _ e (or-false _ _ (le-ltb _ _ l) (ap not a)))
+    (or_else (is_root c.public b || not (allocated_flag (flag c.public b))) _ e (or_false _ _ (le-ltb _ _ l) (ap not a)))
 
-pub true-pointedTo : (c : Card) (b : ℕ) → (c.public.info.roots ≤ b → allocatedFlag (flag c.public b) ≡ true → 1 ≤ count c.public b) → pointedTo c b ≡ true
-unfolding pointedTo
-true-pointedTo c b f =
-    or_from (isRoot c.public b || not (allocatedFlag (flag c.public b))) _
+pub true_pointed_to : (c : Card) (b : ℕ) → (c.public.info.roots ≤ b → allocated_flag (flag c.public b) ≡ true → 1 ≤ count c.public b) → pointed_to c b ≡ true
+unfolding pointed_to
+true_pointed_to c b f =
+    or_from (is_root c.public b || not (allocated_flag (flag c.public b))) _
     (λ e.
     le-leb _ _
-    (f (ltb-false _ _ (or-false-left _ _ e))
-    (not-false _ (or-false-right (isRoot c.public b) _ e))))
+    (f (ltb-false _ _ (or_false_left _ _ e))
+    (not-false _ (or_false_right (is_root c.public b) _ e))))
 
-pub sound-true : (c : Card) → sound c ≡ true → Consistent c
-unfolding sound flagsLow countRight windowInTime totalInTime
-sound-true c e =
-    let h = every_true (soundClauses c) e in
+pub sound_true : (c : Card) → sound c ≡ true → Consistent c
+unfolding sound flags_low count_right window_in_time total_in_time
+sound_true c e =
+    let h = every_true (sound_clauses c) e in
     let blocks = c.public.info.blocks in
     record {
-      flagsLow = λ b l. leb-true _ _ (allBelow-true (λ b. flagsLow c b) blocks h.0 b l);
-      rootsAllocated = λ b l. rootAllocated-true c b (allBelow-true (λ b. rootAllocated c b) blocks h.1.0 b l);
-      unallocated = λ b l. unallocatedEmpty-true c b (allBelow-true (λ b. unallocatedEmpty c b) blocks h.1.1.0 b l);
-      absentKey = elim [
-        | Reading ↦ λ b l. absentKeyZero-true c b Reading (allBelow-true (λ b. absentKeyZero c b Reading) blocks h.1.1.1.0 b l)
-        | Writing ↦ λ b l. absentKeyZero-true c b Writing (allBelow-true (λ b. absentKeyZero c b Writing) blocks h.1.1.1.1.0 b l)
+      flags_low = λ b l. leb-true _ _ (all_below_true (λ b. flags_low c b) blocks h.0 b l);
+      roots_allocated = λ b l. root_allocated_true c b (all_below_true (λ b. root_allocated c b) blocks h.1.0 b l);
+      unallocated = λ b l. unallocated_empty_true c b (all_below_true (λ b. unallocated_empty c b) blocks h.1.1.0 b l);
+      absent_key = elim [
+        | Reading ↦ λ b l. absent_key_zero_true c b Reading (all_below_true (λ b. absent_key_zero c b Reading) blocks h.1.1.1.0 b l)
+        | Writing ↦ λ b l. absent_key_zero_true c b Writing (all_below_true (λ b. absent_key_zero c b Writing) blocks h.1.1.1.1.0 b l)
       ];
       ascends = h.1.1.1.1.1.0;
-      restZero = h.1.1.1.1.1.1.0;
-      timesRight = h.1.1.1.1.1.1.1.0;
-      restTimesZero = h.1.1.1.1.1.1.1.1.0;
-      pointersRight = h.1.1.1.1.1.1.1.1.1.0;
-      counts = λ b l. eqb-true _ _ (allBelow-true (λ b. countRight c b) blocks h.1.1.1.1.1.1.1.1.1.1.0 b l);
-      pointed = λ b l. pointedTo-true c b (allBelow-true (λ b. pointedTo c b) blocks h.1.1.1.1.1.1.1.1.1.1.1.0 b l);
-      windowsLow = elim [
-        | Reading ↦ λ b l. leb-true _ _ (allBelow-true (λ b. windowInTime c b Reading) blocks h.1.1.1.1.1.1.1.1.1.1.1.1.0 b l)
-        | Writing ↦ λ b l. leb-true _ _ (allBelow-true (λ b. windowInTime c b Writing) blocks h.1.1.1.1.1.1.1.1.1.1.1.1.1.0 b l)
+      rest_zero = h.1.1.1.1.1.1.0;
+      times_right = h.1.1.1.1.1.1.1.0;
+      rest_times_zero = h.1.1.1.1.1.1.1.1.0;
+      pointers_right = h.1.1.1.1.1.1.1.1.1.0;
+      counts = λ b l. eqb-true _ _ (all_below_true (λ b. count_right c b) blocks h.1.1.1.1.1.1.1.1.1.1.0 b l);
+      pointed = λ b l. pointed_to_true c b (all_below_true (λ b. pointed_to c b) blocks h.1.1.1.1.1.1.1.1.1.1.1.0 b l);
+      windows_low = elim [
+        | Reading ↦ λ b l. leb-true _ _ (all_below_true (λ b. window_in_time c b Reading) blocks h.1.1.1.1.1.1.1.1.1.1.1.1.0 b l)
+        | Writing ↦ λ b l. leb-true _ _ (all_below_true (λ b. window_in_time c b Writing) blocks h.1.1.1.1.1.1.1.1.1.1.1.1.1.0 b l)
       ];
-      totalLow = leb-true _ _ h.1.1.1.1.1.1.1.1.1.1.1.1.1.1.0;
+      total_low = leb-true _ _ h.1.1.1.1.1.1.1.1.1.1.1.1.1.1.0;
     }
 
-pub true-sound : {c : Card} → Consistent c → sound c ≡ true
-unfolding sound flagsLow countRight windowInTime totalInTime
-true-sound {c} h =
+pub true_sound : {c : Card} → Consistent c → sound c ≡ true
+unfolding sound flags_low count_right window_in_time total_in_time
+true_sound {c} h =
     let blocks = c.public.info.blocks in
-    true-every (soundClauses c) (
-      true-allBelow _ blocks (λ b l. le-leb _ _ (h.flagsLow b l)),
+    true_every (sound_clauses c) (
+      true_all_below _ blocks (λ b l. le-leb _ _ (h.flags_low b l)),
       (
-        true-allBelow _ blocks (λ b l. true-rootAllocated c b (h.rootsAllocated b l)),
+        true_all_below _ blocks (λ b l. true_root_allocated c b (h.roots_allocated b l)),
         (
-          true-allBelow _ blocks (λ b l. true-unallocatedEmpty c b (h.unallocated b l)),
+          true_all_below _ blocks (λ b l. true_unallocated_empty c b (h.unallocated b l)),
           (
-            true-allBelow _ blocks (λ b l. true-absentKeyZero c b Reading (h.absentKey Reading b l)),
+            true_all_below _ blocks (λ b l. true_absent_key_zero c b Reading (h.absent_key Reading b l)),
             (
-              true-allBelow _ blocks (λ b l. true-absentKeyZero c b Writing (h.absentKey Writing b l)),
+              true_all_below _ blocks (λ b l. true_absent_key_zero c b Writing (h.absent_key Writing b l)),
               (
                 h.ascends,
                 (
-                  h.restZero,
+                  h.rest_zero,
                   (
-                    h.timesRight,
+                    h.times_right,
                     (
-                      h.restTimesZero,
+                      h.rest_times_zero,
                       (
-                        h.pointersRight,
+                        h.pointers_right,
                         (
-                          true-allBelow _ blocks (λ b l. eq-eqb _ _ (h.counts b l)),
+                          true_all_below _ blocks (λ b l. eq-eqb _ _ (h.counts b l)),
                           (
-                            true-allBelow _ blocks (λ b l. true-pointedTo c b (h.pointed b l)),
+                            true_all_below _ blocks (λ b l. true_pointed_to c b (h.pointed b l)),
                             (
-                              true-allBelow _ blocks (λ b l. le-leb _ _ (h.windowsLow Reading b l)),
+                              true_all_below _ blocks (λ b l. le-leb _ _ (h.windows_low Reading b l)),
                               (
-                                true-allBelow _ blocks (λ b l. le-leb _ _ (h.windowsLow Writing b l)),
-                                (le-leb _ _ h.totalLow, tt),
+                                true_all_below _ blocks (λ b l. le-leb _ _ (h.windows_low Writing b l)),
+                                (le-leb _ _ h.total_low, tt),
                               ),
                             ),
                           ),
@@ -290,12 +290,12 @@ true-sound {c} h =
     )
 
 -- An allocated block is below N.
-pub allocated-below : (p : Public) (b : ℕ) → allocated p b ≡ true → b < p.info.blocks
+pub allocated_below : (p : Public) (b : ℕ) → allocated p b ≡ true → b < p.info.blocks
 unfolding allocated
-allocated-below p b e = ltb-true _ _ (and_left _ _ e)
+allocated_below p b e = ltb-true _ _ (and_left _ _ e)
 
-pub isSound-true : {c : Card} → isSound c ≡ true → SoundCard c
-isSound-true {c} h = record { shaped = shape-true c (and_left _ _ h); isSound = sound-true c (and_right (shape c) _ h) }
+pub is_sound_true : {c : Card} → is_sound c ≡ true → SoundCard c
+is_sound_true {c} h = record { shaped = shape_true c (and_left _ _ h); is_sound = sound_true c (and_right (shape c) _ h) }
 
-pub true-isSound : {c : Card} → SoundCard c → isSound c ≡ true
-true-isSound s = and-true _ _ (true-shape s.shaped) (true-sound s.isSound)
+pub true_is_sound : {c : Card} → SoundCard c → is_sound c ≡ true
+true_is_sound s = and_true _ _ (true_shape s.shaped) (true_sound s.is_sound)

@@ -1,10 +1,10 @@
 -- 2026-05: each pointer is there as often as it was made and not yet taken away.
 use Rattle.std.specs.Prelude.{ℕ, ◌+◌, ◌<◌, List, ◌≡◌}
-use Rattle.card.specs.Lists.{sumBelow}
+use Rattle.card.specs.Lists.{sum_below}
 use Rattle.card.specs.Card.{Card, count, multiplicity}
 use Rattle.card.specs.SoundCard.{SoundCard}
-use Rattle.card.specs.Session.{Request, perform, Sent, reply, afterAll}
-use Rattle.card.specs.Ledger.{made, taken, madeInAll, takenInAll}
+use Rattle.card.specs.Session.{Request, perform, Sent, reply, after_all}
+use Rattle.card.specs.Ledger.{made, taken, made_in_all, taken_in_all}
 use Rattle.card.specs.declared.Port.{Port}
 
 -- After any call on any card, at either port, done or refused, the multiplicity of the pointer from a to b is what it was, and one more for each that
@@ -19,12 +19,12 @@ MadeAndTaken =
 abbrev pub Ledger : Type 0
 Ledger =
     (c : Card) (ss : List Sent) (a b : ℕ) → b < 65536
-    → multiplicity (afterAll c ss).public a b + takenInAll c ss a b ≡ multiplicity c.public a b + madeInAll c ss a b
+    → multiplicity (after_all c ss).public a b + taken_in_all c ss a b ≡ multiplicity c.public a b + made_in_all c ss a b
 
 -- "A reader of the counts finds every pointer counted as often as it was made and not yet taken away": a block's count after any list of calls is what
 -- it was, and the pointers made to it, less those taken away, from all blocks of the card.
 abbrev pub CountsLedger : Type 0
 CountsLedger =
     (c : Card) (ss : List Sent) → SoundCard c → (b : ℕ) → b < c.public.info.blocks
-    → count (afterAll c ss).public b + sumBelow (λ a. takenInAll c ss a b) c.public.info.blocks
-    ≡ count c.public b + sumBelow (λ a. madeInAll c ss a b) c.public.info.blocks
+    → count (after_all c ss).public b + sum_below (λ a. taken_in_all c ss a b) c.public.info.blocks
+    ≡ count c.public b + sum_below (λ a. made_in_all c ss a b) c.public.info.blocks

@@ -2,7 +2,7 @@
 use Rattle.std.specs.Prelude.{ℕ, true, List, ◌↔◌, ◌≡◌}
 use Rattle.card.specs.Card.{Card}
 use Rattle.card.specs.Plan.{Check, FirstHolds, NoneHolds, Buffers, Result, refused, done}
-use Rattle.card.specs.Calls.{isDone, format}
+use Rattle.card.specs.Calls.{is_done, format}
 use Rattle.card.specs.Session.{Request, plan, EitherPort, refusals, perform}
 use Rattle.card.specs.declared.Port.{Port}
 use Rattle.card.specs.declared.Refusal.{Refusal}
@@ -31,18 +31,18 @@ FormatUnchanged = (blocks roots bytes : ℕ) (c : Card) (r : Refusal) → (forma
 
 -- Refused for the first condition that holds and for no other; done where none holds and nowhere else.
 pub record RefusedBy (checks : List Check) (answer : Answer) : Type 0 where
-  pub refusedIff : (r : Refusal) → (answer ≡ Refused r) ↔ FirstHolds checks r
-  pub doneIff : (isDone answer ≡ true) ↔ NoneHolds checks
+  pub refused_iff : (r : Refusal) → (answer ≡ Refused r) ↔ FirstHolds checks r
+  pub done_iff : (is_done answer ≡ true) ↔ NoneHolds checks
 
 pub record RefusedByFirst (port : Port) (c : Card) (q : Request) : Type 0 where
   -- Refused for the first condition that holds, and for no other.
-  pub refusedIff : (r : Refusal) → ((perform port c q).answer ≡ Refused r) ↔ FirstHolds (refusals port c q) r
+  pub refused_iff : (r : Refusal) → ((perform port c q).answer ≡ Refused r) ↔ FirstHolds (refusals port c q) r
   -- Done where no condition holds, and nowhere else.
-  pub doneIff : (isDone (perform port c q).answer ≡ true) ↔ NoneHolds (refusals port c q)
+  pub done_iff : (is_done (perform port c q).answer ≡ true) ↔ NoneHolds (refusals port c q)
   -- A refusal is its number and nothing more.
-  pub whenRefused : (r : Refusal) → FirstHolds (refusals port c q) r → perform port c q ≡ refused c q.lent r
+  pub when_refused : (r : Refusal) → FirstHolds (refusals port c q) r → perform port c q ≡ refused c q.lent r
   -- A done call does what its paragraph says.
-  pub whenDone : NoneHolds (refusals port c q) → perform port c q ≡ done c q.lent (plan port c q.call q.lent)
+  pub when_done : NoneHolds (refusals port c q) → perform port c q ≡ done c q.lent (plan port c q.call q.lent)
 
 -- Demand 2: a call is refused r if and only if r's condition holds and no earlier one does; it is done if and only if none holds.
 abbrev pub RefusedIff : Type 0

@@ -5,8 +5,8 @@ use Rattle.card.specs.Card.{Card}
 use Rattle.card.specs.SoundCard.{SoundCard}
 use Rattle.card.specs.Plan.{Buffers}
 use Rattle.card.specs.Calls.{distance}
-use Rattle.card.specs.Session.{Request, perform, Sent, afterAll, hostSession}
-use Rattle.card.specs.RentAdded.{addedInAll}
+use Rattle.card.specs.Session.{Request, perform, Sent, after_all, host_session}
+use Rattle.card.specs.RentAdded.{added_in_all}
 use Rattle.card.specs.Reach.{presented}
 use Rattle.card.specs.Statements.Refusals.{Unchanged}
 use Rattle.card.specs.Statements.Secrecy.{EqualBut, HiddenOrUnallocated}
@@ -19,7 +19,7 @@ use Rattle.card.specs.declared.RentOperands.{RentOperands}
 -- "Each TICK of n adds n × the allocated non-root blocks to a new total": over any list of calls at either port the total grows by just the sum of what
 -- the done TICKs add, each counting the blocks of the card that it finds. On any card, for an unsound one keeps its total.
 abbrev pub RentSummed : Type 0
-RentSummed = (c : Card) (ss : List Sent) → (afterAll c ss).public.info.total ≡ c.public.info.total + addedInAll c ss
+RentSummed = (c : Card) (ss : List Sent) → (after_all c ss).public.info.total ≡ c.public.info.total + added_in_all c ss
 
 abbrev pub renting : RentOperands → Buffers → Request
 renting o lent = record { call = Rent o; lent = lent }
@@ -52,4 +52,4 @@ pub record PayAlike (c d : Card) : Type 0 where
 abbrev pub RentAlike : Type 0
 RentAlike =
     (session : List Request) (c d : Card) → SoundCard c → SoundCard d → EqualBut (HiddenOrUnallocated (presented session) c) c d
-    → PayAlike (afterAll c (hostSession session)) (afterAll d (hostSession session))
+    → PayAlike (after_all c (host_session session)) (after_all d (host_session session))

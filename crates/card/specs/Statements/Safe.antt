@@ -10,8 +10,8 @@ use Rattle.card.specs.declared.Answer.TheVariants.{Refused}
 
 pub record SafeCall (c : Card) (s : Sent) : Type 0 where
   -- A refusal leaves the card and the lent buffers as they were.
-  pub refusalUnchanged : (r : Refusal) → (performed c s).answer ≡ Refused r → Unchanged c s.request.lent (performed c s)
+  pub refusal_unchanged : (r : Refusal) → (performed c s).answer ≡ Refused r → Unchanged c s.request.lent (performed c s)
   -- A sound card stays sound.
-  pub keepsSound : SoundCard c → SoundCard (performed c s).after
+  pub keeps_sound : SoundCard c → SoundCard (performed c s).after
   -- An unallocated block is left as it was, or is taken or swept and filled with zeros.
-  pub freeUntouched : (b : ℕ) → allocated c.public b ≡ false → LeftOrZeroed s.request.call c (performed c s).after b
+  pub free_untouched : (b : ℕ) → allocated c.public b ≡ false → LeftOrZeroed s.request.call c (performed c s).after b

@@ -1,8 +1,8 @@
 -- A sound card stays sound, and so every count stays right.
 use Rattle.std.specs.Prelude.{ℕ, ◌<◌, true, ◌&&◌, ◌≡◌, eqb, drop}
 use Rattle.card.specs.Lists.{all}
-use Rattle.card.specs.Pointers.{ascending, pointersTo}
-use Rattle.card.specs.Card.{Public, Card, count, inUse, timesInUse}
+use Rattle.card.specs.Pointers.{ascending, pointers_to}
+use Rattle.card.specs.Card.{Public, Card, count, in_use, times_in_use}
 use Rattle.card.specs.Soundness.{ranges, lengths}
 use Rattle.card.specs.SoundCard.{SoundCard}
 use Rattle.card.specs.Calls.{format}
@@ -24,12 +24,12 @@ abbrev pub CountsRight : Type 0
 CountsRight =
     (port : Port) (c : Card) (q : Request) → SoundCard c
     → (b : ℕ) → b < (perform port c q).after.public.info.blocks
-    → count (perform port c q).after.public b ≡ pointersTo b (inUse (perform port c q).after.public) (timesInUse (perform port c q).after.public)
+    → count (perform port c q).after.public b ≡ pointers_to b (in_use (perform port c q).after.public) (times_in_use (perform port c q).after.public)
 
 -- The pointers in use strictly ascend, and the places behind them hold 0.
 pub record PointersAscend (p : Public) : Type 0 where
-  pub ascends : ascending (inUse p) ≡ true
-  pub restZero : all (λ w. eqb w 0) (drop p.info.used p.pointers) ≡ true
+  pub ascends : ascending (in_use p) ≡ true
+  pub rest_zero : all (λ w. eqb w 0) (drop p.info.used p.pointers) ≡ true
 
 abbrev pub PointersAscending : Type 0
 PointersAscending = (port : Port) (c : Card) (q : Request) → SoundCard c → PointersAscend (perform port c q).after.public

@@ -1,10 +1,10 @@
 -- 2026-09, "Two observatories must show that withdrawn records are gone from the card": what a done SWEEP leaves.
 use Rattle.std.specs.Prelude.{ℕ, ◌<◌, ◌≤◌, true, List, ◌≡◌, length}
 use Rattle.card.specs.Contents.{zeros}
-use Rattle.card.specs.Card.{Public, Card, flag, waiting, free, waitingBlocks, block}
+use Rattle.card.specs.Card.{Public, Card, flag, waiting, free, waiting_blocks, block}
 use Rattle.card.specs.SoundCard.{SoundCard}
 use Rattle.card.specs.Plan.{Buffers, Result}
-use Rattle.card.specs.Calls.{isDone}
+use Rattle.card.specs.Calls.{is_done}
 use Rattle.card.specs.Lowest.{Lowest}
 use Rattle.card.specs.Session.{Request, perform}
 use Rattle.card.specs.declared.Port.{Port}
@@ -21,8 +21,8 @@ LowestWaiting p k b = Lowest (waiting p) k p.info.blocks b
 
 -- The block is free and holds zeros.
 pub record Gone (bytes : ℕ) (d : Card) (b : ℕ) : Type 0 where
-  pub isFree : free d.public b ≡ true
-  pub holdsZeros : block d b ≡ zeros bytes
+  pub is_free : free d.public b ≡ true
+  pub holds_zeros : block d b ≡ zeros bytes
 
 -- From card c to card d nothing but flags and contents changed.
 pub record FlagsAndContents (c d : Card) : Type 0 where
@@ -44,8 +44,8 @@ pub record SweepsLowest (port : Port) (c : Card) (o : SweepOperands) (lent : Buf
   pub number : ℕ
   pub answers : result.answer ≡ Value number
   pub most : number ≤ o.most
-  pub few : number ≤ length (waitingBlocks c.public)
-  pub allIfFewer : number < o.most → number ≡ length (waitingBlocks c.public)
+  pub few : number ≤ length (waiting_blocks c.public)
+  pub all_if_fewer : number < o.most → number ≡ length (waiting_blocks c.public)
   -- "fills the n lowest waiting blocks with zeros .. and makes them free"
   pub gone : (b : ℕ) → LowestWaiting c.public number b → Gone c.public.info.bytes result.after b
   -- No other block changes, and nothing but flags and contents does.
@@ -58,5 +58,5 @@ pub record SweepsLowest (port : Port) (c : Card) (o : SweepOperands) (lent : Buf
 
 abbrev pub SweptGone : Type 0
 SweptGone =
-    (port : Port) (c : Card) (o : SweepOperands) (lent : Buffers) → isDone (perform port c (sweeping o lent)).answer ≡ true
+    (port : Port) (c : Card) (o : SweepOperands) (lent : Buffers) → is_done (perform port c (sweeping o lent)).answer ≡ true
     → SweepsLowest port c o lent (perform port c (sweeping o lent))

@@ -4,7 +4,7 @@ use Rattle.card.specs.Contents.{part, zeros}
 use Rattle.card.specs.Card.{Card, flag, allocated, waiting, free, block}
 use Rattle.card.specs.Soundness.{ranges, lengths}
 use Rattle.card.specs.Calls.{format}
-use Rattle.card.specs.Session.{Request, isSweep, perform}
+use Rattle.card.specs.Session.{Request, is_sweep, perform}
 use Rattle.card.specs.declared.Port.{Port}
 use Rattle.card.specs.declared.Call.{Call}
 
@@ -12,22 +12,22 @@ use Rattle.card.specs.declared.Call.{Call}
 
 -- From card c to card d the block is left unallocated, waiting or free by its flags as before, and its contents as they were.
 pub record LeftAlone (c d : Card) (b : ℕ) : Type 0 where
-  pub notAllocated : allocated d.public b ≡ false
-  pub sameFlags : flag d.public b ≡ flag c.public b
+  pub not_allocated : allocated d.public b ≡ false
+  pub same_flags : flag d.public b ≡ flag c.public b
   pub same : block d b ≡ block c b
 
 -- The block was free, and is allocated and holds zeros.
 pub record Allotted (c d : Card) (b : ℕ) : Type 0 where
-  pub wasFree : free c.public b ≡ true
-  pub isAllocated : allocated d.public b ≡ true
-  pub holdsZeros : block d b ≡ zeros c.public.info.bytes
+  pub was_free : free c.public b ≡ true
+  pub is_allocated : allocated d.public b ≡ true
+  pub holds_zeros : block d b ≡ zeros c.public.info.bytes
 
 -- 2026-09, "SWEEP is the second case in which a block not allocated is touched": the block waited, and is free and holds zeros.
 pub record Swept (call : Call) (c d : Card) (b : ℕ) : Type 0 where
-  pub bySweep : isSweep call ≡ true
-  pub wasWaiting : waiting c.public b ≡ true
-  pub isFree : free d.public b ≡ true
-  pub holdsZeros : block d b ≡ zeros c.public.info.bytes
+  pub by_sweep : is_sweep call ≡ true
+  pub was_waiting : waiting c.public b ≡ true
+  pub is_free : free d.public b ≡ true
+  pub holds_zeros : block d b ≡ zeros c.public.info.bytes
 
 -- What becomes of an unallocated block by a call from card c to card d.
 abbrev pub LeftOrZeroed : Call → Card → Card → ℕ → Type 0

@@ -1,7 +1,7 @@
 -- `cardplay::fill` meets its contract.
 use borrow.Author.Rules.{rules}
 use native.Mathlib.Omega.{arith}
-use Rattle.cardplay.proofs.InputBufferLaws.{grown-is}
+use Rattle.cardplay.proofs.InputBufferLaws.{grown_is}
 use Rattle.cardplay.proofs.fill.Statement.{statement}
 use Rattle.cardplay.proofs.fill.Tie as tie
 
@@ -30,7 +30,7 @@ returns : tie.Need-returns
 returns c =
     let at_read : tie.After-read = search in
     let start : tie.Start = search in
-    grown-is start.args.buffer.now at_read.read.last.1.0 _ _ _ (omega (arith, start.pre)) c.before.before.count.ensures.0.0
+    grown_is start.args.buffer.now at_read.read.last.1.0 _ _ _ (omega (arith, start.pre)) c.before.before.count.ensures.0.0
 
 pub fill_spec : {M : Type 1} → statement M
 fill_spec =

@@ -25,7 +25,7 @@ slice-aggregate-play-fresh-6 c = search rules
 slice-aggregate-play-fresh-7 : tie.Need-slice-aggregate-play-fresh-7
 slice-aggregate-play-fresh-7 c = search rules
 
--- The tables, as they are made, compute to those of `blankCard`.
+-- The tables, as they are made, compute to those of `blank_card`.
 play-fresh-requires : tie.Need-play-fresh-requires
 play-fresh-requires c κs = refl
 

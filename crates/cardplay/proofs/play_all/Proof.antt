@@ -6,8 +6,8 @@ use mathlib.Core.Bool.{true≢false}
 use lib.ListN.{length-replicate}
 use Rattle.card.specs.Card.{card}
 use Rattle.input.proofs.SameTables.{same_tables}
-use Rattle.cardplay.proofs.PiecesLaws.{pieces_none, played-in-pieces}
-use Rattle.cardplay.proofs.PiecesLoop.{PiecesLoop, going, pieces_more, pieces-halt}
+use Rattle.cardplay.proofs.PiecesLaws.{pieces_none, played_in_pieces}
+use Rattle.cardplay.proofs.PiecesLoop.{PiecesLoop, going, pieces_more, pieces_halt}
 use Rattle.cardplay.proofs.play_all.Statement.{statement}
 use Rattle.cardplay.proofs.play_all.Tie as tie
 
@@ -21,7 +21,7 @@ decreases-loop flags₀ keys₀ counts₀ pointers₀ multiplicities₀ windows�
 
 loop-holds : tie.Need-loop-init invariant-loop decreases-loop
 loop-holds c =
-    record { tables = same_tables _ _ _ _ _ _ _; sizeBuffer = length-replicate {A = ℕ} 65536 0; sizeOutput = length-replicate {A = ℕ} 65536 0; within = omega arith; pieces = pieces_none _; halts = λ on wrote. absurd (true≢false on) }
+    record { tables = same_tables _ _ _ _ _ _ _; size_buffer = length-replicate {A = ℕ} 65536 0; size_output = length-replicate {A = ℕ} 65536 0; within = omega arith; pieces = pieces_none _; halts = λ on wrote. absurd (true≢false on) }
 
 slice-aggregate-play-on : tie.Need-slice-aggregate-play-on invariant-loop decreases-loop
 slice-aggregate-play-on c = search sym
@@ -31,41 +31,41 @@ slice-aggregate-play-on-2 c = search sym
 
 play-on-requires : tie.Need-play-on-requires invariant-loop decreases-loop
 play-on-requires c κs =
-    let at-if1 : tie.Then1 invariant-loop decreases-loop = search in
-    let at-loop : tie.At-loop invariant-loop decreases-loop = search in
-    ((going at-loop.loop.progress.on at-loop.loop.turns at-loop.loop.progress.records _ at-if1.if1.taken).1, (at-loop.loop.inv.within, omega (arith, at-loop.loop.inv.sizeBuffer)))
+    let at_if1 : tie.Then1 invariant-loop decreases-loop = search in
+    let at_loop : tie.At-loop invariant-loop decreases-loop = search in
+    ((going at_loop.loop.progress.on at_loop.loop.turns at_loop.loop.progress.records _ at_if1.if1.taken).1, (at_loop.loop.inv.within, omega (arith, at_loop.loop.inv.size_buffer)))
 
 sub-turns : tie.Need-overflow-sub-turns invariant-loop decreases-loop
 sub-turns c =
-    let at-if1 : tie.Then1 invariant-loop decreases-loop = search in
-    let at-loop : tie.At-loop invariant-loop decreases-loop = search in
-    (going at-loop.loop.progress.on at-loop.loop.turns at-loop.loop.progress.records _ at-if1.if1.taken).0
+    let at_if1 : tie.Then1 invariant-loop decreases-loop = search in
+    let at_loop : tie.At-loop invariant-loop decreases-loop = search in
+    (going at_loop.loop.progress.on at_loop.loop.turns at_loop.loop.progress.records _ at_if1.if1.taken).0
 
 loop-less : tie.Need-loop-smaller invariant-loop decreases-loop
 loop-less c =
-    let at-if1 : tie.Then1 invariant-loop decreases-loop = search in
-    let at-loop : tie.At-loop invariant-loop decreases-loop = search in
-    omega (arith, (going at-loop.loop.progress.on at-loop.loop.turns at-loop.loop.progress.records _ at-if1.if1.taken).0)
+    let at_if1 : tie.Then1 invariant-loop decreases-loop = search in
+    let at_loop : tie.At-loop invariant-loop decreases-loop = search in
+    omega (arith, (going at_loop.loop.progress.on at_loop.loop.turns at_loop.loop.progress.records _ at_if1.if1.taken).0)
 
 loop-again : tie.Need-loop-preserved invariant-loop decreases-loop
 loop-again c =
-    let at-play-on : tie.After-play-on invariant-loop decreases-loop = search in
-    let at-loop : tie.At-loop invariant-loop decreases-loop = search in
+    let at_play_on : tie.After-play-on invariant-loop decreases-loop = search in
+    let at_loop : tie.At-loop invariant-loop decreases-loop = search in
     record {
       tables = record {
-        sameFlags = at-play-on.play-on.kept.1.0 ∙ at-loop.loop.inv.tables.sameFlags;
-        sameKeys = at-play-on.play-on.kept.1.1.0 ∙ at-loop.loop.inv.tables.sameKeys;
-        sameCounts = at-play-on.play-on.kept.1.1.1.0 ∙ at-loop.loop.inv.tables.sameCounts;
-        samePointers = at-play-on.play-on.kept.1.1.1.1.0 ∙ at-loop.loop.inv.tables.samePointers;
-        sameMultiplicities = at-play-on.play-on.kept.1.1.1.1.1.0 ∙ at-loop.loop.inv.tables.sameMultiplicities;
-        sameWindows = at-play-on.play-on.kept.1.1.1.1.1.1.0 ∙ at-loop.loop.inv.tables.sameWindows;
-        sameContents = at-play-on.play-on.kept.1.1.1.1.1.1.1.0 ∙ at-loop.loop.inv.tables.sameContents;
+        same_flags = at_play_on.play-on.kept.1.0 ∙ at_loop.loop.inv.tables.same_flags;
+        same_keys = at_play_on.play-on.kept.1.1.0 ∙ at_loop.loop.inv.tables.same_keys;
+        same_counts = at_play_on.play-on.kept.1.1.1.0 ∙ at_loop.loop.inv.tables.same_counts;
+        same_pointers = at_play_on.play-on.kept.1.1.1.1.0 ∙ at_loop.loop.inv.tables.same_pointers;
+        same_multiplicities = at_play_on.play-on.kept.1.1.1.1.1.0 ∙ at_loop.loop.inv.tables.same_multiplicities;
+        same_windows = at_play_on.play-on.kept.1.1.1.1.1.1.0 ∙ at_loop.loop.inv.tables.same_windows;
+        same_contents = at_play_on.play-on.kept.1.1.1.1.1.1.1.0 ∙ at_loop.loop.inv.tables.same_contents;
       };
-      sizeBuffer = at-play-on.play-on.kept.1.1.1.1.1.1.1.1.1.0 ∙ at-loop.loop.inv.sizeBuffer;
-      sizeOutput = at-play-on.play-on.kept.1.1.1.1.1.1.1.1.1.1.1.0 ∙ at-loop.loop.inv.sizeOutput;
-      within = at-play-on.play-on.ensures.within;
-      pieces = pieces_more _ _ _ _ at-play-on.play-on.ensures at-loop.loop.inv.pieces;
-      halts = pieces-halt _ _ _ _ at-play-on.play-on.ensures;
+      size_buffer = at_play_on.play-on.kept.1.1.1.1.1.1.1.1.1.0 ∙ at_loop.loop.inv.size_buffer;
+      size_output = at_play_on.play-on.kept.1.1.1.1.1.1.1.1.1.1.1.0 ∙ at_loop.loop.inv.size_output;
+      within = at_play_on.play-on.ensures.within;
+      pieces = pieces_more _ _ _ _ at_play_on.play-on.ensures at_loop.loop.inv.pieces;
+      halts = pieces_halt _ _ _ _ at_play_on.play-on.ensures;
     }
 
 same_length : tie.Need-same-length invariant-loop decreases-loop
@@ -90,10 +90,10 @@ same-length-7 : tie.Need-same-length-7 invariant-loop decreases-loop
 same-length-7 c = search
 
 returns : tie.Need-returns invariant-loop decreases-loop
-returns c = search played-in-pieces
+returns c = search played_in_pieces
 
-pub play-all-spec : {M : Type 1} → statement M
-play-all-spec =
+pub play_all_spec : {M : Type 1} → statement M
+play_all_spec =
     tie.close
     (tie.spec
     invariant-loop

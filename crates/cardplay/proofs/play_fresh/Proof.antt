@@ -1,8 +1,8 @@
 -- `cardplay::play_fresh` meets its contract.
 use mathlib.Core.Path.{◌∙◌}
 use borrow.Author.Rules.{rules}
-use Rattle.cardplay.proofs.FreshLaws.{fresh-left}
-use Rattle.cardplay.proofs.PiecesLaws.{pieces-from}
+use Rattle.cardplay.proofs.FreshLaws.{fresh_left}
+use Rattle.cardplay.proofs.PiecesLaws.{pieces_from}
 use Rattle.cardplay.proofs.play_fresh.Statement.{statement}
 use Rattle.cardplay.proofs.play_fresh.Tie as tie
 
@@ -25,55 +25,55 @@ play-all-requires c κs = search rules
 
 same_length : tie.Need-same-length
 same_length c =
-    let at-play-all : tie.After-play-all = search in
-    let at-format = format-from-play-all at-play-all in
-    at-play-all.play-all.kept.1.0 ∙ at-format.format.kept.1.1.1.1.0
+    let at_play_all : tie.After-play-all = search in
+    let at_format = format-from-play-all at_play_all in
+    at_play_all.play-all.kept.1.0 ∙ at_format.format.kept.1.1.1.1.0
 
 same-length-2 : tie.Need-same-length-2
 same-length-2 c =
-    let at-play-all : tie.After-play-all = search in
-    let at-format = format-from-play-all at-play-all in
-    at-play-all.play-all.kept.1.1.0 ∙ at-format.format.kept.1.1.1.1.1.0
+    let at_play_all : tie.After-play-all = search in
+    let at_format = format-from-play-all at_play_all in
+    at_play_all.play-all.kept.1.1.0 ∙ at_format.format.kept.1.1.1.1.1.0
 
 same-length-3 : tie.Need-same-length-3
 same-length-3 c =
-    let at-play-all : tie.After-play-all = search in
-    let at-format = format-from-play-all at-play-all in
-    at-play-all.play-all.kept.1.1.1.0 ∙ at-format.format.kept.1.1.1.1.1.1.0
+    let at_play_all : tie.After-play-all = search in
+    let at_format = format-from-play-all at_play_all in
+    at_play_all.play-all.kept.1.1.1.0 ∙ at_format.format.kept.1.1.1.1.1.1.0
 
 same-length-4 : tie.Need-same-length-4
 same-length-4 c =
-    let at-play-all : tie.After-play-all = search in
-    let at-format = format-from-play-all at-play-all in
-    at-play-all.play-all.kept.1.1.1.1.0 ∙ at-format.format.kept.1.1.1.1.1.1.1.0
+    let at_play_all : tie.After-play-all = search in
+    let at_format = format-from-play-all at_play_all in
+    at_play_all.play-all.kept.1.1.1.1.0 ∙ at_format.format.kept.1.1.1.1.1.1.1.0
 
 same-length-5 : tie.Need-same-length-5
 same-length-5 c =
-    let at-play-all : tie.After-play-all = search in
-    let at-format = format-from-play-all at-play-all in
-    at-play-all.play-all.kept.1.1.1.1.1.0 ∙ at-format.format.kept.1.1.1.1.1.1.1.1.0
+    let at_play_all : tie.After-play-all = search in
+    let at_format = format-from-play-all at_play_all in
+    at_play_all.play-all.kept.1.1.1.1.1.0 ∙ at_format.format.kept.1.1.1.1.1.1.1.1.0
 
 same-length-6 : tie.Need-same-length-6
 same-length-6 c =
-    let at-play-all : tie.After-play-all = search in
-    let at-format = format-from-play-all at-play-all in
-    at-play-all.play-all.kept.1.1.1.1.1.1.0 ∙ at-format.format.kept.1.1.1.1.1.1.1.1.1.0
+    let at_play_all : tie.After-play-all = search in
+    let at_format = format-from-play-all at_play_all in
+    at_play_all.play-all.kept.1.1.1.1.1.1.0 ∙ at_format.format.kept.1.1.1.1.1.1.1.1.1.0
 
 same-length-7 : tie.Need-same-length-7
 same-length-7 c =
-    let at-play-all : tie.After-play-all = search in
-    let at-format = format-from-play-all at-play-all in
-    at-play-all.play-all.kept.1.1.1.1.1.1.1.0 ∙ at-format.format.kept.1.1.1.1.1.1.1.1.1.1.0
+    let at_play_all : tie.After-play-all = search in
+    let at_format = format-from-play-all at_play_all in
+    at_play_all.play-all.kept.1.1.1.1.1.1.1.0 ∙ at_format.format.kept.1.1.1.1.1.1.1.1.1.1.0
 
 returns : tie.Need-returns
 returns c =
-    let at-play-all : tie.After-play-all = search in
-    let at-format = format-from-play-all at-play-all in
-    let start = start-from-format at-format in
-    pieces-from (fresh-left _ start.pre at-format.format.ensures.leaves) at-play-all.play-all.ensures
+    let at_play_all : tie.After-play-all = search in
+    let at_format = format-from-play-all at_play_all in
+    let start = start-from-format at_format in
+    pieces_from (fresh_left _ start.pre at_format.format.ensures.leaves) at_play_all.play-all.ensures
 
-pub play-fresh-spec : {M : Type 1} → statement M
-play-fresh-spec =
+pub play_fresh_spec : {M : Type 1} → statement M
+play_fresh_spec =
     tie.close
     (tie.spec
     fresh-requires

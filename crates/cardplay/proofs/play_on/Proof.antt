@@ -2,9 +2,9 @@
 use borrow.Author.Rules.{rules}
 use mathlib.Core.Path.{sym}
 use lib.Seq.{length-take-le}
-use Rattle.cardplay.proofs.InputBufferLaws.{written-within}
-use Rattle.cardplay.proofs.Awaited.{play-awaits}
-use Rattle.cardplay.proofs.ProgressLaws.{room-left, progress-is}
+use Rattle.cardplay.proofs.InputBufferLaws.{written_within}
+use Rattle.cardplay.proofs.Awaited.{play_awaits}
+use Rattle.cardplay.proofs.ProgressLaws.{room_left, progress_is}
 use Rattle.cardplay.proofs.play_on.Statement.{statement}
 use Rattle.cardplay.proofs.play_on.Tie as tie
 
@@ -18,13 +18,13 @@ play-some-requires c κs = search rules
 
 slice-reshare-prefix-write-all : tie.Need-slice-reshare-prefix-write-all
 slice-reshare-prefix-write-all c =
-    let at-play-some : tie.After-play-some = search in
-    (written-within at-play-some.play-some.ensures.writes).1
+    let at_play_some : tie.After-play-some = search in
+    (written_within at_play_some.play-some.ensures.writes).1
 
 slice-aggregate-write-all : tie.Need-slice-aggregate-write-all
 slice-aggregate-write-all c =
-    let at-play-some : tie.After-play-some = search in
-    sym (length-take-le _ _ (written-within at-play-some.play-some.ensures.writes).1)
+    let at_play_some : tie.After-play-some = search in
+    sym (length-take-le _ _ (written_within at_play_some.play-some.ensures.writes).1)
 
 write-all-requires : tie.Need-write-all-requires
 write-all-requires c κs = search rules
@@ -34,10 +34,10 @@ needs-input-requires c κs = search rules
 
 read-on-requires : tie.Need-read-on-requires
 read-on-requires c κs =
-    let at-play-some : tie.After-play-some = search in
-    let at-slice-known8 : tie.After-slice-known8 = search in
-    let start = start-from-slice-known8 at-slice-known8 in
-    (at-play-some.play-some.ensures.within, room-left at-play-some.play-some.ensures (play-awaits _ _ _ _) c.before.before.write-all.result c.before.needs-input.ensures start.pre.1.1 at-play-some.play-some.kept.1.1.1.1.1.1.1.1.1.0)
+    let at_play_some : tie.After-play-some = search in
+    let at_slice_known8 : tie.After-slice-known8 = search in
+    let start = start-from-slice-known8 at_slice_known8 in
+    (at_play_some.play-some.ensures.within, room_left at_play_some.play-some.ensures (play_awaits _ _ _ _) c.before.before.write-all.result c.before.needs-input.ensures start.pre.1.1 at_play_some.play-some.kept.1.1.1.1.1.1.1.1.1.0)
 
 is-full-requires : tie.Need-is-full-requires
 is-full-requires c κs = search rules
@@ -71,15 +71,15 @@ same-length-9 c = search rules
 
 returns : tie.Need-returns
 returns c =
-    let at-write-all : tie.After-write-all = search in
-    let at-play-some : tie.After-play-some = search in
-    let at-needs-input : tie.After-needs-input = search in
-    let at-read-on : tie.After-read-on = search in
-    let at-is-full : tie.After-is-full = search in
-    progress-is at-play-some.play-some.ensures at-write-all.write-all.result at-needs-input.needs-input.ensures at-is-full.is-full.ensures at-read-on.read-on.ensures
+    let at_write_all : tie.After-write-all = search in
+    let at_play_some : tie.After-play-some = search in
+    let at_needs_input : tie.After-needs-input = search in
+    let at_read_on : tie.After-read-on = search in
+    let at_is_full : tie.After-is-full = search in
+    progress_is at_play_some.play-some.ensures at_write_all.write-all.result at_needs_input.needs-input.ensures at_is_full.is-full.ensures at_read_on.read-on.ensures
 
-pub play-on-spec : {M : Type 1} → statement M
-play-on-spec =
+pub play_on_spec : {M : Type 1} → statement M
+play_on_spec =
     tie.close
     (tie.spec
     play-some-requires

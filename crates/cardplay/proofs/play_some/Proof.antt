@@ -2,7 +2,7 @@
 use borrow.Author.Rules.{rules}
 use mathlib.Core.Path.{sym}
 use lib.Seq.{length-take-le}
-use Rattle.cardplay.proofs.ProgressLaws.{read-within, piece_is}
+use Rattle.cardplay.proofs.ProgressLaws.{read_within, piece_is}
 use Rattle.cardplay.proofs.play_some.Statement.{statement}
 use Rattle.cardplay.proofs.play_some.Tie as tie
 
@@ -22,10 +22,10 @@ play-requires c κs = search rules
 
 keep-requires : tie.Need-keep-requires
 keep-requires c κs =
-    let at-play : tie.After-play = search in
-    let at-slice-known8 : tie.After-slice-known8 = search in
-    let start = start-from-slice-known8 at-slice-known8 in
-    (read-within start.args.buffer.now start.args.filled start.pre.1 at-play.play.ensures, search)
+    let at_play : tie.After-play = search in
+    let at_slice_known8 : tie.After-slice-known8 = search in
+    let start = start-from-slice-known8 at_slice_known8 in
+    (read_within start.args.buffer.now start.args.filled start.pre.1 at_play.play.ensures, search)
 
 same_length : tie.Need-same-length
 same_length c = search rules
@@ -56,13 +56,13 @@ same-length-9 c = search rules
 
 returns : tie.Need-returns
 returns c =
-    let at-play : tie.After-play = search in
-    let at-slice-known8 : tie.After-slice-known8 = search in
-    let start = start-from-slice-known8 at-slice-known8 in
-    piece_is start.args.buffer.now start.args.filled start.pre.1 at-play.play.ensures c.before.before.before.keep.ensures
+    let at_play : tie.After-play = search in
+    let at_slice_known8 : tie.After-slice-known8 = search in
+    let start = start-from-slice-known8 at_slice_known8 in
+    piece_is start.args.buffer.now start.args.filled start.pre.1 at_play.play.ensures c.before.before.before.keep.ensures
 
-pub play-some-spec : {M : Type 1} → statement M
-play-some-spec =
+pub play_some_spec : {M : Type 1} → statement M
+play_some_spec =
     tie.close
     (tie.spec
     slice-reshare-prefix-play

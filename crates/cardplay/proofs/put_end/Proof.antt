@@ -16,5 +16,5 @@ same_length c = search rules
 returns : tie.Need-returns
 returns c = search last_written
 
-pub put-end-spec : {M : Type 1} → statement M
-put-end-spec = tie.close (tie.spec end-number-requires put-last-line-requires same_length returns)
+pub put_end_spec : {M : Type 1} → statement M
+put_end_spec = tie.close (tie.spec end-number-requires put-last-line-requires same_length returns)

@@ -13,11 +13,11 @@ same_length c = search rules
 
 returns : tie.Need-returns
 returns c =
-    let at-if1 : tie.Then1 = search in
-    record { fills = c.before.before.fill.ensures; idle = λ e. absurd (true≢false (sym at-if1.if1.taken ∙ e)) }
+    let at_if1 : tie.Then1 = search in
+    record { fills = c.before.before.fill.ensures; idle = λ e. absurd (true≢false (sym at_if1.if1.taken ∙ e)) }
 
 returns-2 : tie.Need-returns-2
 returns-2 c = search rules
 
-pub read-on-spec : {M : Type 1} → statement M
-read-on-spec = tie.close (tie.spec fill-requires same_length returns returns-2)
+pub read_on_spec : {M : Type 1} → statement M
+read_on_spec = tie.close (tie.spec fill-requires same_length returns returns-2)

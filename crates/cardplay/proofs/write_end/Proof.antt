@@ -2,7 +2,7 @@
 use borrow.Author.Rules.{rules}
 use mathlib.Core.Path.{sym}
 use lib.Seq.{length-take-le}
-use Rattle.cardplay.proofs.InputBufferLaws.{written-within}
+use Rattle.cardplay.proofs.InputBufferLaws.{written_within}
 use Rattle.cardplay.proofs.write_end.Statement.{statement}
 use Rattle.cardplay.proofs.write_end.Tie as tie
 
@@ -13,10 +13,10 @@ put-end-requires : tie.Need-put-end-requires
 put-end-requires c κs = search rules
 
 array-share-prefix-output : tie.Need-array-share-prefix-output
-array-share-prefix-output c = (written-within c.before.put-end.ensures).1
+array-share-prefix-output c = (written_within c.before.put_end.ensures).1
 
 slice-aggregate-write-all : tie.Need-slice-aggregate-write-all
-slice-aggregate-write-all c = sym (length-take-le _ _ (written-within c.before.before.put-end.ensures).1)
+slice-aggregate-write-all c = sym (length-take-le _ _ (written_within c.before.before.put_end.ensures).1)
 
 write-all-requires : tie.Need-write-all-requires
 write-all-requires c κs = search rules
@@ -27,8 +27,8 @@ returns c = search rules
 returns-2 : tie.Need-returns-2
 returns-2 c = search rules
 
-pub write-end-spec : {M : Type 1} → statement M
-write-end-spec =
+pub write_end_spec : {M : Type 1} → statement M
+write_end_spec =
     tie.close
     (tie.spec
     slice-aggregate-put-end

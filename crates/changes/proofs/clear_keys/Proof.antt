@@ -47,8 +47,8 @@ same_length c = search rules
 returns : tie.Need-returns
 returns c = search rules
 
-pub clear-keys-spec : {M : Type 1} → statement M
-clear-keys-spec =
+pub clear_keys_spec : {M : Type 1} → statement M
+clear_keys_spec =
     tie.close
     (tie.spec
     mul-read

@@ -3,8 +3,8 @@ use mathlib.Core.Path.{sym, ◌∙◌}
 use native.Mathlib.Omega.{arith}
 use Prim.Native.Nat.{◌<◌}
 use lib.ListN.{length, get_or}
-use Rattle.card.specs.Card.{highestMultiplicity}
-use Rattle.changes.proofs.Changes.{made-there, made-new, made_again, made-first}
+use Rattle.card.specs.Card.{highest_multiplicity}
+use Rattle.changes.proofs.Changes.{made_there, made_new, made_again, made_first}
 use borrow.Author.Rules.{rules}
 use Rattle.changes.proofs.make_pointer.Statement.{statement}
 use Rattle.changes.proofs.make_pointer.Tie as tie
@@ -20,10 +20,10 @@ start-from-place c = search
 -- Where the pointer stands, its multiplicity can be raised.
 there : (c : tie.Then1)
     → let at_place = place-from-stands c.before in let a = (start-from-place at_place).args in
-    (at_place.place.result < length a.multiplicities.now) × (get_or a.multiplicities.now at_place.place.result 0 < highestMultiplicity)
+    (at_place.place.result < length a.multiplicities.now) × (get_or a.multiplicities.now at_place.place.result 0 < highest_multiplicity)
 there c =
     let at_place = place-from-stands c.before in
-    made-there at_place.place.ensures (start-from-place at_place).pre.0 (sym c.before.stands.ensures ∙ c.if1.true)
+    made_there at_place.place.ensures (start-from-place at_place).pre.0 (sym c.before.stands.ensures ∙ c.if1.true)
 
 mul-pointer : tie.Need-overflow-mul-pointer
 mul-pointer c = search rules
@@ -54,28 +54,28 @@ stands-requires c κs = search rules
 
 mul-multiplicities : tie.Need-overflow-mul-multiplicities
 mul-multiplicities c =
-    let at-if1 : tie.Then1 = search in
-    omega (arith, (there at-if1).0)
+    let at_if1 : tie.Then1 = search in
+    omega (arith, (there at_if1).0)
 
 slice-read-multiplicities : tie.Need-slice-read-multiplicities
 slice-read-multiplicities c =
-    let at-if1 : tie.Then1 = search in
-    omega (arith, (there at-if1).0)
+    let at_if1 : tie.Then1 = search in
+    omega (arith, (there at_if1).0)
 
 add-multiplicities : tie.Need-overflow-add-multiplicities
 add-multiplicities c =
-    let at-if1 : tie.Then1 = search in
-    omega (arith, (there at-if1).1)
+    let at_if1 : tie.Then1 = search in
+    omega (arith, (there at_if1).1)
 
 mul-multiplicities-2 : tie.Need-overflow-mul-multiplicities-2
 mul-multiplicities-2 c =
-    let at-if1 : tie.Then1 = search in
-    omega (arith, (there at-if1).0)
+    let at_if1 : tie.Then1 = search in
+    omega (arith, (there at_if1).0)
 
 slice-write-multiplicities : tie.Need-slice-write-multiplicities
 slice-write-multiplicities c =
-    let at-if1 : tie.Then1 = search in
-    omega (arith, (there at-if1).0)
+    let at_if1 : tie.Then1 = search in
+    omega (arith, (there at_if1).0)
 
 same_length : tie.Need-same-length
 same_length c = search rules
@@ -88,19 +88,19 @@ same-length-3 c = search rules
 
 returns : tie.Need-returns
 returns c =
-    let at-if1 : tie.Then1 = search in
-    let at-stands : tie.After-stands = search in
+    let at_if1 : tie.Then1 = search in
+    let at_stands : tie.After-stands = search in
     let at_place : tie.After-place = search in
     let start : tie.Start = search in
-    made_again _ _ _ _ _ _ at_place.place.ensures start.pre.0 (sym at-stands.stands.ensures ∙ at-if1.if1.taken)
+    made_again _ _ _ _ _ _ at_place.place.ensures start.pre.0 (sym at_stands.stands.ensures ∙ at_if1.if1.taken)
 
 put-requires : tie.Need-put-requires
 put-requires c κs =
-    let at-if1 : tie.Else1 = search in
-    let at-stands : tie.After-stands = search in
+    let at_if1 : tie.Else1 = search in
+    let at_stands : tie.After-stands = search in
     let at_place : tie.After-place = search in
     let start : tie.Start = search in
-    made-new at_place.place.ensures start.pre.0 (sym at-stands.stands.ensures ∙ at-if1.if1.left)
+    made_new at_place.place.ensures start.pre.0 (sym at_stands.stands.ensures ∙ at_if1.if1.left)
 
 add-with-used : tie.Need-overflow-add-with-used
 add-with-used c = search rules
@@ -119,15 +119,15 @@ same-length-6 c = search rules
 
 returns-2 : tie.Need-returns-2
 returns-2 c =
-    let at-if1 : tie.Else1 = search in
-    let at-stands : tie.After-stands = search in
+    let at_if1 : tie.Else1 = search in
+    let at_stands : tie.After-stands = search in
     let at_place : tie.After-place = search in
     let start : tie.Start = search in
-    let at-put : tie.After-put = search in
-    made-first _ _ _ _ _ _ at_place.place.ensures start.pre.0 (sym at-stands.stands.ensures ∙ at-if1.if1.left) at-put.put.ensures c.with-used.ensures
+    let at_put : tie.After-put = search in
+    made_first _ _ _ _ _ _ at_place.place.ensures start.pre.0 (sym at_stands.stands.ensures ∙ at_if1.if1.left) at_put.put.ensures c.with-used.ensures
 
-pub make-pointer-spec : {M : Type 1} → statement M
-make-pointer-spec =
+pub make_pointer_spec : {M : Type 1} → statement M
+make_pointer_spec =
     tie.close
     (tie.spec
     mul-pointer

@@ -2,7 +2,7 @@
 use native.Mathlib.Omega.{arith}
 use Prim.Native.Nat.{◌≤◌, ◌<◌}
 use lib.ListN.{length, get_or}
-use Rattle.changes.proofs.Changes.{taken-there, taken-away, taken-one, taken-last}
+use Rattle.changes.proofs.Changes.{taken_there, taken_away, taken_one, taken_last}
 use borrow.Author.Rules.{rules}
 use Rattle.changes.proofs.take_pointer.Statement.{statement}
 use Rattle.changes.proofs.take_pointer.Tie as tie
@@ -15,7 +15,7 @@ start-from-place c = search
 -- Where the pointer stands, its multiplicity can be lowered.
 there : (c : tie.After-place)
     → let a = (start-from-place c).args in (c.place.result < length a.multiplicities.now) × (1 ≤ get_or a.multiplicities.now c.place.result 0)
-there c = taken-there c.place.ensures (start-from-place c).requires.0
+there c = taken_there c.place.ensures (start-from-place c).requires.0
 
 mul-pointer : tie.Need-overflow-mul-pointer
 mul-pointer c = search rules
@@ -89,20 +89,20 @@ returns : tie.Need-returns
 returns c =
     let at_place : tie.After-place = search in
     let start : tie.Start = search in
-    let at-if1 : tie.Then1 = search in
-    taken-one _ _ _ _ _ _ at_place.place.ensures start.pre.0 at-if1.if1.taken
+    let at_if1 : tie.Then1 = search in
+    taken_one _ _ _ _ _ _ at_place.place.ensures start.pre.0 at_if1.if1.taken
 
 take-away-requires : tie.Need-take-away-requires
 take-away-requires c κs =
     let at_place : tie.After-place = search in
     let start : tie.Start = search in
-    taken-away at_place.place.ensures start.pre.0
+    taken_away at_place.place.ensures start.pre.0
 
 sub-with-used : tie.Need-overflow-sub-with-used
 sub-with-used c =
     let at_place : tie.After-place = search in
     let start : tie.Start = search in
-    omega (arith, (taken-away at_place.place.ensures start.pre.0).0.place)
+    omega (arith, (taken_away at_place.place.ensures start.pre.0).0.place)
 
 with-used-requires : tie.Need-with-used-requires
 with-used-requires c κs = search rules
@@ -120,12 +120,12 @@ returns-2 : tie.Need-returns-2
 returns-2 c =
     let at_place : tie.After-place = search in
     let start : tie.Start = search in
-    let at-if1 : tie.Else1 = search in
-    let at-take-away : tie.After-take-away = search in
-    taken-last _ _ _ _ _ _ at_place.place.ensures start.pre.0 at-if1.if1.left at-take-away.take-away.ensures c.with-used.ensures
+    let at_if1 : tie.Else1 = search in
+    let at_take_away : tie.After-take-away = search in
+    taken_last _ _ _ _ _ _ at_place.place.ensures start.pre.0 at_if1.if1.left at_take_away.take-away.ensures c.with-used.ensures
 
-pub take-pointer-spec : {M : Type 1} → statement M
-take-pointer-spec =
+pub take_pointer_spec : {M : Type 1} → statement M
+take_pointer_spec =
     tie.close
     (tie.spec
     mul-pointer

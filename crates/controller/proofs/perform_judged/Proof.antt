@@ -1,8 +1,8 @@
 -- `controller::perform_judged` meets its contract: each arm by one law.
 use mathlib.Core.Path.{sym, ◌∙◌}
-use Rattle.laws.specs.SoundnessLaws.{verdict-sound}
+use Rattle.laws.specs.SoundnessLaws.{verdict_sound}
 use Rattle.card.specs.Session.{request}
-use Rattle.laws.specs.SessionLaws.{is-misshapen, is-unsound, is-audited}
+use Rattle.laws.specs.SessionLaws.{is_misshapen, is_unsound, is_audited}
 use borrow.Author.Rules.{rules}
 use Rattle.controller.proofs.perform_judged.Statement.{statement}
 use Rattle.controller.proofs.perform_judged.Tie as tie
@@ -18,19 +18,19 @@ enum-told-3 c = search rules
 
 perform-sound-requires : tie.Need-perform-sound-requires
 perform-sound-requires c κs =
-    let at-enum-told3 : tie.After-enum-told3 = search in
+    let at_enum_told3 : tie.After-enum-told3 = search in
     let start : tie.Start = search in
-    verdict-sound _ (sym start.pre ∙ at-enum-told3.enum-told3.given.1)
+    verdict_sound _ (sym start.pre ∙ at_enum_told3.enum-told3.given.1)
 
 returns : tie.Need-returns
 returns c =
     let start : tie.Start = search in
-    is-misshapen start.args.port _ (request start.args.call start.args.input.now start.args.out.now start.args.places.now) (sym start.pre ∙ c.enum_told.given.1)
+    is_misshapen start.args.port _ (request start.args.call start.args.input.now start.args.out.now start.args.places.now) (sym start.pre ∙ c.enum_told.given.1)
 
 returns-2 : tie.Need-returns-2
 returns-2 c =
     let start : tie.Start = search in
-    is-unsound start.args.port _ (request start.args.call start.args.input.now start.args.out.now start.args.places.now) (sym start.pre ∙ c.enum-told2.given.1)
+    is_unsound start.args.port _ (request start.args.call start.args.input.now start.args.out.now start.args.places.now) (sym start.pre ∙ c.enum-told2.given.1)
 
 same_length : tie.Need-same-length
 same_length c = search rules
@@ -61,13 +61,13 @@ same-length-9 c = search rules
 
 returns-3 : tie.Need-returns-3
 returns-3 c =
-    let at-perform-sound : tie.After-perform-sound = search in
-    let at-enum-told3 : tie.After-enum-told3 = search in
+    let at_perform_sound : tie.After-perform-sound = search in
+    let at_enum_told3 : tie.After-enum-told3 = search in
     let start : tie.Start = search in
-    is-audited start.args.port _ (request start.args.call start.args.input.now start.args.out.now start.args.places.now) (sym start.pre ∙ at-enum-told3.enum-told3.given.1) at-perform-sound.perform-sound.ensures
+    is_audited start.args.port _ (request start.args.call start.args.input.now start.args.out.now start.args.places.now) (sym start.pre ∙ at_enum_told3.enum-told3.given.1) at_perform_sound.perform_sound.ensures
 
-pub perform-judged-spec : {M : Type 1} → statement M
-perform-judged-spec =
+pub perform_judged_spec : {M : Type 1} → statement M
+perform_judged_spec =
     tie.close
     (tie.spec
     enum_told

@@ -1,5 +1,5 @@
 -- `dispatch::perform_sound` meets its contract: each arm by one law.
-use Rattle.laws.specs.BuffersLaws.{with_read, with_write, with-alloc, with-alloc-contig, with_create, with-delete, with-delete-tree, with-key, with-renew, with-force, with-free, with-tick, with-audit, with-rent, with-sweep}
+use Rattle.laws.specs.BuffersLaws.{with_read, with_write, with_alloc, with_alloc_contig, with_create, with_delete, with_delete_tree, with_key, with_renew, with_force, with_free, with_tick, with_audit, with_rent, with_sweep}
 use Rattle.card.specs.declared.Mode.TheVariants.{Reading, Writing}
 use borrow.Author.Rules.{rules}
 use Rattle.dispatch.proofs.perform_sound.Statement.{statement}
@@ -182,7 +182,7 @@ same-length-23 : tie.Need-same-length-23
 same-length-23 c = search rules
 
 returns-3 : tie.Need-returns-3
-returns-3 c = search with-alloc
+returns-3 c = search with_alloc
 
 same-length-24 : tie.Need-same-length-24
 same-length-24 c = search rules
@@ -209,7 +209,7 @@ same-length-31 : tie.Need-same-length-31
 same-length-31 c = search rules
 
 returns-4 : tie.Need-returns-4
-returns-4 c = search with-alloc-contig
+returns-4 c = search with_alloc_contig
 
 same-length-32 : tie.Need-same-length-32
 same-length-32 c = search rules
@@ -257,7 +257,7 @@ same-length-45 : tie.Need-same-length-45
 same-length-45 c = search rules
 
 returns-6 : tie.Need-returns-6
-returns-6 c = search with-delete
+returns-6 c = search with_delete
 
 same-length-46 : tie.Need-same-length-46
 same-length-46 c = search rules
@@ -281,7 +281,7 @@ same-length-52 : tie.Need-same-length-52
 same-length-52 c = search rules
 
 returns-7 : tie.Need-returns-7
-returns-7 c = search with-delete-tree
+returns-7 c = search with_delete_tree
 
 same-length-53 : tie.Need-same-length-53
 same-length-53 c = search rules
@@ -306,11 +306,11 @@ same-length-59 c = search rules
 
 returns-8 : tie.Need-returns-8
 returns-8 c =
-    let at-key-sound : tie.After-key-sound = search in
-    let at-call8 : tie.After-call8 = search in
-    let start = start-from-call8 at-call8 in
-    with-key start.args.port _ start.args.input.now start.args.out.now start.args.places.now start.args.call Reading _ at-call8.call8.given.1
-    at-key-sound.key-sound.ensures
+    let at_key_sound : tie.After-key-sound = search in
+    let at_call8 : tie.After-call8 = search in
+    let start = start-from-call8 at_call8 in
+    with_key start.args.port _ start.args.input.now start.args.out.now start.args.places.now start.args.call Reading _ at_call8.call8.given.1
+    at_key_sound.key_sound.ensures
 
 same-length-60 : tie.Need-same-length-60
 same-length-60 c = search rules
@@ -335,11 +335,11 @@ same-length-66 c = search rules
 
 returns-9 : tie.Need-returns-9
 returns-9 c =
-    let at-key-sound2 : tie.After-key-sound2 = search in
-    let at-call9 : tie.After-call9 = search in
-    let start = start-from-call9 at-call9 in
-    with-key start.args.port _ start.args.input.now start.args.out.now start.args.places.now start.args.call Writing _ at-call9.call9.given.1
-    at-key-sound2.key-sound2.ensures
+    let at_key_sound2 : tie.After-key-sound2 = search in
+    let at_call9 : tie.After-call9 = search in
+    let start = start-from-call9 at_call9 in
+    with_key start.args.port _ start.args.input.now start.args.out.now start.args.places.now start.args.call Writing _ at_call9.call9.given.1
+    at_key_sound2.key-sound2.ensures
 
 same-length-67 : tie.Need-same-length-67
 same-length-67 c = search rules
@@ -364,10 +364,10 @@ same-length-73 c = search rules
 
 returns-10 : tie.Need-returns-10
 returns-10 c =
-    let at-call10 : tie.After-call10 = search in
+    let at_call10 : tie.After-call10 = search in
     let start : tie.Start = search in
-    with-renew start.args.port _ start.args.input.now start.args.out.now start.args.places.now start.args.call at-call10.call10.given.1
-    (c.before.before.renew-sound.ensures start.args.port)
+    with_renew start.args.port _ start.args.input.now start.args.out.now start.args.places.now start.args.call at_call10.call10.given.1
+    (c.before.before.renew_sound.ensures start.args.port)
 
 same-length-74 : tie.Need-same-length-74
 same-length-74 c = search rules
@@ -392,10 +392,10 @@ same-length-80 c = search rules
 
 returns-11 : tie.Need-returns-11
 returns-11 c =
-    let at-call11 : tie.After-call11 = search in
+    let at_call11 : tie.After-call11 = search in
     let start : tie.Start = search in
-    with-force start.args.port _ start.args.input.now start.args.out.now start.args.places.now start.args.call at-call11.call11.given.1
-    (c.before.before.force-sound.ensures start.args.port)
+    with_force start.args.port _ start.args.input.now start.args.out.now start.args.places.now start.args.call at_call11.call11.given.1
+    (c.before.before.force_sound.ensures start.args.port)
 
 same-length-81 : tie.Need-same-length-81
 same-length-81 c = search rules
@@ -420,9 +420,9 @@ same-length-87 c = search rules
 
 returns-12 : tie.Need-returns-12
 returns-12 c =
-    let at-enum-told : tie.After-enum-told = search in
+    let at_enum_told : tie.After-enum-told = search in
     let start : tie.Start = search in
-    with-free start.args.port _ start.args.input.now start.args.out.now start.args.places.now start.args.call at-enum-told.enum_told.given.1
+    with_free start.args.port _ start.args.input.now start.args.out.now start.args.places.now start.args.call at_enum_told.enum_told.given.1
     (c.free-sound.ensures start.args.port)
 
 same-length-88 : tie.Need-same-length-88
@@ -448,10 +448,10 @@ same-length-94 c = search rules
 
 returns-13 : tie.Need-returns-13
 returns-13 c =
-    let at-call12 : tie.After-call12 = search in
+    let at_call12 : tie.After-call12 = search in
     let start : tie.Start = search in
-    with-tick start.args.port _ start.args.input.now start.args.out.now start.args.places.now start.args.call at-call12.call12.given.1
-    (c.tick-sound.ensures start.args.port)
+    with_tick start.args.port _ start.args.input.now start.args.out.now start.args.places.now start.args.call at_call12.call12.given.1
+    (c.tick_sound.ensures start.args.port)
 
 same-length-95 : tie.Need-same-length-95
 same-length-95 c = search rules
@@ -476,9 +476,9 @@ same-length-101 c = search rules
 
 returns-14 : tie.Need-returns-14
 returns-14 c =
-    let at-call13 : tie.After-call13 = search in
+    let at_call13 : tie.After-call13 = search in
     let start : tie.Start = search in
-    with-rent start.args.port _ start.args.input.now start.args.out.now start.args.places.now start.args.call at-call13.call13.given.1
+    with_rent start.args.port _ start.args.input.now start.args.out.now start.args.places.now start.args.call at_call13.call13.given.1
     (c.rent-sound.ensures start.args.port)
 
 same-length-102 : tie.Need-same-length-102
@@ -504,16 +504,16 @@ same-length-108 c = search rules
 
 returns-15 : tie.Need-returns-15
 returns-15 c =
-    let at-call14 : tie.After-call14 = search in
+    let at_call14 : tie.After-call14 = search in
     let start : tie.Start = search in
-    with-sweep start.args.port _ start.args.input.now start.args.out.now start.args.places.now start.args.call at-call14.call14.given.1
+    with_sweep start.args.port _ start.args.input.now start.args.out.now start.args.places.now start.args.call at_call14.call14.given.1
     (c.before.before.before.before.sweep_sound.ensures start.args.port)
 
 returns-16 : tie.Need-returns-16
-returns-16 c = search with-audit
+returns-16 c = search with_audit
 
-pub perform-sound-spec : {M : Type 1} → statement M
-perform-sound-spec =
+pub perform_sound_spec : {M : Type 1} → statement M
+perform_sound_spec =
     tie.close
     (tie.spec
     enum-known-call

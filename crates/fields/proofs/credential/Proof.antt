@@ -1,6 +1,6 @@
 -- `fields::credential` meets its contract: an arm for each first byte.
 use borrow.Author.Rules.{rules}
-use Rattle.fields.proofs.Arms.{nothing, not-nothing, reference, not-reference, key, no-credential}
+use Rattle.fields.proofs.Arms.{nothing, not_nothing, reference, not_reference, key, no_credential}
 use Rattle.fields.proofs.credential.Statement.{statement}
 use Rattle.fields.proofs.credential.Tie as tie
 
@@ -44,19 +44,19 @@ eight-requires-2 : tie.Need-eight-requires-2
 eight-requires-2 c κs = search rules
 
 returns-3 : tie.Need-returns-3
-returns-3 c = search not-nothing
+returns-3 c = search not_nothing
 
 returns-4 : tie.Need-returns-4
-returns-4 c = search not-reference
+returns-4 c = search not_reference
 
 returns-5 : tie.Need-returns-5
 returns-5 c = search key
 
 returns-6 : tie.Need-returns-6
-returns-6 c = search no-credential
+returns-6 c = search no_credential
 
-pub credential-spec : {M : Type 1} → statement M
-credential-spec =
+pub credential_spec : {M : Type 1} → statement M
+credential_spec =
     tie.close
     (tie.spec
     shared-slice-read-match

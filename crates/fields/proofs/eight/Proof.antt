@@ -1,6 +1,6 @@
 -- `fields::eight` meets its contract: four bytes, and the next four.
 use borrow.Author.Rules.{rules}
-use Rattle.fields.specs.BytesLaws.{number-eight}
+use Rattle.fields.specs.BytesLaws.{number_eight}
 use Rattle.fields.proofs.eight.Statement.{statement}
 use Rattle.fields.proofs.eight.Tie as tie
 
@@ -26,10 +26,10 @@ add-result : tie.Need-overflow-add-result
 add-result c = search rules
 
 returns : tie.Need-returns
-returns c = search number-eight
+returns c = search number_eight
 
-pub eight-spec : {M : Type 1} → statement M
-eight-spec =
+pub eight_spec : {M : Type 1} → statement M
+eight_spec =
     tie.close
     (tie.spec
     four-requires

@@ -1,6 +1,6 @@
 -- `fields::four` meets its contract: two bytes, and the next two.
 use borrow.Author.Rules.{rules}
-use Rattle.fields.specs.BytesLaws.{number-four}
+use Rattle.fields.specs.BytesLaws.{number_four}
 use Rattle.fields.proofs.four.Statement.{statement}
 use Rattle.fields.proofs.four.Tie as tie
 
@@ -26,9 +26,9 @@ add-result : tie.Need-overflow-add-result
 add-result c = search rules
 
 returns : tie.Need-returns
-returns c = search number-four
+returns c = search number_four
 
-pub four-spec : {M : Type 1} → statement M
-four-spec =
+pub four_spec : {M : Type 1} → statement M
+four_spec =
     tie.close
     (tie.spec two-requires cast-high add-two two-requires-2 cast-low mul-result add-result returns)

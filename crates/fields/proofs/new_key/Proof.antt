@@ -1,6 +1,6 @@
 -- `fields::new_key` meets its contract: an arm for each first byte.
 use borrow.Author.Rules.{rules}
-use Rattle.fields.proofs.Arms.{absent, not-absent, present, no-new-key}
+use Rattle.fields.proofs.Arms.{absent, not_absent, present, no_new_key}
 use Rattle.fields.proofs.new_key.Statement.{statement}
 use Rattle.fields.proofs.new_key.Tie as tie
 
@@ -29,16 +29,16 @@ eight-requires-2 : tie.Need-eight-requires-2
 eight-requires-2 c κs = search rules
 
 returns-2 : tie.Need-returns-2
-returns-2 c = search not-absent
+returns-2 c = search not_absent
 
 returns-3 : tie.Need-returns-3
 returns-3 c = search present
 
 returns-4 : tie.Need-returns-4
-returns-4 c = search no-new-key
+returns-4 c = search no_new_key
 
-pub new-key-spec : {M : Type 1} → statement M
-new-key-spec =
+pub new_key_spec : {M : Type 1} → statement M
+new_key_spec =
     tie.close
     (tie.spec
     shared-slice-read-match

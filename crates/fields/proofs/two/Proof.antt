@@ -1,6 +1,6 @@
 -- `fields::two` meets its contract.
 use borrow.Author.Rules.{rules}
-use Rattle.fields.specs.BytesLaws.{number-two}
+use Rattle.fields.specs.BytesLaws.{number_two}
 use Rattle.fields.proofs.two.Statement.{statement}
 use Rattle.fields.proofs.two.Tie as tie
 
@@ -29,10 +29,10 @@ cast-result : tie.Need-overflow-cast-result
 cast-result c = search rules
 
 returns : tie.Need-returns
-returns c = search number-two
+returns c = search number_two
 
-pub two-spec : {M : Type 1} → statement M
-two-spec =
+pub two_spec : {M : Type 1} → statement M
+two_spec =
     tie.close
     (tie.spec
     shared-slice-read-wide

@@ -1,7 +1,7 @@
 -- `fields::zeroed` meets its contract: every byte passed is 0. The measure is what is left of the filler.
 use Prim.Native.Nat.{◌-◌}
 use native.Mathlib.Omega.{arith}
-use Rattle.fields.proofs.Filler.{Filler, filler-start, filler-more, filler-fault, filler-whole}
+use Rattle.fields.proofs.Filler.{Filler, filler_start, filler_more, filler_fault, filler_whole}
 use Rattle.fields.proofs.zeroed.Statement.{statement}
 use Rattle.fields.proofs.zeroed.Tie as tie
 
@@ -12,7 +12,7 @@ abbrev decreases-loop : tie.decreases-loop
 decreases-loop bytes at count i₀ i = count - i
 
 loop-holds : tie.Need-loop-init invariant-loop decreases-loop
-loop-holds c = filler-start _ _ _
+loop-holds c = filler_start _ _ _
 
 add-if1 : tie.Need-overflow-add-if1 invariant-loop decreases-loop
 add-if1 c = omega arith
@@ -21,7 +21,7 @@ shared-slice-read-if1 : tie.Need-shared-slice-read-if1 invariant-loop decreases-
 shared-slice-read-if1 c = omega arith
 
 returns : tie.Need-returns invariant-loop decreases-loop
-returns c = search filler-fault
+returns c = search filler_fault
 
 add-i : tie.Need-overflow-add-i invariant-loop decreases-loop
 add-i c = omega arith
@@ -30,13 +30,13 @@ loop-less : tie.Need-loop-smaller invariant-loop decreases-loop
 loop-less c = omega arith
 
 loop-again : tie.Need-loop-preserved invariant-loop decreases-loop
-loop-again c = search filler-more
+loop-again c = search filler_more
 
 returns-2 : tie.Need-returns-2 invariant-loop decreases-loop
-returns-2 c = filler-whole c.before.loop.invariant c.loop-test.false
+returns-2 c = filler_whole c.before.loop.invariant c.loop-test.false
 
-pub zeroed-spec : {M : Type 1} → statement M
-zeroed-spec =
+pub zeroed_spec : {M : Type 1} → statement M
+zeroed_spec =
     tie.close
     (tie.spec
     invariant-loop

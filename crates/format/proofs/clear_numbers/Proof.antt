@@ -4,7 +4,7 @@ use mathlib.Core.Path.{sym}
 use native.Mathlib.Omega.{arith}
 use lib.ListN.{length, length-replicate, get_or-replicate}
 use Rattle.card.specs.Contents.{zeros}
-use Rattle.tables.proofs.Overlay.{Overlaid, overlaid-start, overlaid-more, overlaid-whole}
+use Rattle.tables.proofs.Overlay.{Overlaid, overlaid_start, overlaid_more, overlaid_whole}
 use Rattle.format.proofs.clear_numbers.Statement.{statement}
 use Rattle.format.proofs.clear_numbers.Tie as tie
 
@@ -15,7 +15,7 @@ abbrev decreases-loop : tie.decreases-loop
 decreases-loop to₀ at₀ to at = length to₀ - at
 
 loop-holds : tie.Need-loop-init invariant-loop decreases-loop
-loop-holds c = overlaid-start _ c.args.to.now (length-replicate (length c.args.to.now) 0)
+loop-holds c = overlaid_start _ c.args.to.now (length-replicate (length c.args.to.now) 0)
 
 mul-to : tie.Need-overflow-mul-to invariant-loop decreases-loop
 mul-to c = omega arith
@@ -30,16 +30,16 @@ loop-less : tie.Need-loop-smaller invariant-loop decreases-loop
 loop-less c = omega arith
 
 loop-again : tie.Need-loop-preserved invariant-loop decreases-loop
-loop-again c = overlaid-more 0 c.before.loop.invariant c.loop-test.true (sym (get_or-replicate (length c.before.before.args.to.now) c.before.loop.at 0 0 (omega arith)))
+loop-again c = overlaid_more 0 c.before.loop.invariant c.loop-test.true (sym (get_or-replicate (length c.before.before.args.to.now) c.before.loop.at 0 0 (omega arith)))
 
 same_length : tie.Need-same-length invariant-loop decreases-loop
 same_length c = c.before.loop.invariant.same
 
 returns : tie.Need-returns invariant-loop decreases-loop
-returns c = overlaid-whole c.before.loop.invariant c.loop-test.false
+returns c = overlaid_whole c.before.loop.invariant c.loop-test.false
 
-pub clear-numbers-spec : {M : Type 1} → statement M
-clear-numbers-spec =
+pub clear_numbers_spec : {M : Type 1} → statement M
+clear_numbers_spec =
     tie.close
     (tie.spec
     invariant-loop

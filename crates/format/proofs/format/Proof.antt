@@ -3,7 +3,7 @@ use Prim.Native.Nat.{◌*◌}
 use native.Mathlib.Omega.{arith}
 use mathlib.Core.Path.{sym}
 use lib.Seq.{length-take-le}
-use Rattle.format.proofs.Formatting.{front-cleared, format-refused, roots-within, size_low, size-within, format-done}
+use Rattle.format.proofs.Formatting.{front_cleared, format_refused, roots_within, size_low, size_within, format_done}
 use borrow.Author.Rules.{rules}
 use Rattle.format.proofs.format.Statement.{statement}
 use Rattle.format.proofs.format.Tie as tie
@@ -24,8 +24,8 @@ shaped-requires c κs = search rules
 
 mark-roots-requires : tie.Need-mark-roots-requires
 mark-roots-requires c κs =
-    let at-fresh : tie.After-fresh = search in
-    roots-within _ at-fresh.fresh.ensures c.before.before.shaped.ensures c.before.if1.true
+    let at_fresh : tie.After-fresh = search in
+    roots_within _ at_fresh.fresh.ensures c.before.before.shaped.ensures c.before.if1.true
 
 clear-words-requires : tie.Need-clear-words-requires
 clear-words-requires c κs = search rules
@@ -44,24 +44,24 @@ clear-words-requires-2 c κs = search rules
 
 mul-size : tie.Need-overflow-mul-size
 mul-size c =
-    let at-if1 : tie.Then1 = search in
-    let at-shaped : tie.After-shaped = search in
-    let at-fresh : tie.After-fresh = search in
-    omega (arith, size_low _ at-fresh.fresh.ensures at-shaped.shaped.ensures at-if1.if1.taken)
+    let at_if1 : tie.Then1 = search in
+    let at_shaped : tie.After-shaped = search in
+    let at_fresh : tie.After-fresh = search in
+    omega (arith, size_low _ at_fresh.fresh.ensures at_shaped.shaped.ensures at_if1.if1.taken)
 
 slice-relend-prefix-clear : tie.Need-slice-relend-prefix-clear
 slice-relend-prefix-clear c =
-    let at-if1 : tie.Then1 = search in
-    let at-shaped : tie.After-shaped = search in
-    let at-fresh : tie.After-fresh = search in
-    size-within _ at-fresh.fresh.ensures at-shaped.shaped.ensures at-if1.if1.taken
+    let at_if1 : tie.Then1 = search in
+    let at_shaped : tie.After-shaped = search in
+    let at_fresh : tie.After-fresh = search in
+    size_within _ at_fresh.fresh.ensures at_shaped.shaped.ensures at_if1.if1.taken
 
 slice-aggregate-clear : tie.Need-slice-aggregate-clear
 slice-aggregate-clear c =
-    let at-if1 : tie.Then1 = search in
-    let at-shaped : tie.After-shaped = search in
-    let at-fresh : tie.After-fresh = search in
-    sym (length-take-le _ _ (size-within _ at-fresh.fresh.ensures at-shaped.shaped.ensures at-if1.if1.taken))
+    let at_if1 : tie.Then1 = search in
+    let at_shaped : tie.After-shaped = search in
+    let at_fresh : tie.After-fresh = search in
+    sym (length-take-le _ _ (size_within _ at_fresh.fresh.ensures at_shaped.shaped.ensures at_if1.if1.taken))
 
 clear-requires : tie.Need-clear-requires
 clear-requires c κs = search rules
@@ -92,17 +92,17 @@ same-length-7 c = search rules
 
 returns : tie.Need-returns
 returns c =
-    let at-clear-words2 : tie.After-clear-words2 = search in
-    let at-clear-multiplicities : tie.After-clear-multiplicities = search in
-    let at-clear-numbers2 : tie.After-clear-numbers2 = search in
-    let at-clear-numbers : tie.After-clear-numbers = search in
-    let at-clear-words : tie.After-clear-words = search in
-    let at-mark-roots : tie.After-mark-roots = search in
-    let at-if1 : tie.Then1 = search in
-    let at-shaped : tie.After-shaped = search in
-    let at-fresh = fresh-from-shaped at-shaped in
-    let start = start-from-fresh at-fresh in
-    let a = start.args in format-done _ _ _ _ at-fresh.fresh.ensures at-shaped.shaped.ensures at-if1.if1.taken c.done.ensures at-mark-roots.mark-roots.ensures at-clear-words.clear-words.ensures at-clear-numbers.clear-numbers.ensures at-clear-numbers2.clear-numbers2.ensures at-clear-multiplicities.clear-multiplicities.ensures at-clear-words2.clear-words2.ensures (front-cleared a.contents.now (a.roots * a.bytes) c.before.before.before.clear.ensures (size-within _ at-fresh.fresh.ensures at-shaped.shaped.ensures at-if1.if1.taken))
+    let at_clear_words2 : tie.After-clear-words2 = search in
+    let at_clear_multiplicities : tie.After-clear-multiplicities = search in
+    let at_clear_numbers2 : tie.After-clear-numbers2 = search in
+    let at_clear_numbers : tie.After-clear-numbers = search in
+    let at_clear_words : tie.After-clear-words = search in
+    let at_mark_roots : tie.After-mark-roots = search in
+    let at_if1 : tie.Then1 = search in
+    let at_shaped : tie.After-shaped = search in
+    let at_fresh = fresh-from-shaped at_shaped in
+    let start = start-from-fresh at_fresh in
+    let a = start.args in format_done _ _ _ _ at_fresh.fresh.ensures at_shaped.shaped.ensures at_if1.if1.taken c.done.ensures at_mark_roots.mark-roots.ensures at_clear_words.clear-words.ensures at_clear_numbers.clear-numbers.ensures at_clear_numbers2.clear-numbers2.ensures at_clear_multiplicities.clear-multiplicities.ensures at_clear_words2.clear-words2.ensures (front_cleared a.contents.now (a.roots * a.bytes) c.before.before.before.clear.ensures (size_within _ at_fresh.fresh.ensures at_shaped.shaped.ensures at_if1.if1.taken))
 
 refused-requires : tie.Need-refused-requires
 refused-requires c κs = search rules
@@ -129,10 +129,10 @@ same-length-14 : tie.Need-same-length-14
 same-length-14 c = search rules
 
 returns-2 : tie.Need-returns-2
-returns-2 c = search format-refused
+returns-2 c = search format_refused
 
-pub format-spec : {M : Type 1} → statement M
-format-spec = tie.close (tie.spec
+pub format_spec : {M : Type 1} → statement M
+format_spec = tie.close (tie.spec
     fresh-requires
     shaped-requires
     mark-roots-requires

@@ -1,12 +1,12 @@
 -- `input::find` meets its contract.
 use native.Mathlib.Omega.{arith}
-use Rattle.input.specs.FoundLaws.{found-ended, found-unknown, found-short, found-bad, found-whole}
+use Rattle.input.specs.FoundLaws.{found_ended, found_unknown, found_short, found_bad, found_whole}
 use borrow.Author.Rules.{rules}
 use Rattle.input.proofs.find.Statement.{statement}
 use Rattle.input.proofs.find.Tie as tie
 
 returns : tie.Need-returns
-returns c = search found-ended
+returns c = search found_ended
 
 shared-slice-read-kind : tie.Need-shared-slice-read-kind
 shared-slice-read-kind c = search rules
@@ -35,13 +35,13 @@ enum_told c = search rules
 returns-2 : tie.Need-returns-2
 returns-2 c =
     let start : tie.Start = search in
-    found-unknown start.args.wire start.args.input.now start.args.from (omega arith) c.before.before.body-length.ensures c.enum_told.given.1
+    found_unknown start.args.wire start.args.input.now start.args.from (omega arith) c.before.before.body_length_law.ensures c.enum_told.given.1
 
 returns-3 : tie.Need-returns-3
 returns-3 c =
-    let at-body-length : tie.After-body-length = search in
+    let at_body_length : tie.After-body-length = search in
     let start : tie.Start = search in
-    found-short start.args.wire start.args.input.now start.args.from (omega arith) at-body-length.body-length.ensures c.before.before.length.given.1 c.if2.true
+    found_short start.args.wire start.args.input.now start.args.from (omega arith) at_body_length.body_length_law.ensures c.before.before.length.given.1 c.if2.true
 
 decode-requires : tie.Need-decode-requires
 decode-requires c κs = search rules
@@ -61,15 +61,15 @@ add-t25 c = search rules
 returns-4 : tie.Need-returns-4
 returns-4 c =
     let at_length : tie.After-length = search in
-    let at-body-length : tie.After-body-length = search in
+    let at_body_length : tie.After-body-length = search in
     let start : tie.Start = search in
-    found-bad start.args.wire start.args.input.now start.args.from (omega arith) at-body-length.body-length.ensures at_length.length.given.1 c.before.before.before.if2.false c.before.before.decode.ensures c.enum-told2.given.1
+    found_bad start.args.wire start.args.input.now start.args.from (omega arith) at_body_length.body_length_law.ensures at_length.length.given.1 c.before.before.before.if2.false c.before.before.decode.ensures c.enum-told2.given.1
 
 returns-5 : tie.Need-returns-5
 returns-5 c =
-    let at-decode : tie.After-decode = search in
+    let at_decode : tie.After-decode = search in
     let start : tie.Start = search in
-    found-whole start.args.wire start.args.input.now start.args.from (omega arith) at-decode.decode.ensures c.before.before.before.decoding.given.1
+    found_whole start.args.wire start.args.input.now start.args.from (omega arith) at_decode.decode.ensures c.before.before.before.decoding.given.1
 
 pub find_spec : {M : Type 1} → statement M
 find_spec =

@@ -1,6 +1,6 @@
 -- `interface::negvask_batch` meets its contract.
-use Rattle.interface.specs.Batch.{batchState}
-use Rattle.interface.specs.BatchLaws.{batch-nowhere, batch-refused, batch-served}
+use Rattle.interface.specs.Batch.{batch_state}
+use Rattle.interface.specs.BatchLaws.{batch_nowhere, batch_refused, batch_served}
 use borrow.Author.Rules.{rules}
 use Rattle.interface.proofs.negvask_batch.Statement.{statement}
 use Rattle.interface.proofs.negvask_batch.Tie as tie
@@ -16,8 +16,8 @@ at-serve c = (at_store c).before.before.before.before.before.before.before.befor
 abbrev at_load : tie.After-stop-number → tie.After-load
 at_load c = (at-serve c).before.before.before.before.before.before.before.before.before
 
-abbrev at-if1 : tie.After-stop-number → tie.Else1
-at-if1 c = (at_load c).before.before
+abbrev at_if1 : tie.After-stop-number → tie.Else1
+at_if1 c = (at_load c).before.before
 
 abbrev wire-from-if1 : tie.Else1 → tie.After-wire
 wire-from-if1 c = search
@@ -28,14 +28,14 @@ wire-of-from-wire c = search
 abbrev start-from-wire-of : tie.After-wire-of → tie.Start
 start-from-wire-of c = search
 
-abbrev at-wire : tie.After-stop-number → tie.After-wire
-at-wire c = wire-from-if1 (at-if1 c)
+abbrev at_wire : tie.After-stop-number → tie.After-wire
+at_wire c = wire-from-if1 (at_if1 c)
 
-abbrev at-wire-of : tie.After-stop-number → tie.After-wire-of
-at-wire-of c = wire-of-from-wire (at-wire c)
+abbrev at_wire_of : tie.After-stop-number → tie.After-wire-of
+at_wire_of c = wire-of-from-wire (at_wire c)
 
 abbrev start : tie.After-stop-number → tie.Start
-start c = start-from-wire-of (at-wire-of c)
+start c = start-from-wire-of (at_wire_of c)
 
 -- ---- answers
 
@@ -51,15 +51,15 @@ enum_told c = search rules
 returns : tie.Need-returns
 returns c =
     let start : tie.Start = search in
-    let at-wire-of : tie.After-wire-of = search in
-    batch-nowhere start.args.port (batchState start.args.info.now start.args.flags.now start.args.keys.now start.args.counts.now start.args.pointers.now start.args.multiplicities.now start.args.windows.now start.args.contents.now start.args.answers.now start.args.records.now start.args.read.now start.args.written.now) start.args.input.now at-wire-of.wire-of.ensures c.enum_told.given.1
+    let at_wire_of : tie.After-wire-of = search in
+    batch_nowhere start.args.port (batch_state start.args.info.now start.args.flags.now start.args.keys.now start.args.counts.now start.args.pointers.now start.args.multiplicities.now start.args.windows.now start.args.contents.now start.args.answers.now start.args.records.now start.args.read.now start.args.written.now) start.args.input.now at_wire_of.wire-of.ensures c.enum_told.given.1
 
 returns-2 : tie.Need-returns-2
 returns-2 c =
     let start : tie.Start = search in
-    let at-wire-of : tie.After-wire-of = search in
-    let at-wire : tie.After-wire = search in
-    batch-refused start.args.port (batchState start.args.info.now start.args.flags.now start.args.keys.now start.args.counts.now start.args.pointers.now start.args.multiplicities.now start.args.windows.now start.args.contents.now start.args.answers.now start.args.records.now start.args.read.now start.args.written.now) start.args.input.now at-wire-of.wire-of.ensures at-wire.wire.given.1 c.if1.true
+    let at_wire_of : tie.After-wire-of = search in
+    let at_wire : tie.After-wire = search in
+    batch_refused start.args.port (batch_state start.args.info.now start.args.flags.now start.args.keys.now start.args.counts.now start.args.pointers.now start.args.multiplicities.now start.args.windows.now start.args.contents.now start.args.answers.now start.args.records.now start.args.read.now start.args.written.now) start.args.input.now at_wire_of.wire-of.ensures at_wire.wire.given.1 c.if1.true
 
 load-requires : tie.Need-load-requires
 load-requires c κs = search rules
@@ -103,10 +103,10 @@ same-length-9 : tie.Need-same-length-9
 same-length-9 c = (at-serve c).serve.auto.1.1.1.1.1.1.1.1.1.1.0
 
 returns-3 : tie.Need-returns-3
-returns-3 c = batch-served (start c).args.port (start c).args.info.now _ _ _ _ _ _ _ (start c).args.answers.now (start c).args.records.now (start c).args.read.now (start c).args.written.now (start c).args.input.now _ _ _ _ _ _ _ _ (at-wire-of c).wire-of.ensures (at-wire c).wire.given.1 (at-if1 c).if1.false (at_load c).load.ensures (at-serve c).serve.ensures (at_store c).store.ensures c.stop-number.ensures
+returns-3 c = batch_served (start c).args.port (start c).args.info.now _ _ _ _ _ _ _ (start c).args.answers.now (start c).args.records.now (start c).args.read.now (start c).args.written.now (start c).args.input.now _ _ _ _ _ _ _ _ (at_wire_of c).wire-of.ensures (at_wire c).wire.given.1 (at_if1 c).if1.false (at_load c).load.ensures (at-serve c).serve.ensures (at_store c).store.ensures c.stop-number.ensures
 
-pub negvask-batch-spec : {M : Type 1} → statement M
-negvask-batch-spec =
+pub negvask_batch_spec : {M : Type 1} → statement M
+negvask_batch_spec =
     tie.close
     (tie.spec
     wire-of-requires

@@ -1,16 +1,16 @@
 -- `interface::negvask_read` meets its contract.
-use Rattle.adapter.specs.EffectsLaws.{no-places}
+use Rattle.adapter.specs.EffectsLaws.{no_places}
 use borrow.Author.Rules.{rules}
 use Rattle.interface.proofs.negvask_read.Statement.{statement}
 use Rattle.interface.proofs.negvask_read.Tie as tie
 
 -- ---- places of the code
 
-abbrev at-perform : tie.After-t39 → tie.After-perform
-at-perform c = c.before.before.before.before.before.before.before.before.before.before.before.before.before.before.before.before.before.before.before
+abbrev at_perform : tie.After-t39 → tie.After-perform
+at_perform c = c.before.before.before.before.before.before.before.before.before.before.before.before.before.before.before.before.before.before.before
 
-abbrev at-made : tie.After-t39 → tie.After-read-at
-at-made c = (at-perform c).before.before.before.before.before.before.before.before.before.before.before.before.before
+abbrev at_made : tie.After-t39 → tie.After-read-at
+at_made c = (at_perform c).before.before.before.before.before.before.before.before.before.before.before.before.before
 
 -- ---- answers
 
@@ -27,37 +27,37 @@ perform-requires : tie.Need-perform-requires
 perform-requires c κs = search rules
 
 same_length : tie.Need-same-length
-same_length c = (at-perform c).perform.auto.0
+same_length c = (at_perform c).perform.auto.0
 
 same-length-2 : tie.Need-same-length-2
-same-length-2 c = (at-perform c).perform.auto.1.0
+same-length-2 c = (at_perform c).perform.auto.1.0
 
 same-length-3 : tie.Need-same-length-3
-same-length-3 c = (at-perform c).perform.auto.1.1.0
+same-length-3 c = (at_perform c).perform.auto.1.1.0
 
 same-length-4 : tie.Need-same-length-4
-same-length-4 c = (at-perform c).perform.auto.1.1.1.0
+same-length-4 c = (at_perform c).perform.auto.1.1.1.0
 
 same-length-5 : tie.Need-same-length-5
-same-length-5 c = (at-perform c).perform.auto.1.1.1.1.0
+same-length-5 c = (at_perform c).perform.auto.1.1.1.1.0
 
 same-length-6 : tie.Need-same-length-6
-same-length-6 c = (at-perform c).perform.auto.1.1.1.1.1.0
+same-length-6 c = (at_perform c).perform.auto.1.1.1.1.1.0
 
 same-length-7 : tie.Need-same-length-7
-same-length-7 c = (at-perform c).perform.auto.1.1.1.1.1.1.0
+same-length-7 c = (at_perform c).perform.auto.1.1.1.1.1.1.0
 
 same-length-8 : tie.Need-same-length-8
-same-length-8 c = (at-perform c).perform.auto.1.1.1.1.1.1.1.0
+same-length-8 c = (at_perform c).perform.auto.1.1.1.1.1.1.1.0
 
 same-length-9 : tie.Need-same-length-9
-same-length-9 c = (at-perform c).perform.auto.1.1.1.1.1.1.1.1.1.1.0
+same-length-9 c = (at_perform c).perform.auto.1.1.1.1.1.1.1.1.1.1.0
 
 returns : tie.Need-returns
-returns c = rw (← (at-made c).read_at.ensures) (no-places (at-perform c).perform.ensures (at-perform c).perform.auto.1.1.1.1.1.1.1.1.1.1.1.0).does
+returns c = rw (← (at_made c).read_at.ensures) (no_places (at_perform c).perform.ensures (at_perform c).perform.auto.1.1.1.1.1.1.1.1.1.1.1.0).does
 
-pub negvask-read-spec : {M : Type 1} → statement M
-negvask-read-spec =
+pub negvask_read_spec : {M : Type 1} → statement M
+negvask_read_spec =
     tie.close
     (tie.spec
     read-at-requires

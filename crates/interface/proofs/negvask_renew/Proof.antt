@@ -5,11 +5,11 @@ use Rattle.interface.proofs.negvask_renew.Tie as tie
 
 -- ---- places of the code
 
-abbrev at-perform : tie.After-slice-known16 → tie.After-perform-without-buffers
-at-perform c = c.before.before.before.before.before.before.before.before.before.before.before.before.before.before.before.before
+abbrev at_perform : tie.After-slice-known16 → tie.After-perform-without-buffers
+at_perform c = c.before.before.before.before.before.before.before.before.before.before.before.before.before.before.before.before
 
-abbrev at-made : tie.After-slice-known16 → tie.After-renew-call
-at-made c = (at-perform c).before.before.before.before.before.before.before.before.before.before.before
+abbrev at_made : tie.After-slice-known16 → tie.After-renew-call
+at_made c = (at_perform c).before.before.before.before.before.before.before.before.before.before.before
 
 -- ---- answers
 
@@ -23,34 +23,34 @@ perform-without-buffers-requires : tie.Need-perform-without-buffers-requires
 perform-without-buffers-requires c κs = search rules
 
 same_length : tie.Need-same-length
-same_length c = (at-perform c).perform-without-buffers.auto.0
+same_length c = (at_perform c).perform-without-buffers.auto.0
 
 same-length-2 : tie.Need-same-length-2
-same-length-2 c = (at-perform c).perform-without-buffers.auto.1.0
+same-length-2 c = (at_perform c).perform-without-buffers.auto.1.0
 
 same-length-3 : tie.Need-same-length-3
-same-length-3 c = (at-perform c).perform-without-buffers.auto.1.1.0
+same-length-3 c = (at_perform c).perform-without-buffers.auto.1.1.0
 
 same-length-4 : tie.Need-same-length-4
-same-length-4 c = (at-perform c).perform-without-buffers.auto.1.1.1.0
+same-length-4 c = (at_perform c).perform-without-buffers.auto.1.1.1.0
 
 same-length-5 : tie.Need-same-length-5
-same-length-5 c = (at-perform c).perform-without-buffers.auto.1.1.1.1.0
+same-length-5 c = (at_perform c).perform-without-buffers.auto.1.1.1.1.0
 
 same-length-6 : tie.Need-same-length-6
-same-length-6 c = (at-perform c).perform-without-buffers.auto.1.1.1.1.1.0
+same-length-6 c = (at_perform c).perform-without-buffers.auto.1.1.1.1.1.0
 
 same-length-7 : tie.Need-same-length-7
-same-length-7 c = (at-perform c).perform-without-buffers.auto.1.1.1.1.1.1.0
+same-length-7 c = (at_perform c).perform-without-buffers.auto.1.1.1.1.1.1.0
 
 same-length-8 : tie.Need-same-length-8
-same-length-8 c = (at-perform c).perform-without-buffers.auto.1.1.1.1.1.1.1.0
+same-length-8 c = (at_perform c).perform-without-buffers.auto.1.1.1.1.1.1.1.0
 
 returns : tie.Need-returns
-returns c = rw (← (at-made c).renew-call.ensures) (at-perform c).perform-without-buffers.ensures.does
+returns c = rw (← (at_made c).renew-call.ensures) (at_perform c).perform-without-buffers.ensures.does
 
-pub negvask-renew-spec : {M : Type 1} → statement M
-negvask-renew-spec =
+pub negvask_renew_spec : {M : Type 1} → statement M
+negvask_renew_spec =
     tie.close
     (tie.spec
     renew-call-requires

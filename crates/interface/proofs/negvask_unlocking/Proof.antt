@@ -1,6 +1,6 @@
 -- `interface::negvask_unlocking` meets its contract.
-use Rattle.report.specs.Report.{unlockingReport}
-use Rattle.adapter.specs.EffectsLaws.{rule-record, rule-listed}
+use Rattle.report.specs.Report.{unlocking_report}
+use Rattle.adapter.specs.EffectsLaws.{rule_record, rule_listed}
 use borrow.Author.Rules.{rules}
 use Rattle.interface.proofs.negvask_unlocking.Statement.{statement}
 use Rattle.interface.proofs.negvask_unlocking.Tie as tie
@@ -8,7 +8,7 @@ use Rattle.interface.proofs.negvask_unlocking.Tie as tie
 returns : tie.Need-returns
 returns c =
     let start : tie.Start = search in
-    rule-record (unlockingReport start.args.given.now start.args.block start.args.places.now) _ _ _ _ c.if1.true
+    rule_record (unlocking_report start.args.given.now start.args.block start.args.places.now) _ _ _ _ c.if1.true
 
 load-requires : tie.Need-load-requires
 load-requires c κs = search rules
@@ -25,11 +25,11 @@ same_length c = search rules
 returns-2 : tie.Need-returns-2
 returns-2 c =
     let start : tie.Start = search in
-    let at-if1 : tie.Else1 = search in
+    let at_if1 : tie.Else1 = search in
     let at_load : tie.After-load = search in
-    let at-unlocking : tie.After-unlocking = search in
-    rule-listed (unlockingReport start.args.given.now start.args.block start.args.places.now) _ _ start.args.info.now _ _ _ _ _ _ _
-    at-if1.if1.left at_load.load.ensures at-unlocking.unlocking.ensures c.report.ensures.0 c.report.ensures.1
+    let at_unlocking : tie.After-unlocking = search in
+    rule_listed (unlocking_report start.args.given.now start.args.block start.args.places.now) _ _ start.args.info.now _ _ _ _ _ _ _
+    at_if1.if1.left at_load.load.ensures at_unlocking.unlocking.ensures c.report.ensures.0 c.report.ensures.1
 
-pub negvask-unlocking-spec : {M : Type 1} → statement M
-negvask-unlocking-spec = tie.close (tie.spec returns load-requires unlocking-requires report-requires same_length returns-2)
+pub negvask_unlocking_spec : {M : Type 1} → statement M
+negvask_unlocking_spec = tie.close (tie.spec returns load-requires unlocking-requires report-requires same_length returns-2)

@@ -1,11 +1,11 @@
 -- `keys::force_sound` is FORCE on an audited card.
 use mathlib.Core.Path.{refl}
-use Rattle.card.specs.Plan.{here, outAfter, placesAfter}
-use Rattle.card.specs.Calls.{forcePlan}
-use Rattle.card.specs.Session.{plan, performSound}
+use Rattle.card.specs.Plan.{here, out_after, places_after}
+use Rattle.card.specs.Calls.{force_plan}
+use Rattle.card.specs.Session.{plan, perform_sound}
 use Rattle.outcomes.proofs.Returned.{refuses, finishes}
-use Rattle.keys.proofs.Changed.{closes-windows}
-use Rattle.access.proofs.Blocks.{missing-told, windows-there}
+use Rattle.keys.proofs.Changed.{closes_windows}
+use Rattle.access.proofs.Blocks.{missing_told, windows_there}
 use borrow.Author.Rules.{rules}
 use Rattle.keys.proofs.force_sound.Statement.{statement}
 use Rattle.keys.proofs.force_sound.Tie as tie
@@ -20,13 +20,13 @@ refused-requires : tie.Need-refused-requires
 refused-requires c κs = search rules
 
 returns : tie.Need-returns
-unfolding performSound plan forcePlan
-returns c = λ port. search (refuses, here, missing-told)
+unfolding perform_sound plan force_plan
+returns c = λ port. search (refuses, here, missing_told)
 
 close-windows-requires : tie.Need-close-windows-requires
 close-windows-requires c κs =
     let start : tie.Start = search in
-    windows-there _ start.pre c.before.before.missing.ensures c.before.if1.false
+    windows_there _ start.pre c.before.before.missing.ensures c.before.if1.false
 
 done-requires : tie.Need-done-requires
 done-requires c κs = search rules
@@ -35,11 +35,11 @@ same_length : tie.Need-same-length
 same_length c = search rules
 
 returns-2 : tie.Need-returns-2
-unfolding performSound plan forcePlan outAfter placesAfter
-returns-2 c = λ port. finishes _ _ _ c.done.ensures (search missing-told, tt) (closes-windows _ _ c.before.before.before.close-windows.ensures) refl refl
+unfolding perform_sound plan force_plan out_after places_after
+returns-2 c = λ port. finishes _ _ _ c.done.ensures (search missing_told, tt) (closes_windows _ _ c.before.before.before.close-windows.ensures) refl refl
 
-pub force-sound-spec : {M : Type 1} → statement M
-force-sound-spec =
+pub force_sound_spec : {M : Type 1} → statement M
+force_sound_spec =
     tie.close
     (tie.spec
     cast-block

@@ -19,5 +19,5 @@ returns-2 c = rw (not-false c.before.before.before.args.there c.before.before.if
 returns-3 : tie.Need-returns-3
 returns-3 c = rw (not-false c.before.before.before.args.there c.before.before.if1.false, c.enum-told2.given.1)
 
-pub key-bit-spec : {M : Type 1} → statement M
-key-bit-spec = tie.close (tie.spec returns enum_told enum-told-2 returns-2 returns-3)
+pub key_bit_spec : {M : Type 1} → statement M
+key_bit_spec = tie.close (tie.spec returns enum_told enum-told-2 returns-2 returns-3)

@@ -1,6 +1,6 @@
 -- `keys::keyed_flags` is the flags byte of the definition.
 use native.Mathlib.Omega.{arith}
-use Rattle.keys.proofs.Keys.{bit-low, keyed}
+use Rattle.keys.proofs.Keys.{bit_low, keyed}
 use borrow.Author.Rules.{rules}
 use Rattle.keys.proofs.keyed_flags.Statement.{statement}
 use Rattle.keys.proofs.keyed_flags.Tie as tie
@@ -22,22 +22,22 @@ key-bit-requires-2 c κs = search rules
 
 add-result : tie.Need-overflow-add-result
 add-result c =
-    let at-is-present : tie.After-is-present = search in
+    let at_is_present : tie.After-is-present = search in
     let start : tie.Start = search in
-    omega (arith, bit-low start.args.mode at-is-present.is-present.result)
+    omega (arith, bit_low start.args.mode at_is_present.is-present.result)
 
 add-result-2 : tie.Need-overflow-add-result-2
 add-result-2 c =
-    let at-is-present : tie.After-is-present = search in
-    let at-other-mode : tie.After-other-mode = search in
+    let at_is_present : tie.After-is-present = search in
+    let at_other_mode : tie.After-other-mode = search in
     let start : tie.Start = search in
-    omega (arith, bit-low start.args.mode at-is-present.is-present.result, bit-low at-other-mode.other-mode.result c.before.has_key_lem.result)
+    omega (arith, bit_low start.args.mode at_is_present.is-present.result, bit_low at_other_mode.other_mode_law.result c.before.has_key_lem.result)
 
 returns : tie.Need-returns
 returns c = search keyed
 
-pub keyed-flags-spec : {M : Type 1} → statement M
-keyed-flags-spec =
+pub keyed_flags_spec : {M : Type 1} → statement M
+keyed_flags_spec =
     tie.close
     (tie.spec
     other-mode-requires

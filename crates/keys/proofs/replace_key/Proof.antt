@@ -33,8 +33,8 @@ same-length-2 c = search rules
 returns-2 : tie.Need-returns-2
 returns-2 c = rw c.before.before.before.before.enum-told2.given.1 c.before.before.set-words2.ensures
 
-pub replace-key-spec : {M : Type 1} → statement M
-replace-key-spec =
+pub replace_key_spec : {M : Type 1} → statement M
+replace_key_spec =
     tie.close
     (tie.spec
     mul-read

@@ -32,8 +32,8 @@ same_length c = search rules
 returns : tie.Need-returns
 returns c = rw (c.before.high_word_lem.ensures, c.low_word.ensures)
 
-pub set-words-spec : {M : Type 1} → statement M
-set-words-spec =
+pub set_words_spec : {M : Type 1} → statement M
+set_words_spec =
     tie.close
     (tie.spec
     high-word-requires

@@ -1,5 +1,5 @@
 -- `lengths::body_length` meets its contract: the length worked out from the kind is that of its call.
-use Rattle.lengths.proofs.Table.{known-length, unknown-length}
+use Rattle.lengths.proofs.Table.{known_length, unknown_length}
 use borrow.Author.Rules.{rules}
 use Rattle.lengths.proofs.body_length.Statement.{statement}
 use Rattle.lengths.proofs.body_length.Tie as tie
@@ -17,12 +17,12 @@ enum-told-2 : tie.Need-enum-told-2
 enum-told-2 c = search rules
 
 returns : tie.Need-returns
-returns c = known-length _ _ c.before.before.before.kind-of.ensures c.before.enum_told.given.1 c.lengths-at.ensures
+returns c = known_length _ _ c.before.before.before.kind-of.ensures c.before.enum_told.given.1 c.lengths-at.ensures
 
 returns-2 : tie.Need-returns-2
-returns-2 c = unknown-length _ _ c.before.before.kind-of.ensures c.enum-told2.given.1
+returns-2 c = unknown_length _ _ c.before.before.kind-of.ensures c.enum-told2.given.1
 
-pub body-length-spec : {M : Type 1} → statement M
-body-length-spec =
+pub body_length_spec : {M : Type 1} → statement M
+body_length_spec =
     tie.close
     (tie.spec kind-of-requires enum_told lengths-at-requires enum-told-2 returns returns-2)

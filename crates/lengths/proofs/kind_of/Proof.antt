@@ -1,5 +1,5 @@
 -- `lengths::kind_of` meets its contract: below 128 a kind is the same at both ports.
-use Rattle.lengths.proofs.Table.{same-below, at-wire}
+use Rattle.lengths.proofs.Table.{same_below, at_wire}
 use borrow.Author.Rules.{rules}
 use Rattle.lengths.proofs.kind_of.Statement.{statement}
 use Rattle.lengths.proofs.kind_of.Tie as tie
@@ -20,16 +20,16 @@ service-kind-of-requires : tie.Need-service-kind-of-requires
 service-kind-of-requires c κs = search rules
 
 returns : tie.Need-returns
-returns c = search at-wire
+returns c = search at_wire
 
 returns-2 : tie.Need-returns-2
-returns-2 c = search (at-wire, same-below)
+returns-2 c = search (at_wire, same_below)
 
 returns-3 : tie.Need-returns-3
-returns-3 c = search at-wire
+returns-3 c = search at_wire
 
-pub kind-of-spec : {M : Type 1} → statement M
-kind-of-spec =
+pub kind_of_spec : {M : Type 1} → statement M
+kind_of_spec =
     tie.close
     (tie.spec
     enum_told

@@ -12,5 +12,5 @@ returns-2 : tie.Need-returns-2
 unfolding part_of
 returns-2 c = search rules
 
-pub part-of-spec : {M : Type 1} → statement M
-part-of-spec = tie.close (tie.spec returns returns-2)
+pub part_of_spec : {M : Type 1} → statement M
+part_of_spec = tie.close (tie.spec returns returns-2)

@@ -1,7 +1,7 @@
 -- `lengths::without_credential` meets its contract: the sizes of the fields that the call has, added up.
 use native.Mathlib.Omega.{arith}
-use Rattle.kinds.specs.Arithmetic.{withoutCredential}
-use Rattle.lengths.proofs.Table.{part-most}
+use Rattle.kinds.specs.Arithmetic.{without_credential}
+use Rattle.lengths.proofs.Table.{part_most}
 use borrow.Author.Rules.{rules}
 use Rattle.lengths.proofs.without_credential.Statement.{statement}
 use Rattle.lengths.proofs.without_credential.Tie as tie
@@ -22,20 +22,20 @@ part-of-requires-2 : tie.Need-part-of-requires-2
 part-of-requires-2 c κs = search rules
 
 add-result : tie.Need-overflow-add-result
-add-result c = omega (arith, part-most _ _ c.part-of2.ensures, part-most _ _ c.before.part_of.ensures)
+add-result c = omega (arith, part_most _ _ c.part-of2.ensures, part_most _ _ c.before.part_of.ensures)
 
 part-of-requires-3 : tie.Need-part-of-requires-3
 part-of-requires-3 c κs = search rules
 
 add-result-2 : tie.Need-overflow-add-result-2
-add-result-2 c = omega (arith, part-most _ _ c.part-of3.ensures, part-most _ _ c.before.part-of2.ensures, part-most _ _ c.before.before.part_of.ensures)
+add-result-2 c = omega (arith, part_most _ _ c.part-of3.ensures, part_most _ _ c.before.part-of2.ensures, part_most _ _ c.before.before.part_of.ensures)
 
 returns : tie.Need-returns
-unfolding withoutCredential
+unfolding without_credential
 returns c = rw (c.part-of3.ensures, c.before.part-of2.ensures, c.before.before.part_of.ensures)
 
-pub without-credential-spec : {M : Type 1} → statement M
-without-credential-spec =
+pub without_credential_spec : {M : Type 1} → statement M
+without_credential_spec =
     tie.close
     (tie.spec
     add-part-of

@@ -2,7 +2,7 @@
 use Prim.Native.Nat.{◌+◌, ◌≤◌}
 use native.Mathlib.Omega.{arith}
 use lib.ListN.{length}
-use Rattle.lines.proofs.AnswersWritten.{room-spaced, answered-refused, answered-done, answered-value}
+use Rattle.lines.proofs.AnswersWritten.{room_spaced, answered_refused, answered_done, answered_value}
 use borrow.Author.Rules.{rules}
 use Rattle.lines.proofs.put_answer.Statement.{statement}
 use Rattle.lines.proofs.put_answer.Tie as tie
@@ -27,10 +27,10 @@ filled-by-requires c κs = search rules
 
 put-filled-requires : tie.Need-put-filled-requires
 put-filled-requires c κs =
-    let at-put-spaced2 : tie.After-put-spaced2 = search in
+    let at_put_spaced2 : tie.After-put-spaced2 = search in
     let start : tie.Start = search in
     let fits : start.args.at + 21 + 1344 ≤ length start.args.to.now = omega arith in
-    (start.pre.0, room-spaced 0 1344 at-put-spaced2.put-spaced2.ensures fits)
+    (start.pre.0, room_spaced 0 1344 at_put_spaced2.put-spaced2.ensures fits)
 
 enum-known-answer-2 : tie.Need-enum-known-answer-2
 enum-known-answer-2 c = search rules
@@ -42,40 +42,40 @@ put-spaced-requires-4 : tie.Need-put-spaced-requires-4
 put-spaced-requires-4 c κs =
     let start : tie.Start = search in
     let fits : start.args.at + 21 + 21 ≤ length start.args.to.now = omega arith in
-    room-spaced 0 21 c.before.before.before.put-spaced3.ensures fits
+    room_spaced 0 21 c.before.before.before.put-spaced3.ensures fits
 
 filled-by-requires-2 : tie.Need-filled-by-requires-2
 filled-by-requires-2 c κs = search rules
 
 put-filled-requires-2 : tie.Need-put-filled-requires-2
 put-filled-requires-2 c κs =
-    let at-put-spaced4 : tie.After-put-spaced4 = search in
-    let at-put-spaced3 : tie.After-put-spaced3 = search in
+    let at_put_spaced4 : tie.After-put-spaced4 = search in
+    let at_put_spaced3 : tie.After-put-spaced3 = search in
     let start : tie.Start = search in
     let fits : start.args.at + 21 + 1365 ≤ length start.args.to.now = omega (arith, start.pre.1) in
-    let more : at-put-spaced3.put-spaced3.result + 21 + 1344 ≤ length at-put-spaced3.put-spaced3.last.0 = omega (arith, room-spaced 0 1365 at-put-spaced3.put-spaced3.ensures fits) in
-    (start.pre.0, room-spaced _ 1344 at-put-spaced4.put-spaced4.ensures more)
+    let more : at_put_spaced3.put-spaced3.result + 21 + 1344 ≤ length at_put_spaced3.put-spaced3.last.0 = omega (arith, room_spaced 0 1365 at_put_spaced3.put-spaced3.ensures fits) in
+    (start.pre.0, room_spaced _ 1344 at_put_spaced4.put-spaced4.ensures more)
 
 same_length : tie.Need-same-length
 same_length c = search rules
 
 returns : tie.Need-returns
-returns c = search answered-refused
+returns c = search answered_refused
 
 same-length-2 : tie.Need-same-length-2
 same-length-2 c = search rules
 
 returns-2 : tie.Need-returns-2
-returns-2 c = search answered-done
+returns-2 c = search answered_done
 
 same-length-3 : tie.Need-same-length-3
 same-length-3 c = search rules
 
 returns-3 : tie.Need-returns-3
-returns-3 c = search answered-value
+returns-3 c = search answered_value
 
-pub put-answer-spec : {M : Type 1} → statement M
-put-answer-spec =
+pub put_answer_spec : {M : Type 1} → statement M
+put_answer_spec =
     tie.close
     (tie.spec
     enum-known-answer

@@ -2,7 +2,7 @@
 use borrow.Author.Rules.{rules}
 use Prim.Native.Nat.{◌-◌}
 use lib.ListN.{length}
-use Rattle.lines.proofs.WrittenPart.{Spacing, spacing-none, spacing-room, spacing-more, spacing-done}
+use Rattle.lines.proofs.WrittenPart.{Spacing, spacing_none, spacing_room, spacing_more, spacing_done}
 use Rattle.lines.proofs.put_blocks.Statement.{statement}
 use Rattle.lines.proofs.put_blocks.Tie as tie
 
@@ -13,7 +13,7 @@ abbrev decreases-loop : tie.decreases-loop
 decreases-loop to₀ at values next₀ i₀ to next i = length values - i
 
 loop-holds : tie.Need-loop-init invariant-loop decreases-loop
-loop-holds c = search spacing-none
+loop-holds c = search spacing_none
 
 mul-of-block : tie.Need-overflow-mul-of-block invariant-loop decreases-loop
 mul-of-block c = search rules
@@ -25,7 +25,7 @@ of-block-requires : tie.Need-of-block-requires invariant-loop decreases-loop
 of-block-requires c κs = search rules
 
 put-spaced-requires : tie.Need-put-spaced-requires invariant-loop decreases-loop
-put-spaced-requires c κs = search spacing-room
+put-spaced-requires c κs = search spacing_room
 
 add-i : tie.Need-overflow-add-i invariant-loop decreases-loop
 add-i c = search rules
@@ -34,16 +34,16 @@ loop-less : tie.Need-loop-smaller invariant-loop decreases-loop
 loop-less c = search rules
 
 loop-again : tie.Need-loop-preserved invariant-loop decreases-loop
-loop-again c = search spacing-more
+loop-again c = search spacing_more
 
 same_length : tie.Need-same-length invariant-loop decreases-loop
 same_length c = c.before.loop.invariant.kept
 
 returns : tie.Need-returns invariant-loop decreases-loop
-returns c = search spacing-done
+returns c = search spacing_done
 
-pub put-blocks-spec : {M : Type 1} → statement M
-put-blocks-spec =
+pub put_blocks_spec : {M : Type 1} → statement M
+put_blocks_spec =
     tie.close
     (tie.spec
     invariant-loop

@@ -16,5 +16,5 @@ same_length c = search rules
 returns : tie.Need-returns
 returns c = written_one c.args.to.now c.args.at c.args.byte c.requires
 
-pub put-byte-spec : {M : Type 1} → statement M
-put-byte-spec = tie.close (tie.spec slice-write-to add-result same_length returns)
+pub put_byte_spec : {M : Type 1} → statement M
+put_byte_spec = tie.close (tie.spec slice-write-to add-result same_length returns)

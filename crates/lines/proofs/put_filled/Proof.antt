@@ -41,19 +41,19 @@ same_length c = search rules
 
 returns-2 : tie.Need-returns-2
 returns-2 c =
-    let at-enum-told2 : tie.After-enum-told2 = search in
-    rw at-enum-told2.enum-told2.given.1 c.before.before.put-bytes.ensures
+    let at_enum_told2 : tie.After-enum-told2 = search in
+    rw at_enum_told2.enum-told2.given.1 c.before.before.put-bytes.ensures
 
 same-length-2 : tie.Need-same-length-2
 same-length-2 c = search rules
 
 returns-3 : tie.Need-returns-3
 returns-3 c =
-    let at-filled : tie.After-filled = search in
-    rw at-filled.filled.given.1 c.before.before.put_first.ensures
+    let at_filled : tie.After-filled = search in
+    rw at_filled.filled.given.1 c.before.before.put_first.ensures
 
-pub put-filled-spec : {M : Type 1} → statement M
-put-filled-spec =
+pub put_filled_spec : {M : Type 1} → statement M
+put_filled_spec =
     tie.close
     (tie.spec
     enum_told

@@ -36,8 +36,8 @@ returns-2 c =
     let whole : length start.args.values.now ≤ start.args.count = omega arith in
     rw (take_all start.args.count start.args.values.now whole) c.before.before.put-blocks2.ensures
 
-pub put-first-spec : {M : Type 1} → statement M
-put-first-spec =
+pub put_first_spec : {M : Type 1} → statement M
+put_first_spec =
     tie.close
     (tie.spec
     slice-aggregate-put-blocks

@@ -1,9 +1,9 @@
 -- `linking::create_sound` is the rule on an audited card, by what its checks find.
 use Rattle.card.specs.Card.{card}
-use Rattle.card.specs.Session.{performSound}
-use Rattle.checks.specs.CheckedLaws.{refused-check, passed-check}
+use Rattle.card.specs.Session.{perform_sound}
+use Rattle.checks.specs.CheckedLaws.{refused_check, passed_check}
 use Rattle.outcomes.proofs.Returned.{refuses}
-use Rattle.linking.proofs.Creating.{create-makeable, create-done}
+use Rattle.linking.proofs.Creating.{create_makeable, create_done}
 use borrow.Author.Rules.{rules}
 use Rattle.linking.proofs.create_sound.Statement.{statement}
 use Rattle.linking.proofs.create_sound.Tie as tie
@@ -28,7 +28,7 @@ enum_told c = search rules
 make-pointer-requires : tie.Need-make-pointer-requires
 make-pointer-requires c κs =
     let start : tie.Start = search in
-    let a = start.args in let k = card a.info a.flags.now a.keys.now a.counts.now a.pointers.now a.multiplicities.now a.windows.now a.contents.now in create-makeable a.port k a.o start.pre (search passed-check)
+    let a = start.args in let k = card a.info a.flags.now a.keys.now a.counts.now a.pointers.now a.multiplicities.now a.windows.now a.contents.now in create_makeable a.port k a.o start.pre (search passed_check)
 
 done-requires : tie.Need-done-requires
 done-requires c κs = tt
@@ -43,11 +43,11 @@ same-length-3 : tie.Need-same-length-3
 same-length-3 c = search rules
 
 returns : tie.Need-returns
-unfolding performSound
+unfolding perform_sound
 returns c =
-    let at-create-check : tie.After-create-check = search in
+    let at_create_check : tie.After-create-check = search in
     let start : tie.Start = search in
-    let a = start.args in let k = card a.info a.flags.now a.keys.now a.counts.now a.pointers.now a.multiplicities.now a.windows.now a.contents.now in refuses k _ _ c.refused.ensures (refused-check a.port k _ at-create-check.create-check.ensures c.before.before.why.given.1)
+    let a = start.args in let k = card a.info a.flags.now a.keys.now a.counts.now a.pointers.now a.multiplicities.now a.windows.now a.contents.now in refuses k _ _ c.refused.ensures (refused_check a.port k _ at_create_check.create-check.ensures c.before.before.why.given.1)
 
 same-length-4 : tie.Need-same-length-4
 same-length-4 c = search rules
@@ -60,14 +60,14 @@ same-length-6 c = search rules
 
 returns-2 : tie.Need-returns-2
 returns-2 c =
-    let at-make-pointer : tie.After-make-pointer = search in
-    let at-enum-told : tie.After-enum-told = search in
-    let at-create-check : tie.After-create-check = search in
-    let start = start-from-create-check at-create-check in
-    let a = start.args in let k = card a.info a.flags.now a.keys.now a.counts.now a.pointers.now a.multiplicities.now a.windows.now a.contents.now in create-done a.port k a.o (passed-check a.port k _ at-create-check.create-check.ensures at-enum-told.enum_told.given.1) c.done.ensures (at-make-pointer.make-pointer.ensures _ _ _ _)
+    let at_make_pointer : tie.After-make-pointer = search in
+    let at_enum_told : tie.After-enum-told = search in
+    let at_create_check : tie.After-create-check = search in
+    let start = start-from-create-check at_create_check in
+    let a = start.args in let k = card a.info a.flags.now a.keys.now a.counts.now a.pointers.now a.multiplicities.now a.windows.now a.contents.now in create_done a.port k a.o (passed_check a.port k _ at_create_check.create-check.ensures at_enum_told.enum_told.given.1) c.done.ensures (at_make_pointer.make-pointer.ensures _ _ _ _)
 
-pub create-sound-spec : {M : Type 1} → statement M
-create-sound-spec =
+pub create_sound_spec : {M : Type 1} → statement M
+create_sound_spec =
     tie.close
     (tie.spec
     create-check-requires

@@ -1,10 +1,10 @@
 -- `linking::delete_sound` is the rule on an audited card, by what its checks find.
 use native.Mathlib.Omega.{arith}
 use Rattle.card.specs.Card.{card}
-use Rattle.card.specs.Session.{performSound}
-use Rattle.checks.specs.CheckedLaws.{refused-check, passed-check}
+use Rattle.card.specs.Session.{perform_sound}
+use Rattle.checks.specs.CheckedLaws.{refused_check, passed_check}
 use Rattle.outcomes.proofs.Returned.{refuses}
-use Rattle.linking.proofs.Deleting.{delete-takeable, freeable, deleted-more, deleted-last}
+use Rattle.linking.proofs.Deleting.{delete_takeable, freeable, deleted_more, deleted_last}
 use borrow.Author.Rules.{rules}
 use Rattle.linking.proofs.delete_sound.Statement.{statement}
 use Rattle.linking.proofs.delete_sound.Tie as tie
@@ -34,21 +34,21 @@ mul-last c = omega arith
 
 slice-read-last : tie.Need-slice-read-last
 slice-read-last c =
-    let at-delete-check : tie.After-delete-check = search in
-    let start = start-from-delete-check at-delete-check in
-    let a = start.args in let k = card a.info a.flags.now a.keys.now a.counts.now a.pointers.now a.multiplicities.now a.windows.now a.contents.now in (delete-takeable a.port k a.o start.pre (passed-check a.port k _ at-delete-check.delete-check.ensures c.before.before.enum_told.given.1)).1.0
+    let at_delete_check : tie.After-delete-check = search in
+    let start = start-from-delete-check at_delete_check in
+    let a = start.args in let k = card a.info a.flags.now a.keys.now a.counts.now a.pointers.now a.multiplicities.now a.windows.now a.contents.now in (delete_takeable a.port k a.o start.pre (passed_check a.port k _ at_delete_check.delete-check.ensures c.before.before.enum_told.given.1)).1.0
 
 take-pointer-requires : tie.Need-take-pointer-requires
 take-pointer-requires c κs =
     let start : tie.Start = search in
-    let a = start.args in let k = card a.info a.flags.now a.keys.now a.counts.now a.pointers.now a.multiplicities.now a.windows.now a.contents.now in delete-takeable a.port k a.o start.pre (search passed-check)
+    let a = start.args in let k = card a.info a.flags.now a.keys.now a.counts.now a.pointers.now a.multiplicities.now a.windows.now a.contents.now in delete_takeable a.port k a.o start.pre (search passed_check)
 
 free-block-requires : tie.Need-free-block-requires
 free-block-requires c κs =
-    let at-enum-told : tie.After-enum-told = search in
-    let at-delete-check : tie.After-delete-check = search in
-    let start = start-from-delete-check at-delete-check in
-    let a = start.args in let k = card a.info a.flags.now a.keys.now a.counts.now a.pointers.now a.multiplicities.now a.windows.now a.contents.now in freeable a.port k a.o start.pre (passed-check a.port k _ at-delete-check.delete-check.ensures at-enum-told.enum_told.given.1)
+    let at_enum_told : tie.After-enum-told = search in
+    let at_delete_check : tie.After-delete-check = search in
+    let start = start-from-delete-check at_delete_check in
+    let a = start.args in let k = card a.info a.flags.now a.keys.now a.counts.now a.pointers.now a.multiplicities.now a.windows.now a.contents.now in freeable a.port k a.o start.pre (passed_check a.port k _ at_delete_check.delete-check.ensures at_enum_told.enum_told.given.1)
 
 same_length : tie.Need-same-length
 same_length c = search rules
@@ -70,13 +70,13 @@ same-length-6 c = search rules
 
 returns : tie.Need-returns
 returns c =
-    let at-free-block : tie.After-free-block = search in
-    let at-if1 : tie.Then1 = search in
-    let at-take-pointer : tie.After-take-pointer = search in
-    let at-enum-told : tie.After-enum-told = search in
-    let at-delete-check : tie.After-delete-check = search in
-    let start = start-from-delete-check at-delete-check in
-    let a = start.args in let k = card a.info a.flags.now a.keys.now a.counts.now a.pointers.now a.multiplicities.now a.windows.now a.contents.now in deleted-last a.port k a.o (passed-check a.port k _ at-delete-check.delete-check.ensures at-enum-told.enum_told.given.1) at-if1.if1.taken (at-take-pointer.take-pointer.ensures a.flags.now a.keys.now a.windows.now a.contents.now) (at-free-block.free-block.ensures _ _ _ _ _)
+    let at_free_block : tie.After-free-block = search in
+    let at_if1 : tie.Then1 = search in
+    let at_take_pointer : tie.After-take-pointer = search in
+    let at_enum_told : tie.After-enum-told = search in
+    let at_delete_check : tie.After-delete-check = search in
+    let start = start-from-delete-check at_delete_check in
+    let a = start.args in let k = card a.info a.flags.now a.keys.now a.counts.now a.pointers.now a.multiplicities.now a.windows.now a.contents.now in deleted_last a.port k a.o (passed_check a.port k _ at_delete_check.delete-check.ensures at_enum_told.enum_told.given.1) at_if1.if1.taken (at_take_pointer.take-pointer.ensures a.flags.now a.keys.now a.windows.now a.contents.now) (at_free_block.free-block.ensures _ _ _ _ _)
 
 same-length-7 : tie.Need-same-length-7
 same-length-7 c = search rules
@@ -97,11 +97,11 @@ same-length-12 : tie.Need-same-length-12
 same-length-12 c = search rules
 
 returns-2 : tie.Need-returns-2
-unfolding performSound
+unfolding perform_sound
 returns-2 c =
-    let at-delete-check : tie.After-delete-check = search in
-    let start = start-from-delete-check at-delete-check in
-    let a = start.args in let k = card a.info a.flags.now a.keys.now a.counts.now a.pointers.now a.multiplicities.now a.windows.now a.contents.now in refuses k _ _ c.refused.ensures (refused-check a.port k _ at-delete-check.delete-check.ensures c.before.before.why.given.1)
+    let at_delete_check : tie.After-delete-check = search in
+    let start = start-from-delete-check at_delete_check in
+    let a = start.args in let k = card a.info a.flags.now a.keys.now a.counts.now a.pointers.now a.multiplicities.now a.windows.now a.contents.now in refuses k _ _ c.refused.ensures (refused_check a.port k _ at_delete_check.delete-check.ensures c.before.before.why.given.1)
 
 same-length-13 : tie.Need-same-length-13
 same-length-13 c = search rules
@@ -123,14 +123,14 @@ same-length-18 c = search rules
 
 returns-3 : tie.Need-returns-3
 returns-3 c =
-    let at-take-pointer : tie.After-take-pointer = search in
-    let at-enum-told : tie.After-enum-told = search in
-    let at-delete-check : tie.After-delete-check = search in
-    let start = start-from-delete-check at-delete-check in
-    let a = start.args in let k = card a.info a.flags.now a.keys.now a.counts.now a.pointers.now a.multiplicities.now a.windows.now a.contents.now in deleted-more a.port k a.o (passed-check a.port k _ at-delete-check.delete-check.ensures at-enum-told.enum_told.given.1) c.if1.false (at-take-pointer.take-pointer.ensures _ _ _ _)
+    let at_take_pointer : tie.After-take-pointer = search in
+    let at_enum_told : tie.After-enum-told = search in
+    let at_delete_check : tie.After-delete-check = search in
+    let start = start-from-delete-check at_delete_check in
+    let a = start.args in let k = card a.info a.flags.now a.keys.now a.counts.now a.pointers.now a.multiplicities.now a.windows.now a.contents.now in deleted_more a.port k a.o (passed_check a.port k _ at_delete_check.delete-check.ensures at_enum_told.enum_told.given.1) c.if1.false (at_take_pointer.take-pointer.ensures _ _ _ _)
 
-pub delete-sound-spec : {M : Type 1} → statement M
-delete-sound-spec =
+pub delete_sound_spec : {M : Type 1} → statement M
+delete_sound_spec =
     tie.close
     (tie.spec
     delete-check-requires

@@ -17,5 +17,5 @@ returns : tie.Need-returns
 unfolding multiplicity
 returns c = c.times.ensures
 
-pub multiplicity-spec : {M : Type 1} → statement M
-multiplicity-spec = tie.close (tie.spec mul-pointer add-pointer times-requires returns)
+pub multiplicity_spec : {M : Type 1} → statement M
+multiplicity_spec = tie.close (tie.spec mul-pointer add-pointer times-requires returns)

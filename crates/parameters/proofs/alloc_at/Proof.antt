@@ -14,9 +14,9 @@ at-port-requires c κs = search rules
 
 returns : tie.Need-returns
 returns c =
-    let at-credential : tie.After-credential-of = search in
-    let at-made : tie.After-alloc-with = search in
-    rw (← at-credential.credential-of.ensures, ← at-made.alloc-with.ensures) c.at-port.ensures
+    let at_credential : tie.After-credential-of = search in
+    let at_made : tie.After-alloc-with = search in
+    rw (← at_credential.credential-of.ensures, ← at_made.alloc-with.ensures) c.at_port_law.ensures
 
-pub alloc-at-spec : {M : Type 1} → statement M
-alloc-at-spec = tie.close (tie.spec credential-of-requires alloc-with-requires at-port-requires returns)
+pub alloc_at_spec : {M : Type 1} → statement M
+alloc_at_spec = tie.close (tie.spec credential-of-requires alloc-with-requires at-port-requires returns)

@@ -17,10 +17,10 @@ at-port-requires c κs = search rules
 
 returns : tie.Need-returns
 returns c =
-    let at-credential : tie.After-credential-of = search in
+    let at_credential : tie.After-credential-of = search in
     let at_second : tie.After-credential-of2 = search in
-    let at-made : tie.After-create-with = search in
-    rw (← at-credential.credential-of.ensures, ← at_second.credential-of2.ensures, ← at-made.create-with.ensures) c.at-port.ensures
+    let at_made : tie.After-create-with = search in
+    rw (← at_credential.credential-of.ensures, ← at_second.credential-of2.ensures, ← at_made.create-with.ensures) c.at_port_law.ensures
 
-pub create-at-spec : {M : Type 1} → statement M
-create-at-spec = tie.close (tie.spec credential-of-requires credential-of-requires-2 create-with-requires at-port-requires returns)
+pub create_at_spec : {M : Type 1} → statement M
+create_at_spec = tie.close (tie.spec credential-of-requires credential-of-requires-2 create-with-requires at-port-requires returns)

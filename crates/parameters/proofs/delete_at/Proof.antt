@@ -14,9 +14,9 @@ at-port-requires c κs = search rules
 
 returns : tie.Need-returns
 returns c =
-    let at-credential : tie.After-credential-of = search in
-    let at-made : tie.After-delete-with = search in
-    rw (← at-credential.credential-of.ensures, ← at-made.delete-with.ensures) c.at-port.ensures
+    let at_credential : tie.After-credential-of = search in
+    let at_made : tie.After-delete-with = search in
+    rw (← at_credential.credential-of.ensures, ← at_made.delete-with.ensures) c.at_port_law.ensures
 
-pub delete-at-spec : {M : Type 1} → statement M
-delete-at-spec = tie.close (tie.spec credential-of-requires delete-with-requires at-port-requires returns)
+pub delete_at_spec : {M : Type 1} → statement M
+delete_at_spec = tie.close (tie.spec credential-of-requires delete-with-requires at-port-requires returns)

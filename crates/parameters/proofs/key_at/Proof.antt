@@ -17,10 +17,10 @@ at-port-requires c κs = search rules
 
 returns : tie.Need-returns
 returns c =
-    let at-credential : tie.After-credential-of = search in
-    let at-new-key : tie.After-new-key-of = search in
-    let at-made : tie.After-key-with = search in
-    rw (← at-credential.credential-of.ensures, ← at-new-key.new-key-of.ensures, ← at-made.key-with.ensures) c.at-port.ensures
+    let at_credential : tie.After-credential-of = search in
+    let at_new_key : tie.After-new-key-of = search in
+    let at_made : tie.After-key-with = search in
+    rw (← at_credential.credential-of.ensures, ← at_new_key.new-key-of.ensures, ← at_made.key-with.ensures) c.at_port_law.ensures
 
-pub key-at-spec : {M : Type 1} → statement M
-key-at-spec = tie.close (tie.spec credential-of-requires new-key-of-requires key-with-requires at-port-requires returns)
+pub key_at_spec : {M : Type 1} → statement M
+key_at_spec = tie.close (tie.spec credential-of-requires new-key-of-requires key-with-requires at-port-requires returns)

@@ -11,8 +11,8 @@ renew-with-requires c κs = search rules
 
 returns : tie.Need-returns
 returns c =
-    let at-credential : tie.After-credential-of = search in
-    rw (← at-credential.credential-of.ensures) c.renew-with.ensures
+    let at_credential : tie.After-credential-of = search in
+    rw (← at_credential.credential-of.ensures) c.renew-with.ensures
 
-pub renew-call-spec : {M : Type 1} → statement M
-renew-call-spec = tie.close (tie.spec credential-of-requires renew-with-requires returns)
+pub renew_call_spec : {M : Type 1} → statement M
+renew_call_spec = tie.close (tie.spec credential-of-requires renew-with-requires returns)

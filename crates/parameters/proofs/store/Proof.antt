@@ -1,5 +1,5 @@
 -- `parameters::store` meets its contract.
-use Rattle.parameters.specs.NumbersLaws.{still-fifth, still-sixth, stored}
+use Rattle.parameters.specs.NumbersLaws.{still_fifth, still_sixth, stored}
 use borrow.Author.Rules.{rules}
 use Rattle.parameters.proofs.store.Statement.{statement}
 use Rattle.parameters.proofs.store.Tie as tie
@@ -17,10 +17,10 @@ slice-write-numbers-4 : tie.Need-slice-write-numbers-4
 slice-write-numbers-4 c = search rules
 
 slice-write-numbers-5 : tie.Need-slice-write-numbers-5
-slice-write-numbers-5 c = still-fifth c.args.numbers.now _ _ _ _ c.requires
+slice-write-numbers-5 c = still_fifth c.args.numbers.now _ _ _ _ c.requires
 
 slice-write-numbers-6 : tie.Need-slice-write-numbers-6
-slice-write-numbers-6 c = still-sixth c.args.numbers.now _ _ _ _ c.requires _
+slice-write-numbers-6 c = still_sixth c.args.numbers.now _ _ _ _ c.requires _
 
 same_length : tie.Need-same-length
 same_length c = search rules

@@ -14,9 +14,9 @@ at-port-requires c κs = search rules
 
 returns : tie.Need-returns
 returns c =
-    let at-credential : tie.After-credential-of = search in
-    let at-made : tie.After-write-with = search in
-    rw (← at-credential.credential-of.ensures, ← at-made.write-with.ensures) c.at-port.ensures
+    let at_credential : tie.After-credential-of = search in
+    let at_made : tie.After-write-with = search in
+    rw (← at_credential.credential-of.ensures, ← at_made.write-with.ensures) c.at_port_law.ensures
 
-pub write-at-spec : {M : Type 1} → statement M
-write-at-spec = tie.close (tie.spec credential-of-requires write-with-requires at-port-requires returns)
+pub write_at_spec : {M : Type 1} → statement M
+write_at_spec = tie.close (tie.spec credential-of-requires write-with-requires at-port-requires returns)

@@ -28,10 +28,10 @@ slice-aggregate-put-line-2 c = search rules
 
 put-line-requires : tie.Need-put-line-requires
 put-line-requires c κs =
-    let at-perform : tie.After-perform = search in
-    let at-slice-known7 : tie.After-slice-known7 = search in
-    let start = start-from-slice-known7 at-slice-known7 in
-    (record { bytes = omega (arith, at-perform.perform.kept.1.1.1.1.1.1.1.1.1.1.1.0); numbers = omega (arith, at-perform.perform.kept.1.1.1.1.1.1.1.1.1.1.1.1.0) }, start.pre)
+    let at_perform : tie.After-perform = search in
+    let at_slice_known7 : tie.After-slice-known7 = search in
+    let start = start-from-slice-known7 at_slice_known7 in
+    (record { bytes = omega (arith, at_perform.perform.kept.1.1.1.1.1.1.1.1.1.1.1.0); numbers = omega (arith, at_perform.perform.kept.1.1.1.1.1.1.1.1.1.1.1.1.0) }, start.pre)
 
 same_length : tie.Need-same-length
 same_length c = search rules
@@ -60,14 +60,14 @@ same-length-8 c = search rules
 returns : tie.Need-returns
 unfolding played
 returns c =
-    let at-perform : tie.After-perform = search in
-    let at-slice-known7 : tie.After-slice-known7 = search in
-    let start = start-from-slice-known7 at-slice-known7 in
-    call_played start.args.ordinal start.args.kind start.args.call (record { bytes = omega (arith, at-perform.perform.kept.1.1.1.1.1.1.1.1.1.1.1.0); numbers = omega (arith, at-perform.perform.kept.1.1.1.1.1.1.1.1.1.1.1.1.0) })
-    at-perform.perform.ensures c.before.before.before.put-line.ensures
+    let at_perform : tie.After-perform = search in
+    let at_slice_known7 : tie.After-slice-known7 = search in
+    let start = start-from-slice-known7 at_slice_known7 in
+    call_played start.args.ordinal start.args.kind start.args.call (record { bytes = omega (arith, at_perform.perform.kept.1.1.1.1.1.1.1.1.1.1.1.0); numbers = omega (arith, at_perform.perform.kept.1.1.1.1.1.1.1.1.1.1.1.1.0) })
+    at_perform.perform.ensures c.before.before.before.put-line.ensures
 
-pub play-call-spec : {M : Type 1} → statement M
-play-call-spec =
+pub play_call_spec : {M : Type 1} → statement M
+play_call_spec =
     tie.close
     (tie.spec
     slice-aggregate-perform

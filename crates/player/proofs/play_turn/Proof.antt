@@ -1,7 +1,7 @@
 -- `player::play_turn` meets its contract.
-use Rattle.input.specs.Play.{playerPort}
-use Rattle.input.specs.FoundLaws.{whole-within}
-use Rattle.player.proofs.TurnPlayed.{nothing-played, whole-played}
+use Rattle.input.specs.Play.{player_port}
+use Rattle.input.specs.FoundLaws.{whole_within}
+use Rattle.player.proofs.TurnPlayed.{nothing_played, whole_played}
 use borrow.Author.Rules.{rules}
 use Rattle.player.proofs.play_turn.Statement.{statement}
 use Rattle.player.proofs.play_turn.Tie as tie
@@ -22,30 +22,30 @@ enum-known-found-2 c = search rules
 
 sub-play-call : tie.Need-overflow-sub-play-call
 sub-play-call c =
-    let at-found2 : tie.After-found2 = search in
-    let at-find : tie.After-find = search in
+    let at_found2 : tie.After-found2 = search in
+    let at_find : tie.After-find = search in
     let start : tie.Start = search in
-    (whole-within playerPort start.args.input.now start.args.from at-find.find.ensures at-found2.found2.given.1).0
+    (whole_within player_port start.args.input.now start.args.from at_find.find.ensures at_found2.found2.given.1).0
 
 part-play-call-start : tie.Need-slice-bounds-play-call-start
 part-play-call-start c =
-    let at-found2 : tie.After-found2 = search in
-    let at-find : tie.After-find = search in
+    let at_found2 : tie.After-found2 = search in
+    let at_find : tie.After-find = search in
     let start : tie.Start = search in
-    (whole-within playerPort start.args.input.now start.args.from at-find.find.ensures at-found2.found2.given.1).0
+    (whole_within player_port start.args.input.now start.args.from at_find.find.ensures at_found2.found2.given.1).0
 
 part-play-call-end : tie.Need-slice-bounds-play-call-end
 part-play-call-end c =
-    let at-found2 : tie.After-found2 = search in
-    let at-find : tie.After-find = search in
+    let at_found2 : tie.After-found2 = search in
+    let at_find : tie.After-find = search in
     let start : tie.Start = search in
-    (whole-within playerPort start.args.input.now start.args.from at-find.find.ensures at-found2.found2.given.1).1
+    (whole_within player_port start.args.input.now start.args.from at_find.find.ensures at_found2.found2.given.1).1
 
 play-call-requires : tie.Need-play-call-requires
 play-call-requires c κs = search rules
 
 returns : tie.Need-returns
-returns c = search nothing-played
+returns c = search nothing_played
 
 same_length : tie.Need-same-length
 same_length c = search rules
@@ -73,15 +73,15 @@ same-length-8 c = search rules
 
 returns-2 : tie.Need-returns-2
 returns-2 c =
-    let at-play-call : tie.After-play-call = search in
-    let at-found2 : tie.After-found2 = search in
-    let at-find : tie.After-find = search in
-    let start = start-from-find at-find in
-    whole-played start.args.ordinal _ start.args.input.now start.args.from start.pre.0 start.args.to.now start.args.at at-find.find.ensures at-found2.found2.given.1
-    at-play-call.play-call.ensures
+    let at_play_call : tie.After-play-call = search in
+    let at_found2 : tie.After-found2 = search in
+    let at_find : tie.After-find = search in
+    let start = start-from-find at_find in
+    whole_played start.args.ordinal _ start.args.input.now start.args.from start.pre.0 start.args.to.now start.args.at at_find.find.ensures at_found2.found2.given.1
+    at_play_call.play-call.ensures
 
-pub play-turn-spec : {M : Type 1} → statement M
-play-turn-spec =
+pub play_turn_spec : {M : Type 1} → statement M
+play_turn_spec =
     tie.close
     (tie.spec
     find-requires

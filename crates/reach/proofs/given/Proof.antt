@@ -1,7 +1,7 @@
 -- `reach::given` looks at one key after the other. The measure is what is left.
 use Prim.Native.Nat.{◌-◌}
 use native.Mathlib.Omega.{arith}
-use Rattle.reach.proofs.Giving.{Passed, passed_none, passed-found, passed-more, passed-whole}
+use Rattle.reach.proofs.Giving.{Passed, passed_none, passed_found, passed_more, passed_whole}
 use Rattle.reach.proofs.given.Statement.{statement}
 use Rattle.reach.proofs.given.Tie as tie
 
@@ -36,7 +36,7 @@ shared-slice-read-if1-2 : tie.Need-shared-slice-read-if1-2 invariant-loop decrea
 shared-slice-read-if1-2 c = omega arith
 
 returns : tie.Need-returns invariant-loop decreases-loop
-returns c = search passed-found
+returns c = search passed_found
 
 add-key : tie.Need-overflow-add-key invariant-loop decreases-loop
 add-key c = omega arith
@@ -45,13 +45,13 @@ loop-less : tie.Need-loop-smaller invariant-loop decreases-loop
 loop-less c = omega arith
 
 loop-again : tie.Need-loop-preserved invariant-loop decreases-loop
-loop-again c = search passed-more
+loop-again c = search passed_more
 
 returns-2 : tie.Need-returns-2 invariant-loop decreases-loop
-returns-2 c = search passed-whole
+returns-2 c = search passed_whole
 
-pub given-spec : {M : Type 1} → statement M
-given-spec =
+pub given_spec : {M : Type 1} → statement M
+given_spec =
     tie.close
     (tie.spec
     invariant-loop

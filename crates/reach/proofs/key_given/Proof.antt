@@ -1,6 +1,6 @@
 -- `reach::key_given` meets its contract.
 use borrow.Author.Rules.{rules}
-use Rattle.reach.proofs.Giving.{key-absent, read-key, write-key}
+use Rattle.reach.proofs.Giving.{key_absent, read_key, write_key}
 use Rattle.reach.proofs.key_given.Statement.{statement}
 use Rattle.reach.proofs.key_given.Tie as tie
 
@@ -8,7 +8,7 @@ has-key-requires : tie.Need-has-key-requires
 has-key-requires c κs = search rules
 
 returns : tie.Need-returns
-returns c = key-absent _ _ _ _ _ c.before.has_key_lem.ensures c.if1.true
+returns c = key_absent _ _ _ _ _ c.before.has_key_lem.ensures c.if1.true
 
 enum_told : tie.Need-enum-told
 enum_told c = search rules
@@ -69,16 +69,16 @@ given-requires-2 c κs = search rules
 
 returns-2 : tie.Need-returns-2
 returns-2 c =
-    let at-if1 : tie.Else1 = search in
-    read-key _ _ _ _ c.before.before.before.enum_told.given.1 at-if1.before.has_key_lem.ensures at-if1.if1.left c.given.ensures
+    let at_if1 : tie.Else1 = search in
+    read_key _ _ _ _ c.before.before.before.enum_told.given.1 at_if1.before.has_key_lem.ensures at_if1.if1.left c.given.ensures
 
 returns-3 : tie.Need-returns-3
 returns-3 c =
-    let at-if1 : tie.Else1 = search in
-    write-key _ _ _ _ c.before.before.before.enum-told2.given.1 at-if1.before.has_key_lem.ensures at-if1.if1.left c.given2.ensures
+    let at_if1 : tie.Else1 = search in
+    write_key _ _ _ _ c.before.before.before.enum-told2.given.1 at_if1.before.has_key_lem.ensures at_if1.if1.left c.given2.ensures
 
-pub key-given-spec : {M : Type 1} → statement M
-key-given-spec =
+pub key_given_spec : {M : Type 1} → statement M
+key_given_spec =
     tie.close
     (tie.spec
     has-key-requires

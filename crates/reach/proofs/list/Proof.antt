@@ -2,7 +2,7 @@
 use Prim.Native.Nat.{◌-◌}
 use mathlib.Core.Logic.{inl, inr, ⊎_elim}
 use native.Mathlib.Omega.{arith}
-use Rattle.reach.proofs.Listing.{Listed, listed-none, listed-few, listed-room, listed_more, listed-whole}
+use Rattle.reach.proofs.Listing.{Listed, listed_none, listed_few, listed_room, listed_more, listed_whole}
 use Rattle.reach.proofs.list.Statement.{statement}
 use Rattle.reach.proofs.list.Tie as tie
 
@@ -13,7 +13,7 @@ abbrev decreases-loop : tie.decreases-loop
 decreases-loop marks blocks places₀ listed₀ block₀ places listed block = blocks - block
 
 loop-holds : tie.Need-loop-init invariant-loop decreases-loop
-loop-holds c = listed-none _ _ _ c.requires.0 c.requires.1
+loop-holds c = listed_none _ _ _ c.requires.0 c.requires.1
 
 element-copy-out-if1 : tie.Need-element-copy-out-if1 invariant-loop decreases-loop
 element-copy-out-if1 c = omega (arith, c.before.loop.invariant.few)
@@ -22,13 +22,13 @@ cast-places : tie.Need-overflow-cast-places invariant-loop decreases-loop
 cast-places c = omega (arith, c.before.before.before.loop.invariant.few)
 
 mul-places : tie.Need-overflow-mul-places invariant-loop decreases-loop
-mul-places c = omega (arith, listed-few c.before.before.before.loop.invariant c.before.before.loop-test.true)
+mul-places c = omega (arith, listed_few c.before.before.before.loop.invariant c.before.before.loop-test.true)
 
 slice-write-places : tie.Need-slice-write-places invariant-loop decreases-loop
-slice-write-places c = listed-room c.before.before.before.loop.invariant c.before.before.loop-test.true c.if1.true
+slice-write-places c = listed_room c.before.before.before.loop.invariant c.before.before.loop-test.true c.if1.true
 
 add-listed : tie.Need-overflow-add-listed invariant-loop decreases-loop
-add-listed c = omega (arith, listed-room c.before.before.before.loop.invariant c.before.before.loop-test.true c.if1.true)
+add-listed c = omega (arith, listed_room c.before.before.before.loop.invariant c.before.before.loop-test.true c.if1.true)
 
 add-block : tie.Need-overflow-add-block invariant-loop decreases-loop
 add-block c = omega (arith, c.before.before.before.loop.invariant.few)
@@ -42,13 +42,13 @@ loop-again c =
     (⊎_elim (λ w. inl (w.0.taken, (w.1, w.2))) (λ w. inr (w.0.left, (w.1, w.2))) c.if1.branch)
 
 same_length : tie.Need-same-length invariant-loop decreases-loop
-same_length c = c.before.loop.invariant.samePlaces
+same_length c = c.before.loop.invariant.same_places
 
 returns : tie.Need-returns invariant-loop decreases-loop
-returns c = listed-whole c.before.loop.invariant c.loop-test.false
+returns c = listed_whole c.before.loop.invariant c.loop-test.false
 
-pub list-spec : {M : Type 1} → statement M
-list-spec =
+pub list_spec : {M : Type 1} → statement M
+list_spec =
     tie.close
     (tie.spec
     invariant-loop

@@ -1,7 +1,7 @@
 -- `reach::look_at` meets its contract.
 use mathlib.Core.Path.{refl}
 use borrow.Author.Rules.{rules}
-use Rattle.reach.proofs.Giving.{looked-at}
+use Rattle.reach.proofs.Giving.{looked_at}
 use Rattle.reach.proofs.look_at.Statement.{statement}
 use Rattle.reach.proofs.look_at.Tie as tie
 
@@ -36,14 +36,14 @@ returns : tie.Need-returns
 returns c =
     let start : tie.Start = search in
     let at_read : tie.After-key-given = search in
-    let at-write : tie.After-key-given2 = search in
-    let at-window : tie.After-window-open2 = search in
-    looked-at start.args.words.now start.args.info start.args.flags.now start.args.keys.now start.args.windows.now start.args.block start.pre.1
-    (at_read.key-given.ensures _ refl refl) (at-write.key-given2.ensures _ refl refl)
-    at-window.before.before.before.has_key_lem.ensures at-window.before.before.has-key2.ensures at-window.before.window-open.ensures at-window.window-open2.ensures c.allocated.ensures
+    let at_write : tie.After-key-given2 = search in
+    let at_window : tie.After-window-open2 = search in
+    looked_at start.args.words.now start.args.info start.args.flags.now start.args.keys.now start.args.windows.now start.args.block start.pre.1
+    (at_read.key-given.ensures _ refl refl) (at_write.key-given2.ensures _ refl refl)
+    at_window.before.before.before.has_key_lem.ensures at_window.before.before.has-key2.ensures at_window.before.window-open.ensures at_window.window-open2.ensures c.allocated.ensures
 
-pub look-at-spec : {M : Type 1} → statement M
-look-at-spec =
+pub look_at_spec : {M : Type 1} → statement M
+look_at_spec =
     tie.close
     (tie.spec
     shared-slice-read-flag

@@ -22,13 +22,13 @@ alloc-with-requires c κs = search rules
 
 returns : tie.Need-returns
 returns c =
-    let at-two : tie.After-two = search in
-    let at-credential : tie.After-credential = search in
-    let at-two2 : tie.After-two2 = search in
-    c.alloc-with.ensures ∙ alloc _ _ at-two.two.ensures at-credential.credential.ensures at-two2.two2.ensures refl
+    let at_two : tie.After-two = search in
+    let at_credential : tie.After-credential = search in
+    let at_two2 : tie.After-two2 = search in
+    c.alloc-with.ensures ∙ alloc _ _ at_two.two.ensures at_credential.credential.ensures at_two2.two2.ensures refl
 
-pub decode-alloc-spec : {M : Type 1} → statement M
-decode-alloc-spec =
+pub decode_alloc_spec : {M : Type 1} → statement M
+decode_alloc_spec =
     tie.close
     (tie.spec
     two-requires

@@ -1,6 +1,6 @@
 -- `records::decode_alloc_contig` meets its contract.
 use mathlib.Core.Path.{refl, ◌∙◌}
-use Rattle.decoding.specs.DecodeLaws.{alloc-contig}
+use Rattle.decoding.specs.DecodeLaws.{alloc_contig}
 use borrow.Author.Rules.{rules}
 use Rattle.records.proofs.decode_alloc_contig.Statement.{statement}
 use Rattle.records.proofs.decode_alloc_contig.Tie as tie
@@ -22,13 +22,13 @@ alloc-contig-with-requires c κs = search rules
 
 returns : tie.Need-returns
 returns c =
-    let at-two : tie.After-two = search in
-    let at-credential : tie.After-credential = search in
-    let at-two2 : tie.After-two2 = search in
-    c.alloc-contig-with.ensures ∙ alloc-contig _ _ at-two.two.ensures at-credential.credential.ensures at-two2.two2.ensures refl
+    let at_two : tie.After-two = search in
+    let at_credential : tie.After-credential = search in
+    let at_two2 : tie.After-two2 = search in
+    c.alloc-contig-with.ensures ∙ alloc_contig _ _ at_two.two.ensures at_credential.credential.ensures at_two2.two2.ensures refl
 
-pub decode-alloc-contig-spec : {M : Type 1} → statement M
-decode-alloc-contig-spec =
+pub decode_alloc_contig_spec : {M : Type 1} → statement M
+decode_alloc_contig_spec =
     tie.close
     (tie.spec
     two-requires

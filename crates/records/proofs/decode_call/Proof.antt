@@ -1,8 +1,8 @@
 -- `records::decode_call` meets its contract: an arm for each call.
 use mathlib.Core.Path.{◌∙◌}
 use borrow.Author.Rules.{rules}
-use Rattle.decoding.specs.DecodeLaws.{key-read, key-write, by_name, room, free, audit}
-use Rattle.lengths.proofs.Table.{tableRules}
+use Rattle.decoding.specs.DecodeLaws.{key_read, key_write, by_name, room, free, audit}
+use Rattle.lengths.proofs.Table.{table_rules}
 use Rattle.records.proofs.decode_call.Statement.{statement}
 use Rattle.records.proofs.decode_call.Tie as tie
 
@@ -10,56 +10,56 @@ enum_told : tie.Need-enum-told
 enum_told c = search rules
 
 decode-read-requires : tie.Need-decode-read-requires
-unfolding tableRules
+unfolding table_rules
 decode-read-requires c κs = room c.enum_told.given.1 c.before.before.before.requires
 
 enum-told-2 : tie.Need-enum-told-2
 enum-told-2 c = search rules
 
 decode-write-requires : tie.Need-decode-write-requires
-unfolding tableRules
+unfolding table_rules
 decode-write-requires c κs = room c.enum-told2.given.1 c.before.before.before.requires
 
 enum-told-3 : tie.Need-enum-told-3
 enum-told-3 c = search rules
 
 decode-alloc-requires : tie.Need-decode-alloc-requires
-unfolding tableRules
+unfolding table_rules
 decode-alloc-requires c κs = room c.enum-told3.given.1 c.before.before.before.requires
 
 enum-told-4 : tie.Need-enum-told-4
 enum-told-4 c = search rules
 
 decode-create-requires : tie.Need-decode-create-requires
-unfolding tableRules
+unfolding table_rules
 decode-create-requires c κs = room c.enum-told4.given.1 c.before.before.before.requires
 
 enum-told-5 : tie.Need-enum-told-5
 enum-told-5 c = search rules
 
 decode-delete-requires : tie.Need-decode-delete-requires
-unfolding tableRules
+unfolding table_rules
 decode-delete-requires c κs = room c.enum-told5.given.1 c.before.before.before.requires
 
 enum-told-6 : tie.Need-enum-told-6
 enum-told-6 c = search rules
 
 decode-key-requires : tie.Need-decode-key-requires
-unfolding tableRules
+unfolding table_rules
 decode-key-requires c κs = room c.enum-told6.given.1 c.before.before.before.requires
 
 enum-told-7 : tie.Need-enum-told-7
 enum-told-7 c = search rules
 
 decode-renew-requires : tie.Need-decode-renew-requires
-unfolding tableRules
+unfolding table_rules
 decode-renew-requires c κs = room c.enum-told7.given.1 c.before.before.before.requires
 
 enum-told-8 : tie.Need-enum-told-8
 enum-told-8 c = search rules
 
 decode-force-requires : tie.Need-decode-force-requires
-unfolding tableRules
+unfolding table_rules
 decode-force-requires c κs = room c.enum-told8.given.1 c.before.before.before.requires
 
 enum-told-9 : tie.Need-enum-told-9
@@ -69,7 +69,7 @@ enum-told-10 : tie.Need-enum-told-10
 enum-told-10 c = search rules
 
 decode-tick-requires : tie.Need-decode-tick-requires
-unfolding tableRules
+unfolding table_rules
 decode-tick-requires c κs = room c.enum-told10.given.1 c.before.before.before.requires
 
 enum-told-11 : tie.Need-enum-told-11
@@ -79,21 +79,21 @@ enum-told-12 : tie.Need-enum-told-12
 enum-told-12 c = search rules
 
 decode-alloc-contig-requires : tie.Need-decode-alloc-contig-requires
-unfolding tableRules
+unfolding table_rules
 decode-alloc-contig-requires c κs = room c.enum-told12.given.1 c.before.before.before.requires
 
 enum-told-13 : tie.Need-enum-told-13
 enum-told-13 c = search rules
 
 decode-key-requires-2 : tie.Need-decode-key-requires-2
-unfolding tableRules
+unfolding table_rules
 decode-key-requires-2 c κs = room c.enum-told13.given.1 c.before.before.before.requires
 
 enum-told-14 : tie.Need-enum-told-14
 enum-told-14 c = search rules
 
 decode-delete-tree-requires : tie.Need-decode-delete-tree-requires
-unfolding tableRules
+unfolding table_rules
 decode-delete-tree-requires c κs = room c.enum-told14.given.1 c.before.before.before.requires
 
 returns : tie.Need-returns
@@ -112,7 +112,7 @@ returns-5 : tie.Need-returns-5
 returns-5 c = by_name _ _ c.before.enum-told5.given.1 c.decode-delete.ensures
 
 returns-6 : tie.Need-returns-6
-returns-6 c = by_name _ _ c.before.enum-told6.given.1 (c.decode-key.ensures ∙ key-read _ _)
+returns-6 c = by_name _ _ c.before.enum-told6.given.1 (c.decode-key.ensures ∙ key_read _ _)
 
 returns-7 : tie.Need-returns-7
 returns-7 c = by_name _ _ c.before.enum-told7.given.1 c.decode-renew.ensures
@@ -133,13 +133,13 @@ returns-12 : tie.Need-returns-12
 returns-12 c = search by_name
 
 returns-13 : tie.Need-returns-13
-returns-13 c = by_name _ _ c.before.enum-told13.given.1 (c.decode-key2.ensures ∙ key-write _ _)
+returns-13 c = by_name _ _ c.before.enum-told13.given.1 (c.decode-key2.ensures ∙ key_write _ _)
 
 returns-14 : tie.Need-returns-14
 returns-14 c = search by_name
 
-pub decode-call-spec : {M : Type 1} → statement M
-decode-call-spec =
+pub decode_call_spec : {M : Type 1} → statement M
+decode_call_spec =
     tie.close
     (tie.spec
     enum_told

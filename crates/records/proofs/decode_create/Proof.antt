@@ -23,8 +23,8 @@ create-with-requires c κs = search rules
 returns : tie.Need-returns
 returns c = c.create-with.ensures ∙ create _ _ c.before.before.before.before.two.ensures c.before.before.before.credential.ensures c.before.before.two2.ensures c.before.credential2.ensures
 
-pub decode-create-spec : {M : Type 1} → statement M
-decode-create-spec =
+pub decode_create_spec : {M : Type 1} → statement M
+decode_create_spec =
     tie.close
     (tie.spec
     two-requires

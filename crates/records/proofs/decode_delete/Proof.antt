@@ -20,7 +20,7 @@ delete-with-requires c κs = search rules
 returns : tie.Need-returns
 returns c = c.delete-with.ensures ∙ delete _ _ c.before.before.before.two.ensures c.before.before.credential.ensures c.before.two2.ensures
 
-pub decode-delete-spec : {M : Type 1} → statement M
-decode-delete-spec =
+pub decode_delete_spec : {M : Type 1} → statement M
+decode_delete_spec =
     tie.close
     (tie.spec two-requires credential-requires two-requires-2 delete-with-requires returns)

@@ -1,6 +1,6 @@
 -- `records::decode_delete_tree` meets its contract.
 use mathlib.Core.Path.{◌∙◌}
-use Rattle.decoding.specs.DecodeLaws.{delete-tree}
+use Rattle.decoding.specs.DecodeLaws.{delete_tree}
 use borrow.Author.Rules.{rules}
 use Rattle.records.proofs.decode_delete_tree.Statement.{statement}
 use Rattle.records.proofs.decode_delete_tree.Tie as tie
@@ -18,9 +18,9 @@ delete-tree-with-requires : tie.Need-delete-tree-with-requires
 delete-tree-with-requires c κs = search rules
 
 returns : tie.Need-returns
-returns c = c.delete-tree-with.ensures ∙ delete-tree _ _ c.before.before.before.two.ensures c.before.before.credential.ensures c.before.two2.ensures
+returns c = c.delete-tree-with.ensures ∙ delete_tree _ _ c.before.before.before.two.ensures c.before.before.credential.ensures c.before.two2.ensures
 
-pub decode-delete-tree-spec : {M : Type 1} → statement M
-decode-delete-tree-spec =
+pub decode_delete_tree_spec : {M : Type 1} → statement M
+decode_delete_tree_spec =
     tie.close
     (tie.spec two-requires credential-requires two-requires-2 delete-tree-with-requires returns)

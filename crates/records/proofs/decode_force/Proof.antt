@@ -10,5 +10,5 @@ two-requires c κs = search rules
 returns : tie.Need-returns
 returns c = force _ _ c.two.ensures
 
-pub decode-force-spec : {M : Type 1} → statement M
-decode-force-spec = tie.close (tie.spec two-requires returns)
+pub decode_force_spec : {M : Type 1} → statement M
+decode_force_spec = tie.close (tie.spec two-requires returns)

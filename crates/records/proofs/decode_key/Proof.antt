@@ -20,8 +20,8 @@ key-with-requires c κs = search rules
 returns : tie.Need-returns
 returns c = c.key-with.ensures ∙ key _ _ _ c.before.before.before.two.ensures c.before.before.credential.ensures c.before.new-key.ensures
 
-pub decode-key-spec : {M : Type 1} → statement M
-decode-key-spec =
+pub decode_key_spec : {M : Type 1} → statement M
+decode_key_spec =
     tie.close
     (tie.spec
     two-requires

@@ -20,6 +20,6 @@ read-with-requires c κs = search rules
 returns : tie.Need-returns
 returns c = c.read-with.ensures ∙ read _ _ c.before.before.before.two.ensures c.before.before.credential.ensures c.before.four.ensures
 
-pub decode-read-spec : {M : Type 1} → statement M
-decode-read-spec =
+pub decode_read_spec : {M : Type 1} → statement M
+decode_read_spec =
     tie.close (tie.spec two-requires credential-requires four-requires read-with-requires returns)

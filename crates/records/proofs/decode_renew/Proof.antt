@@ -26,8 +26,8 @@ renew-with-requires c κs = search rules
 returns : tie.Need-returns
 returns c = c.renew-with.ensures ∙ renew _ _ refl c.before.before.before.before.two.ensures c.before.before.before.eight.ensures c.before.before.eight2.ensures c.before.four.ensures
 
-pub decode-renew-spec : {M : Type 1} → statement M
-decode-renew-spec =
+pub decode_renew_spec : {M : Type 1} → statement M
+decode_renew_spec =
     tie.close
     (tie.spec
     shared-slice-read-mode

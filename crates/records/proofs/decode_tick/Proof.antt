@@ -10,5 +10,5 @@ eight-requires c κs = search rules
 returns : tie.Need-returns
 returns c = tick _ _ c.eight.ensures
 
-pub decode-tick-spec : {M : Type 1} → statement M
-decode-tick-spec = tie.close (tie.spec eight-requires returns)
+pub decode_tick_spec : {M : Type 1} → statement M
+decode_tick_spec = tie.close (tie.spec eight-requires returns)

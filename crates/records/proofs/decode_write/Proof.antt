@@ -20,6 +20,6 @@ write-with-requires c κs = search rules
 returns : tie.Need-returns
 returns c = c.write-with.ensures ∙ write _ _ c.before.before.before.two.ensures c.before.before.credential.ensures c.before.four.ensures
 
-pub decode-write-spec : {M : Type 1} → statement M
-decode-write-spec =
+pub decode_write_spec : {M : Type 1} → statement M
+decode_write_spec =
     tie.close (tie.spec two-requires credential-requires four-requires write-with-requires returns)

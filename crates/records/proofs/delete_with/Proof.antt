@@ -1,5 +1,5 @@
 -- `records::delete_with` meets its contract.
-use Rattle.decoding.specs.Decode.{withCredential}
+use Rattle.decoding.specs.Decode.{with_credential}
 use borrow.Author.Rules.{rules}
 use Rattle.records.proofs.delete_with.Statement.{statement}
 use Rattle.records.proofs.delete_with.Tie as tie
@@ -14,13 +14,13 @@ enum_told : tie.Need-enum-told
 enum_told c = search rules
 
 returns : tie.Need-returns
-unfolding withCredential
+unfolding with_credential
 returns c = rw (c.before.before.parsed.given.1, c.delete-operands.ensures)
 
 returns-2 : tie.Need-returns-2
-unfolding withCredential
+unfolding with_credential
 returns-2 c = rw c.enum_told.given.1
 
-pub delete-with-spec : {M : Type 1} → statement M
-delete-with-spec =
+pub delete_with_spec : {M : Type 1} → statement M
+delete_with_spec =
     tie.close (tie.spec enum-known-parsed delete-operands-requires enum_told returns returns-2)

@@ -1,5 +1,5 @@
 -- `records::key_with` meets its contract.
-use Rattle.decoding.specs.Decode.{keyWith}
+use Rattle.decoding.specs.Decode.{key_with}
 use borrow.Author.Rules.{rules}
 use Rattle.records.proofs.key_with.Statement.{statement}
 use Rattle.records.proofs.key_with.Tie as tie
@@ -11,7 +11,7 @@ enum_told : tie.Need-enum-told
 enum_told c = search rules
 
 returns : tie.Need-returns
-unfolding keyWith
+unfolding key_with
 returns c = rw c.enum_told.given.1
 
 enum-known-new : tie.Need-enum-known-new
@@ -21,7 +21,7 @@ enum-told-2 : tie.Need-enum-told-2
 enum-told-2 c = search rules
 
 returns-2 : tie.Need-returns-2
-unfolding keyWith
+unfolding key_with
 returns-2 c = rw (c.before.before.before.parsed.given.1, c.enum-told2.given.1)
 
 enum-told-3 : tie.Need-enum-told-3
@@ -31,7 +31,7 @@ enum-told-4 : tie.Need-enum-told-4
 enum-told-4 c = search rules
 
 returns-3 : tie.Need-returns-3
-unfolding keyWith
+unfolding key_with
 returns-3 c =
     rw (
       c.before.before.before.before.before.before.parsed.given.1,
@@ -40,7 +40,7 @@ returns-3 c =
     )
 
 returns-4 : tie.Need-returns-4
-unfolding keyWith
+unfolding key_with
 returns-4 c =
     rw (
       c.before.before.before.before.before.before.parsed.given.1,
@@ -48,8 +48,8 @@ returns-4 c =
       c.enum-told4.given.1,
     )
 
-pub key-with-spec : {M : Type 1} → statement M
-key-with-spec =
+pub key_with_spec : {M : Type 1} → statement M
+key_with_spec =
     tie.close
     (tie.spec
     enum-known-parsed

@@ -1,5 +1,5 @@
 -- `records::renew_with` meets its contract: RENEW is by a key alone.
-use Rattle.decoding.specs.Decode.{renewWith}
+use Rattle.decoding.specs.Decode.{renew_with}
 use borrow.Author.Rules.{rules}
 use Rattle.records.proofs.renew_with.Statement.{statement}
 use Rattle.records.proofs.renew_with.Tie as tie
@@ -11,7 +11,7 @@ enum_told : tie.Need-enum-told
 enum_told c = search rules
 
 returns : tie.Need-returns
-unfolding renewWith
+unfolding renew_with
 returns c = rw c.enum_told.given.1
 
 enum-told-2 : tie.Need-enum-told-2
@@ -24,19 +24,19 @@ enum-known-credential : tie.Need-enum-known-credential
 enum-known-credential c = search rules
 
 returns-2 : tie.Need-returns-2
-unfolding renewWith
+unfolding renew_with
 returns-2 c = rw (c.before.before.before.parsed.given.1, c.enum-told2.given.1)
 
 returns-3 : tie.Need-returns-3
-unfolding renewWith
+unfolding renew_with
 returns-3 c = rw (c.before.before.before.parsed.given.1, c.enum-told3.given.1)
 
 returns-4 : tie.Need-returns-4
-unfolding renewWith
+unfolding renew_with
 returns-4 c = rw (c.before.before.before.before.parsed.given.1, c.before.credential.given.1)
 
-pub renew-with-spec : {M : Type 1} → statement M
-renew-with-spec =
+pub renew_with_spec : {M : Type 1} → statement M
+renew_with_spec =
     tie.close
     (tie.spec
     enum-known-parsed

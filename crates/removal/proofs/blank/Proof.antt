@@ -1,7 +1,7 @@
 -- `removal::blank` leaves zeros in the places. The loop's invariant: the places passed hold 0, in both tables.
 use Prim.Native.Nat.{◌-◌}
 use native.Mathlib.Omega.{arith}
-use Rattle.removal.proofs.Blanking.{Blanking, blanking-none, blanking-more, blanking-whole}
+use Rattle.removal.proofs.Blanking.{Blanking, blanking_none, blanking_more, blanking_whole}
 use borrow.Author.Rules.{rules}
 use Rattle.removal.proofs.blank.Statement.{statement}
 use Rattle.removal.proofs.blank.Tie as tie
@@ -13,7 +13,7 @@ abbrev decreases-loop : tie.decreases-loop
 decreases-loop pointers₀ multiplicities₀ from to at₀ pointers multiplicities at = to - at
 
 loop-holds : tie.Need-loop-init invariant-loop decreases-loop
-loop-holds c = (blanking-none _ _ _ c.requires.0, blanking-none _ _ _ c.requires.0)
+loop-holds c = (blanking_none _ _ _ c.requires.0, blanking_none _ _ _ c.requires.0)
 
 mul-pointers : tie.Need-overflow-mul-pointers invariant-loop decreases-loop
 mul-pointers c = omega (arith, c.before.before.requires.1.0)
@@ -34,7 +34,7 @@ loop-less : tie.Need-loop-smaller invariant-loop decreases-loop
 loop-less c = omega arith
 
 loop-again : tie.Need-loop-preserved invariant-loop decreases-loop
-loop-again c = (blanking-more c.before.before.requires.1.0 c.before.loop.invariant.0 c.loop-test.true, blanking-more c.before.before.requires.1.1 c.before.loop.invariant.1 c.loop-test.true)
+loop-again c = (blanking_more c.before.before.requires.1.0 c.before.loop.invariant.0 c.loop-test.true, blanking_more c.before.before.requires.1.1 c.before.loop.invariant.1 c.loop-test.true)
 
 same_length : tie.Need-same-length invariant-loop decreases-loop
 same_length c = c.before.loop.invariant.0.same
@@ -43,10 +43,10 @@ same-length-2 : tie.Need-same-length-2 invariant-loop decreases-loop
 same-length-2 c = c.before.loop.invariant.1.same
 
 returns : tie.Need-returns invariant-loop decreases-loop
-returns c = record { isPointers = blanking-whole c.before.loop.invariant.0 c.loop-test.false; isMultiplicities = blanking-whole c.before.loop.invariant.1 c.loop-test.false }
+returns c = record { is_pointers = blanking_whole c.before.loop.invariant.0 c.loop-test.false; is_multiplicities = blanking_whole c.before.loop.invariant.1 c.loop-test.false }
 
-pub blank-spec : {M : Type 1} → statement M
-blank-spec =
+pub blank_spec : {M : Type 1} → statement M
+blank_spec =
     tie.close
     (tie.spec
     invariant-loop

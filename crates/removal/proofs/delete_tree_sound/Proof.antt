@@ -1,8 +1,8 @@
 -- `removal::delete_tree_sound` is the rule on an audited card, by what its checks find.
 use Rattle.card.specs.Card.{card}
-use Rattle.card.specs.Session.{performSound}
+use Rattle.card.specs.Session.{perform_sound}
 use Rattle.outcomes.proofs.Returned.{refuses}
-use Rattle.removal.proofs.Deleting.{found-refused, found-passes, found-freed, droppable, freeable, tree-deleted}
+use Rattle.removal.proofs.Deleting.{found_refused, found_passes, found_freed, droppable, freeable, tree_deleted}
 use borrow.Author.Rules.{rules}
 use Rattle.removal.proofs.delete_tree_sound.Statement.{statement}
 use Rattle.removal.proofs.delete_tree_sound.Tie as tie
@@ -27,14 +27,14 @@ enum-known-count c = search rules
 drop-pointers-requires : tie.Need-drop-pointers-requires
 drop-pointers-requires c κs =
     let at_count : tie.After-count = search in
-    let at-tree-check : tie.After-tree-check = search in
-    let start = start-from-tree-check at-tree-check in
-    let a = start.args in let k = card a.info a.flags.now a.keys.now a.counts.now a.pointers.now a.multiplicities.now a.windows.now a.contents.now in droppable a.port k a.o start.pre (found-passes a.port k a.o at-tree-check.tree-check.ensures at_count.count.given.1)
+    let at_tree_check : tie.After-tree-check = search in
+    let start = start-from-tree-check at_tree_check in
+    let a = start.args in let k = card a.info a.flags.now a.keys.now a.counts.now a.pointers.now a.multiplicities.now a.windows.now a.contents.now in droppable a.port k a.o start.pre (found_passes a.port k a.o at_tree_check.tree-check.ensures at_count.count.given.1)
 
 free-marked-requires : tie.Need-free-marked-requires
 free-marked-requires c κs =
-    let at-tree-check : tie.After-tree-check = search in
-    let start = start-from-tree-check at-tree-check in
+    let at_tree_check : tie.After-tree-check = search in
+    let start = start-from-tree-check at_tree_check in
     let a = start.args in let k = card a.info a.flags.now a.keys.now a.counts.now a.pointers.now a.multiplicities.now a.windows.now a.contents.now in freeable a.port k a.o start.pre
 
 same_length : tie.Need-same-length
@@ -56,11 +56,11 @@ same-length-6 : tie.Need-same-length-6
 same-length-6 c = search rules
 
 returns : tie.Need-returns
-unfolding performSound
+unfolding perform_sound
 returns c =
-    let at-tree-check : tie.After-tree-check = search in
-    let start = start-from-tree-check at-tree-check in
-    let a = start.args in let k = card a.info a.flags.now a.keys.now a.counts.now a.pointers.now a.multiplicities.now a.windows.now a.contents.now in refuses k _ _ c.refused.ensures (found-refused a.port k a.o at-tree-check.tree-check.ensures c.before.before.why.given.1)
+    let at_tree_check : tie.After-tree-check = search in
+    let start = start-from-tree-check at_tree_check in
+    let a = start.args in let k = card a.info a.flags.now a.keys.now a.counts.now a.pointers.now a.multiplicities.now a.windows.now a.contents.now in refuses k _ _ c.refused.ensures (found_refused a.port k a.o at_tree_check.tree-check.ensures c.before.before.why.given.1)
 
 same-length-7 : tie.Need-same-length-7
 same-length-7 c = search rules
@@ -82,15 +82,15 @@ same-length-12 c = search rules
 
 returns-2 : tie.Need-returns-2
 returns-2 c =
-    let at-free-marked : tie.After-free-marked = search in
-    let at-drop-pointers : tie.After-drop-pointers = search in
+    let at_free_marked : tie.After-free-marked = search in
+    let at_drop_pointers : tie.After-drop-pointers = search in
     let at_count : tie.After-count = search in
-    let at-tree-check : tie.After-tree-check = search in
-    let start = start-from-tree-check at-tree-check in
-    let a = start.args in let k = card a.info a.flags.now a.keys.now a.counts.now a.pointers.now a.multiplicities.now a.windows.now a.contents.now in tree-deleted a.port k a.o (found-passes a.port k a.o at-tree-check.tree-check.ensures at_count.count.given.1) (found-freed a.port k a.o at-tree-check.tree-check.ensures at_count.count.given.1) (at-drop-pointers.drop-pointers.ensures a.flags.now a.keys.now a.windows.now a.contents.now) (at-free-marked.free-marked.ensures _ _ _ _ _)
+    let at_tree_check : tie.After-tree-check = search in
+    let start = start-from-tree-check at_tree_check in
+    let a = start.args in let k = card a.info a.flags.now a.keys.now a.counts.now a.pointers.now a.multiplicities.now a.windows.now a.contents.now in tree_deleted a.port k a.o (found_passes a.port k a.o at_tree_check.tree-check.ensures at_count.count.given.1) (found_freed a.port k a.o at_tree_check.tree-check.ensures at_count.count.given.1) (at_drop_pointers.drop-pointers.ensures a.flags.now a.keys.now a.windows.now a.contents.now) (at_free_marked.free-marked.ensures _ _ _ _ _)
 
-pub delete-tree-sound-spec : {M : Type 1} → statement M
-delete-tree-sound-spec =
+pub delete_tree_sound_spec : {M : Type 1} → statement M
+delete_tree_sound_spec =
     tie.close
     (tie.spec
     tree-check-requires

@@ -16,11 +16,11 @@ close-up-requires c κs = search rules
 
 blank-requires : tie.Need-blank-requires
 blank-requires c κs =
-    let at-close-up : tie.After-close-up = search in
+    let at_close_up : tie.After-close-up = search in
     let start : tie.Start = search in
     let a = start.args in
     let few = fewer a.info a.counts.now a.pointers.now a.multiplicities.now a.marks.now a.source a.destination start.pre in (
-      omega (arith, at-close-up.close_up.ensures.isKept, few),
+      omega (arith, at_close_up.close_up.ensures.is_kept, few),
       (
         omega (arith, start.pre.sorted.within),
         omega (arith, start.pre.sorted.within, start.pre.countable.paired.same),
@@ -41,14 +41,14 @@ same-length-3 c = search rules
 
 returns : tie.Need-returns
 returns c =
-    let at-blank : tie.After-blank = search in
-    let at-close-up : tie.After-close-up = search in
+    let at_blank : tie.After-blank = search in
+    let at_close_up : tie.After-close-up = search in
     let start : tie.Start = search in
     let a = start.args in
-    dropped a.info a.counts.now a.pointers.now a.multiplicities.now a.marks.now a.source a.destination start.pre at-close-up.close_up.ensures at-blank.blank.ensures c.with-used.ensures
+    dropped a.info a.counts.now a.pointers.now a.multiplicities.now a.marks.now a.source a.destination start.pre at_close_up.close_up.ensures at_blank.blank.ensures c.with-used.ensures
 
-pub drop-pointers-spec : {M : Type 1} → statement M
-drop-pointers-spec =
+pub drop_pointers_spec : {M : Type 1} → statement M
+drop_pointers_spec =
     tie.close
     (tie.spec
     mul-gone

@@ -2,7 +2,7 @@
 use Prim.Native.Nat.{◌-◌}
 use mathlib.Core.Logic.{⊎_elim}
 use native.Mathlib.Omega.{arith}
-use Rattle.removal.proofs.Marked.{Freeing, freeing-none, freeing-pass, freeing-more, freeing-same, freeing-whole}
+use Rattle.removal.proofs.Marked.{Freeing, freeing_none, freeing_pass, freeing_more, freeing_same, freeing_whole}
 use borrow.Author.Rules.{rules}
 use Rattle.removal.proofs.free_marked.Statement.{statement}
 use Rattle.removal.proofs.free_marked.Tie as tie
@@ -14,7 +14,7 @@ abbrev decreases-loop : tie.decreases-loop
 decreases-loop flags₀ keys₀ windows₀ marks blocks at₀ flags keys windows at = blocks - at
 
 loop-holds : tie.Need-loop-init invariant-loop decreases-loop
-loop-holds c = freeing-none _ _ _ _ _
+loop-holds c = freeing_none _ _ _ _ _
 
 element-copy-out-if1 : tie.Need-element-copy-out-if1 invariant-loop decreases-loop
 element-copy-out-if1 c = search rules
@@ -36,24 +36,24 @@ loop-again c =
     let h = c.before.before.before.loop.invariant in
     let l = c.before.before.loop-test.true in
     ⊎_elim
-    (λ w. freeing-same _ _ _ _ (freeing-more _ _ _ _ h l w.4.ensures w.0.taken) (w.11, (w.12, w.13)))
-    (λ w. freeing-same _ _ _ _ (freeing-pass _ _ _ _ h l w.0.left) (w.1, (w.2, w.3)))
+    (λ w. freeing_same _ _ _ _ (freeing_more _ _ _ _ h l w.4.ensures w.0.taken) (w.11, (w.12, w.13)))
+    (λ w. freeing_same _ _ _ _ (freeing_pass _ _ _ _ h l w.0.left) (w.1, (w.2, w.3)))
     c.if1.branch
 
 same_length : tie.Need-same-length invariant-loop decreases-loop
-same_length c = c.before.loop.invariant.sameFlags
+same_length c = c.before.loop.invariant.same_flags
 
 same-length-2 : tie.Need-same-length-2 invariant-loop decreases-loop
-same-length-2 c = c.before.loop.invariant.sameKeys
+same-length-2 c = c.before.loop.invariant.same_keys
 
 same-length-3 : tie.Need-same-length-3 invariant-loop decreases-loop
-same-length-3 c = c.before.loop.invariant.sameWindows
+same-length-3 c = c.before.loop.invariant.same_windows
 
 returns : tie.Need-returns invariant-loop decreases-loop
-returns c = freeing-whole _ _ _ _ c.before.loop.invariant c.loop-test.false
+returns c = freeing_whole _ _ _ _ c.before.loop.invariant c.loop-test.false
 
-pub free-marked-spec : {M : Type 1} → statement M
-free-marked-spec =
+pub free_marked_spec : {M : Type 1} → statement M
+free_marked_spec =
     tie.close
     (tie.spec
     invariant-loop

@@ -1,5 +1,5 @@
 -- `runs::nearer` is the nearest of those so far and of one more.
-use Rattle.runs.proofs.Meeting.{nearer-none, nearer-taken, nearer-kept}
+use Rattle.runs.proofs.Meeting.{nearer_none, nearer_taken, nearer_kept}
 use borrow.Author.Rules.{rules}
 use Rattle.runs.proofs.nearer.Statement.{statement}
 use Rattle.runs.proofs.nearer.Tie as tie
@@ -17,16 +17,16 @@ distance-requires-2 : tie.Need-distance-requires-2
 distance-requires-2 c κs = tt
 
 returns : tie.Need-returns
-returns c = search nearer-none
+returns c = search nearer_none
 
 returns-2 : tie.Need-returns-2
-returns-2 c = search nearer-taken
+returns-2 c = search nearer_taken
 
 returns-3 : tie.Need-returns-3
-returns-3 c = search nearer-kept
+returns-3 c = search nearer_kept
 
-pub nearer-spec : {M : Type 1} → statement M
-nearer-spec =
+pub nearer_spec : {M : Type 1} → statement M
+nearer_spec =
     tie.close
     (tie.spec
     enum_told

@@ -2,7 +2,7 @@
 use Prim.Native.Nat.{◌-◌}
 use native.Mathlib.Omega.{arith}
 use lib.ListN.{length}
-use Rattle.runs.proofs.Meeting.{Met, met_start, met-inside, met-run, met-none, met-whole}
+use Rattle.runs.proofs.Meeting.{Met, met_start, met_inside, met_run, met_none, met_whole}
 use Rattle.runs.proofs.nearest_run.Statement.{statement}
 use Rattle.runs.proofs.nearest_run.Tie as tie
 
@@ -27,7 +27,7 @@ add-block : tie.Need-overflow-add-block invariant-loop decreases-loop
 add-block c = omega arith
 
 sub-if1 : tie.Need-overflow-sub-if1 invariant-loop decreases-loop
-sub-if1 c = search met-inside
+sub-if1 c = search met_inside
 
 sub-nearer : tie.Need-overflow-sub-nearer invariant-loop decreases-loop
 sub-nearer c = omega arith
@@ -39,19 +39,19 @@ loop-less : tie.Need-loop-smaller invariant-loop decreases-loop
 loop-less c = omega arith
 
 loop-again : tie.Need-loop-preserved invariant-loop decreases-loop
-loop-again c = search met-run
+loop-again c = search met_run
 
 loop-less-2 : tie.Need-loop-smaller-2 invariant-loop decreases-loop
 loop-less-2 c = omega arith
 
 loop-again-2 : tie.Need-loop-preserved-2 invariant-loop decreases-loop
-loop-again-2 c = search met-none
+loop-again-2 c = search met_none
 
 returns : tie.Need-returns invariant-loop decreases-loop
-returns c = search met-whole
+returns c = search met_whole
 
-pub nearest-run-spec : {M : Type 1} → statement M
-nearest-run-spec =
+pub nearest_run_spec : {M : Type 1} → statement M
+nearest_run_spec =
     tie.close
     (tie.spec
     invariant-loop

@@ -1,5 +1,5 @@
 -- `status::free_sound` is FREE on an audited card.
-use Rattle.status.proofs.Ticked.{free-done}
+use Rattle.status.proofs.Ticked.{free_done}
 use borrow.Author.Rules.{rules}
 use Rattle.status.proofs.free_sound.Statement.{statement}
 use Rattle.status.proofs.free_sound.Tie as tie
@@ -8,7 +8,7 @@ count-free-requires : tie.Need-count-free-requires
 count-free-requires c κs = search rules
 
 returns : tie.Need-returns
-returns c = λ port. search free-done
+returns c = λ port. search free_done
 
-pub free-sound-spec : {M : Type 1} → statement M
-free-sound-spec = tie.close (tie.spec count-free-requires returns)
+pub free_sound_spec : {M : Type 1} → statement M
+free_sound_spec = tie.close (tie.spec count-free-requires returns)

@@ -1,5 +1,5 @@
 -- `sweeping::sweep_block` leaves the tables with the block swept.
-use Rattle.sweeping.proofs.Swept.{block-swept}
+use Rattle.sweeping.proofs.Swept.{block_swept}
 use borrow.Author.Rules.{rules}
 use Rattle.sweeping.proofs.sweep_block.Statement.{statement}
 use Rattle.sweeping.proofs.sweep_block.Tie as tie
@@ -32,10 +32,10 @@ same-length-2 : tie.Need-same-length-2
 same-length-2 c = search rules
 
 returns : tie.Need-returns
-returns c = block-swept c.before.before.before.before.before.before.requires c.before.before.clear.ensures
+returns c = block_swept c.before.before.before.before.before.before.requires c.before.before.clear.ensures
 
-pub sweep-block-spec : {M : Type 1} → statement M
-sweep-block-spec =
+pub sweep_block_spec : {M : Type 1} → statement M
+sweep_block_spec =
     tie.close
     (tie.spec
     mul_at

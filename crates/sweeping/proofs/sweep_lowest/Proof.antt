@@ -3,7 +3,7 @@ use Prim.Native.Nat.{◌-◌}
 use mathlib.Core.Logic.{⊎_elim}
 use native.Mathlib.Omega.{arith}
 use lib.ListN.{length}
-use Rattle.sweeping.proofs.Swept.{Walked, walked_none, inside, wanting, can-sweep, walked-pass, walked_more, walked_same, walked_whole}
+use Rattle.sweeping.proofs.Swept.{Walked, walked_none, inside, wanting, can_sweep, walked_pass, walked_more, walked_same, walked_whole}
 use borrow.Author.Rules.{rules}
 use Rattle.sweeping.proofs.sweep_lowest.Statement.{statement}
 use Rattle.sweeping.proofs.sweep_lowest.Tie as tie
@@ -20,21 +20,21 @@ loop-holds c = walked_none _ _ _ _
 slice-read-waiting : tie.Need-slice-read-waiting invariant-loop decreases-loop
 slice-read-waiting c =
     let w = c.before.before.loop.invariant in
-    omega (arith, w.sameFlags, inside w c.before.loop-test.true)
+    omega (arith, w.same_flags, inside w c.before.loop-test.true)
 
 waiting-requires : tie.Need-waiting-requires invariant-loop decreases-loop
 waiting-requires c κs = search rules
 
 sweep-block-requires : tie.Need-sweep-block-requires invariant-loop decreases-loop
 sweep-block-requires c κs =
-    let at-loop : tie.At-loop invariant-loop decreases-loop = search in
+    let at_loop : tie.At-loop invariant-loop decreases-loop = search in
     let start : tie.Start invariant-loop decreases-loop = search in
-    can-sweep at-loop.loop.inv c.before.before.before.before.before.loop-test.true start.pre
+    can_sweep at_loop.loop.inv c.before.before.before.before.before.loop-test.true start.pre
 
 add-swept : tie.Need-overflow-add-swept invariant-loop decreases-loop
 add-swept c =
-    let at-loop : tie.At-loop invariant-loop decreases-loop = search in
-    omega (arith, wanting at-loop.loop.inv c.before.before.before.before.before.before.before.before.before.before.loop-test.true)
+    let at_loop : tie.At-loop invariant-loop decreases-loop = search in
+    omega (arith, wanting at_loop.loop.inv c.before.before.before.before.before.before.before.before.before.before.loop-test.true)
 
 add-block : tie.Need-overflow-add-block invariant-loop decreases-loop
 add-block c = omega (arith, inside c.before.before.before.before.loop.invariant c.before.before.before.loop-test.true)
@@ -50,20 +50,20 @@ loop-again c =
     let start : tie.Start invariant-loop decreases-loop = search in
     ⊎_elim
     (λ m. walked_same (walked_more w turn start.pre told m.0.taken m.3.ensures) m.8 m.9 m.10)
-    (λ m. walked_same (walked-pass w turn told m.0.left) m.1 m.2 m.3)
+    (λ m. walked_same (walked_pass w turn told m.0.left) m.1 m.2 m.3)
     c.if1.branch
 
 same_length : tie.Need-same-length invariant-loop decreases-loop
-same_length c = c.before.loop.invariant.sameFlags
+same_length c = c.before.loop.invariant.same_flags
 
 same-length-2 : tie.Need-same-length-2 invariant-loop decreases-loop
-same-length-2 c = c.before.loop.invariant.sameContents
+same-length-2 c = c.before.loop.invariant.same_contents
 
 returns : tie.Need-returns invariant-loop decreases-loop
 returns c = walked_whole c.before.loop.invariant c.loop-test.false
 
-pub sweep-lowest-spec : {M : Type 1} → statement M
-sweep-lowest-spec =
+pub sweep_lowest_spec : {M : Type 1} → statement M
+sweep_lowest_spec =
     tie.close
     (tie.spec
     invariant-loop

@@ -1,5 +1,5 @@
 -- `sweeping::sweep_sound` is SWEEP on an audited card.
-use Rattle.sweeping.proofs.Swept.{contents-long, sweep-done}
+use Rattle.sweeping.proofs.Swept.{contents_long, sweep_done}
 use borrow.Author.Rules.{rules}
 use Rattle.sweeping.proofs.sweep_sound.Statement.{statement}
 use Rattle.sweeping.proofs.sweep_sound.Tie as tie
@@ -10,7 +10,7 @@ cast-sweep-lowest c = search rules
 sweep-lowest-requires : tie.Need-sweep-lowest-requires
 sweep-lowest-requires c κs =
     let start : tie.Start = search in
-    contents-long start.pre
+    contents_long start.pre
 
 same_length : tie.Need-same-length
 same_length c = search rules
@@ -21,8 +21,8 @@ same-length-2 c = search rules
 returns : tie.Need-returns
 returns c =
     let start : tie.Start = search in
-    let at-sweep-lowest : tie.After-sweep-lowest = search in
-    λ port. sweep-done start.pre port start.args.o at-sweep-lowest.sweep-lowest.ensures
+    let at_sweep_lowest : tie.After-sweep-lowest = search in
+    λ port. sweep_done start.pre port start.args.o at_sweep_lowest.sweep-lowest.ensures
 
-pub sweep-sound-spec : {M : Type 1} → statement M
-sweep-sound-spec = tie.close (tie.spec cast-sweep-lowest sweep-lowest-requires same_length same-length-2 returns)
+pub sweep_sound_spec : {M : Type 1} → statement M
+sweep_sound_spec = tie.close (tie.spec cast-sweep-lowest sweep-lowest-requires same_length same-length-2 returns)

@@ -2,7 +2,7 @@
 use Prim.Native.Nat.{◌-◌}
 use native.Mathlib.Omega.{arith}
 use lib.ListN.{length}
-use Rattle.tables.proofs.Overlay.{Overlaid, overlaid-start, overlaid-more, overlaid-whole}
+use Rattle.tables.proofs.Overlay.{Overlaid, overlaid_start, overlaid_more, overlaid_whole}
 use Rattle.tables.proofs.copy.Statement.{statement}
 use Rattle.tables.proofs.copy.Tie as tie
 
@@ -13,7 +13,7 @@ abbrev decreases-loop : tie.decreases-loop
 decreases-loop from to₀ i₀ to i = length to₀ - i
 
 loop-holds : tie.Need-loop-init invariant-loop decreases-loop
-loop-holds c = overlaid-start _ _ c.requires
+loop-holds c = overlaid_start _ _ c.requires
 
 shared-slice-read-to : tie.Need-shared-slice-read-to invariant-loop decreases-loop
 shared-slice-read-to c = omega arith
@@ -28,13 +28,13 @@ loop-less : tie.Need-loop-smaller invariant-loop decreases-loop
 loop-less c = omega arith
 
 loop-again : tie.Need-loop-preserved invariant-loop decreases-loop
-loop-again c = search overlaid-more
+loop-again c = search overlaid_more
 
 same_length : tie.Need-same-length invariant-loop decreases-loop
 same_length c = c.before.loop.invariant.same
 
 returns : tie.Need-returns invariant-loop decreases-loop
-returns c = overlaid-whole c.before.loop.invariant c.loop-test.false
+returns c = overlaid_whole c.before.loop.invariant c.loop-test.false
 
 pub copy_spec : {M : Type 1} → statement M
 copy_spec =

@@ -4,19 +4,19 @@ use mathlib.Core.Logic.{⊎_elim}
 use native.Mathlib.Omega.{arith}
 use mathlib.Core.Bool.{true, false}
 use lib.ListN.{length}
-use Rattle.tables.specs.Free.{isFree}
-use Rattle.tables.proofs.Counted.{Counted, free-start, free_more, free-whole}
+use Rattle.tables.specs.Free.{is_free}
+use Rattle.tables.proofs.Counted.{Counted, free_start, free_more, free_whole}
 use Rattle.tables.proofs.count_free.Statement.{statement}
 use Rattle.tables.proofs.count_free.Tie as tie
 
 abbrev invariant-loop : tie.invariant-loop
-invariant-loop flags free₀ block₀ free block = Counted isFree flags 0 free block
+invariant-loop flags free₀ block₀ free block = Counted is_free flags 0 free block
 
 abbrev decreases-loop : tie.decreases-loop
 decreases-loop flags free₀ block₀ free block = length flags - block
 
 loop-holds : tie.Need-loop-init invariant-loop decreases-loop
-loop-holds c = free-start _
+loop-holds c = free_start _
 
 shared-slice-read-free : tie.Need-shared-slice-read-free invariant-loop decreases-loop
 shared-slice-read-free c = omega arith
@@ -35,8 +35,8 @@ loop-less c = omega arith
 
 loop-again : tie.Need-loop-preserved invariant-loop decreases-loop
 loop-again c =
-    let at-loop : tie.At-loop invariant-loop decreases-loop = search in
-    let inv = at-loop.loop.inv in
+    let at_loop : tie.At-loop invariant-loop decreases-loop = search in
+    let inv = at_loop.loop.inv in
     let inside = c.before.before.before.loop-test.true in
     let told = c.before.free.ensures in
     ⊎_elim
@@ -45,10 +45,10 @@ loop-again c =
     c.if1.branch
 
 returns : tie.Need-returns invariant-loop decreases-loop
-returns c = free-whole c.before.loop.invariant c.loop-test.false
+returns c = free_whole c.before.loop.invariant c.loop-test.false
 
-pub count-free-spec : {M : Type 1} → statement M
-count-free-spec =
+pub count_free_spec : {M : Type 1} → statement M
+count_free_spec =
     tie.close
     (tie.spec
     invariant-loop

@@ -4,19 +4,19 @@ use mathlib.Core.Logic.{⊎_elim}
 use native.Mathlib.Omega.{arith}
 use mathlib.Core.Bool.{true, false}
 use lib.ListN.{length}
-use Rattle.tables.specs.Rented.{isRented}
-use Rattle.tables.proofs.Counted.{Counted, rented-start, rented-more, rented-whole}
+use Rattle.tables.specs.Rented.{is_rented}
+use Rattle.tables.proofs.Counted.{Counted, rented_start, rented_more, rented_whole}
 use Rattle.tables.proofs.count_rented.Statement.{statement}
 use Rattle.tables.proofs.count_rented.Tie as tie
 
 abbrev invariant-loop : tie.invariant-loop
-invariant-loop roots flags rented₀ block₀ rented block = Counted (isRented roots) flags roots rented block
+invariant-loop roots flags rented₀ block₀ rented block = Counted (is_rented roots) flags roots rented block
 
 abbrev decreases-loop : tie.decreases-loop
 decreases-loop roots flags rented₀ block₀ rented block = length flags - block
 
 loop-holds : tie.Need-loop-init invariant-loop decreases-loop
-loop-holds c = rented-start _ _
+loop-holds c = rented_start _ _
 
 shared-slice-read-allocated : tie.Need-shared-slice-read-allocated invariant-loop decreases-loop
 shared-slice-read-allocated c = omega arith
@@ -35,20 +35,20 @@ loop-less c = omega arith
 
 loop-again : tie.Need-loop-preserved invariant-loop decreases-loop
 loop-again c =
-    let at-loop : tie.At-loop invariant-loop decreases-loop = search in
-    let inv = at-loop.loop.inv in
+    let at_loop : tie.At-loop invariant-loop decreases-loop = search in
+    let inv = at_loop.loop.inv in
     let inside = c.before.before.before.loop-test.true in
     let told = c.before.allocated.ensures in
     ⊎_elim
-    (λ w. rented-more inv inside told true w.0.taken w.1)
-    (λ w. rented-more inv inside told false w.0.left w.1)
+    (λ w. rented_more inv inside told true w.0.taken w.1)
+    (λ w. rented_more inv inside told false w.0.left w.1)
     c.if1.branch
 
 returns : tie.Need-returns invariant-loop decreases-loop
-returns c = rented-whole c.before.loop.invariant c.loop-test.false
+returns c = rented_whole c.before.loop.invariant c.loop-test.false
 
-pub count-rented-spec : {M : Type 1} → statement M
-count-rented-spec =
+pub count_rented_spec : {M : Type 1} → statement M
+count_rented_spec =
     tie.close
     (tie.spec
     invariant-loop

@@ -2,7 +2,7 @@
 use Prim.Native.Nat.{◌-◌}
 use native.Mathlib.Omega.{arith}
 use lib.ListN.{length-set}
-use Rattle.tables.proofs.Shift.{Lowered, lowered-start, lowered-more, removed-at}
+use Rattle.tables.proofs.Shift.{Lowered, lowered_start, lowered_more, removed_at}
 use Rattle.tables.proofs.lower.Statement.{statement}
 use Rattle.tables.proofs.lower.Tie as tie
 
@@ -13,7 +13,7 @@ abbrev decreases-loop : tie.decreases-loop
 decreases-loop pointers₀ used at i₀ pointers i = used - i
 
 loop-holds : tie.Need-loop-init invariant-loop decreases-loop
-loop-holds c = search lowered-start
+loop-holds c = search lowered_start
 
 add-loop : tie.Need-overflow-add-loop invariant-loop decreases-loop
 add-loop c = omega arith
@@ -40,7 +40,7 @@ loop-less : tie.Need-loop-smaller invariant-loop decreases-loop
 loop-less c = omega arith
 
 loop-again : tie.Need-loop-preserved invariant-loop decreases-loop
-loop-again c = search lowered-more
+loop-again c = search lowered_more
 
 mul-pointers-3 : tie.Need-overflow-mul-pointers-3 invariant-loop decreases-loop
 mul-pointers-3 c = omega arith
@@ -52,7 +52,7 @@ same_length : tie.Need-same-length invariant-loop decreases-loop
 same_length c = simp length-set c.before.loop.invariant.same
 
 returns : tie.Need-returns invariant-loop decreases-loop
-returns c = search removed-at
+returns c = search removed_at
 
 pub lower_spec : {M : Type 1} → statement M
 lower_spec =

@@ -1,7 +1,7 @@
 -- `tables::place` meets its contract: the rank lies between the two ends. The measure is their distance.
 use Prim.Native.Nat.{◌-◌}
 use native.Mathlib.Omega.{arith}
-use Rattle.tables.proofs.Search.{Between, between_start, between-above, between-below}
+use Rattle.tables.proofs.Search.{Between, between_start, between_above, between_below}
 use Rattle.tables.proofs.place.Statement.{statement}
 use Rattle.tables.proofs.place.Tie as tie
 
@@ -35,7 +35,7 @@ loop-less c = omega arith
 loop-again : tie.Need-loop-preserved invariant-loop decreases-loop
 loop-again c =
     let start : tie.Start invariant-loop decreases-loop = search in
-    between-above start.pre _ c.before.before.before.loop.invariant (omega arith) c.if1.true
+    between_above start.pre _ c.before.before.before.loop.invariant (omega arith) c.if1.true
 
 loop-less-2 : tie.Need-loop-smaller-2 invariant-loop decreases-loop
 loop-less-2 c = omega arith
@@ -43,13 +43,13 @@ loop-less-2 c = omega arith
 loop-again-2 : tie.Need-loop-preserved-2 invariant-loop decreases-loop
 loop-again-2 c =
     let start : tie.Start invariant-loop decreases-loop = search in
-    between-below start.pre _ c.before.before.before.loop.invariant (omega arith) c.if1.false
+    between_below start.pre _ c.before.before.before.loop.invariant (omega arith) c.if1.false
 
 returns : tie.Need-returns invariant-loop decreases-loop
 returns c = omega arith
 
-pub place-spec : {M : Type 1} → statement M
-place-spec =
+pub place_spec : {M : Type 1} → statement M
+place_spec =
     tie.close
     (tie.spec
     invariant-loop

@@ -2,8 +2,8 @@
 use native.Mathlib.Omega.{arith}
 use lib.Dec.{eqb}
 use Rattle.card.specs.Pointers.{source}
-use Rattle.tables.specs.RankLaws.{points-rank}
-use Rattle.tables.proofs.Search.{look-found, look-missed}
+use Rattle.tables.specs.RankLaws.{points_rank}
+use Rattle.tables.proofs.Search.{look_found, look_missed}
 use Rattle.tables.proofs.points_from.Statement.{statement}
 use Rattle.tables.proofs.points_from.Tie as tie
 
@@ -22,14 +22,14 @@ shared-slice-read-result c = omega arith
 returns : tie.Need-returns
 returns c =
     let start : tie.Start = search in
-    look-found start.pre (λ x. eqb (source x) start.args.block) (search points-rank) c.before.before.place.ensures c.before.if1.true
+    look_found start.pre (λ x. eqb (source x) start.args.block) (search points_rank) c.before.before.place.ensures c.before.if1.true
 
 returns-2 : tie.Need-returns-2
 returns-2 c =
     let start : tie.Start = search in
-    look-missed start.pre (λ x. eqb (source x) start.args.block) (search points-rank) c.before.place.ensures c.if1.false
+    look_missed start.pre (λ x. eqb (source x) start.args.block) (search points_rank) c.before.place.ensures c.if1.false
 
-pub points-from-spec : {M : Type 1} → statement M
-points-from-spec =
+pub points_from_spec : {M : Type 1} → statement M
+points_from_spec =
     tie.close
     (tie.spec mul-place place-requires mul-result shared-slice-read-result returns returns-2)

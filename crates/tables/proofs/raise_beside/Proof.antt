@@ -1,6 +1,6 @@
 -- `tables::raise_beside` meets its contract: the multiplicities from `i` on stand so many places higher. The measure is `i`.
 use native.Mathlib.Omega.{arith}
-use Rattle.tables.proofs.Shift.{Raised, raised-start, raised-more, raised-whole}
+use Rattle.tables.proofs.Shift.{Raised, raised_start, raised_more, raised_whole}
 use Rattle.tables.proofs.raise_beside.Statement.{statement}
 use Rattle.tables.proofs.raise_beside.Tie as tie
 
@@ -11,7 +11,7 @@ abbrev decreases-loop : tie.decreases-loop
 decreases-loop multiplicities₀ used by at i₀ multiplicities i = i
 
 loop-holds : tie.Need-loop-init invariant-loop decreases-loop
-loop-holds c = search raised-start
+loop-holds c = search raised_start
 
 sub-i : tie.Need-overflow-sub-i invariant-loop decreases-loop
 sub-i c = omega arith
@@ -35,16 +35,16 @@ loop-less : tie.Need-loop-smaller invariant-loop decreases-loop
 loop-less c = omega arith
 
 loop-again : tie.Need-loop-preserved invariant-loop decreases-loop
-loop-again c = search raised-more
+loop-again c = search raised_more
 
 same_length : tie.Need-same-length invariant-loop decreases-loop
 same_length c = c.before.loop.invariant.same
 
 returns : tie.Need-returns invariant-loop decreases-loop
-returns c = search raised-whole
+returns c = search raised_whole
 
-pub raise-beside-spec : {M : Type 1} → statement M
-raise-beside-spec =
+pub raise_beside_spec : {M : Type 1} → statement M
+raise_beside_spec =
     tie.close
     (tie.spec
     invariant-loop

@@ -1,13 +1,13 @@
 -- `transfer::read_sound` is READ on an audited card.
 use native.Mathlib.Omega.{arith}
 use mathlib.Core.Path.{refl}
-use Rattle.card.specs.Plan.{here, later, outAfter, placesAfter}
-use Rattle.card.specs.Calls.{readPlan}
-use Rattle.card.specs.Session.{plan, performSound}
+use Rattle.card.specs.Plan.{here, later, out_after, places_after}
+use Rattle.card.specs.Calls.{read_plan}
+use Rattle.card.specs.Session.{plan, perform_sound}
 use Rattle.outcomes.proofs.Returned.{refuses, finishes}
-use Rattle.access.proofs.Blocks.{missing-told, access-there, closed-told, windows-low}
-use Rattle.windows.proofs.Windows.{opened-whole}
-use Rattle.transfer.proofs.Parts.{lies, lent-part, lent-size}
+use Rattle.access.proofs.Blocks.{missing_told, access_there, closed_told, windows_low}
+use Rattle.windows.proofs.Windows.{opened_whole}
+use Rattle.transfer.proofs.Parts.{lies, lent_part, lent_size}
 use borrow.Author.Rules.{rules}
 use Rattle.transfer.proofs.read_sound.Statement.{statement}
 use Rattle.transfer.proofs.read_sound.Tie as tie
@@ -24,7 +24,7 @@ refused-requires : tie.Need-refused-requires
 refused-requires c κs = search rules
 
 returns : tie.Need-returns
-unfolding performSound plan readPlan
+unfolding perform_sound plan read_plan
 returns c = refuses _ _ _ c.refused.ensures (here c.before.if1.true)
 
 missing-requires : tie.Need-missing-requires
@@ -34,13 +34,13 @@ refused-requires-2 : tie.Need-refused-requires-2
 refused-requires-2 c κs = search rules
 
 returns-2 : tie.Need-returns-2
-unfolding performSound plan readPlan
-returns-2 c = search (refuses, later, here, missing-told)
+unfolding perform_sound plan read_plan
+returns-2 c = search (refuses, later, here, missing_told)
 
 admits-requires : tie.Need-admits-requires
 admits-requires c κs =
     let start : tie.Start = search in
-    access-there _ start.pre c.before.before.missing.ensures c.before.if2.false
+    access_there _ start.pre c.before.before.missing.ensures c.before.if2.false
 
 refused-requires-3 : tie.Need-refused-requires-3
 refused-requires-3 c κs = search rules
@@ -49,35 +49,35 @@ same_length : tie.Need-same-length
 same_length c = search rules
 
 returns-3 : tie.Need-returns-3
-unfolding performSound plan readPlan
-returns-3 c = search (refuses, later, missing-told, here, closed-told)
+unfolding perform_sound plan read_plan
+returns-3 c = search (refuses, later, missing_told, here, closed_told)
 
 mul_at : tie.Need-overflow-mul-at
 mul_at c =
-    let at-missing : tie.After-missing = search in
+    let at_missing : tie.After-missing = search in
     let start : tie.Start = search in
-    omega (arith, lies _ start.pre at-missing.missing.ensures c.before.before.before.if2.false)
+    omega (arith, lies _ start.pre at_missing.missing.ensures c.before.before.before.if2.false)
 
 add-end : tie.Need-overflow-add-end
 add-end c =
-    let at-missing : tie.After-missing = search in
+    let at_missing : tie.After-missing = search in
     let start : tie.Start = search in
-    omega (arith, lies _ start.pre at-missing.missing.ensures c.before.before.before.if2.false)
+    omega (arith, lies _ start.pre at_missing.missing.ensures c.before.before.before.if2.false)
 
 show-requires : tie.Need-show-requires
 show-requires c κs =
-    let at-if2 : tie.Else2 = search in
-    let at-missing : tie.After-missing = search in
-    let at-if1 : tie.Else1 = search in
-    let start = start-from-if1 at-if1 in
-    let l = lies _ start.pre at-missing.missing.ensures at-if2.if2.left in (omega arith, (l.within, lent-size _ start.args.out.now _ l at-if1.if1.left))
+    let at_if2 : tie.Else2 = search in
+    let at_missing : tie.After-missing = search in
+    let at_if1 : tie.Else1 = search in
+    let start = start-from-if1 at_if1 in
+    let l = lies _ start.pre at_missing.missing.ensures at_if2.if2.left in (omega arith, (l.within, lent_size _ start.args.out.now _ l at_if1.if1.left))
 
 open-window-requires : tie.Need-open-window-requires
 open-window-requires c κs =
-    let at-if2 : tie.Else2 = search in
-    let at-missing : tie.After-missing = search in
+    let at_if2 : tie.Else2 = search in
+    let at_missing : tie.After-missing = search in
     let start : tie.Start = search in
-    windows-low _ start.pre at-missing.missing.ensures at-if2.if2.left
+    windows_low _ start.pre at_missing.missing.ensures at_if2.if2.left
 
 done-requires : tie.Need-done-requires
 done-requires c κs = search rules
@@ -89,15 +89,15 @@ same-length-3 : tie.Need-same-length-3
 same-length-3 c = search rules
 
 returns-4 : tie.Need-returns-4
-unfolding performSound plan readPlan outAfter placesAfter
+unfolding perform_sound plan read_plan out_after places_after
 returns-4 c =
-    let at-show : tie.After-show = search in
-    let at-if3 : tie.Else3 = search in
-    let at-admits : tie.After-admits = search in
-    let at-if2 : tie.Else2 = search in
-    let at-missing : tie.After-missing = search in
-    let at-if1 : tie.Else1 = search in
-    finishes _ _ _ c.done.ensures (at-if1.if1.left, (missing-told _ _ at-missing.missing.ensures at-if2.if2.left, (closed-told _ _ _ _ _ at-admits.admits.ensures at-if3.if3.left, tt))) (opened-whole _ _ _ _ _ c.before.before.before.open-window.ensures) (lent-part _ _ _ at-show.show.ensures) refl
+    let at_show : tie.After-show = search in
+    let at_if3 : tie.Else3 = search in
+    let at_admits : tie.After-admits = search in
+    let at_if2 : tie.Else2 = search in
+    let at_missing : tie.After-missing = search in
+    let at_if1 : tie.Else1 = search in
+    finishes _ _ _ c.done.ensures (at_if1.if1.left, (missing_told _ _ at_missing.missing.ensures at_if2.if2.left, (closed_told _ _ _ _ _ at_admits.admits.ensures at_if3.if3.left, tt))) (opened_whole _ _ _ _ _ c.before.before.before.open-window.ensures) (lent_part _ _ _ at_show.show.ensures) refl
 
-pub read-sound-spec : {M : Type 1} → statement M
-read-sound-spec = tie.close (tie.spec cast-block refused-requires returns missing-requires refused-requires-2 returns-2 admits-requires refused-requires-3 same_length returns-3 mul_at add-end show-requires open-window-requires done-requires same-length-2 same-length-3 returns-4)
+pub read_sound_spec : {M : Type 1} → statement M
+read_sound_spec = tie.close (tie.spec cast-block refused-requires returns missing-requires refused-requires-2 returns-2 admits-requires refused-requires-3 same_length returns-3 mul_at add-end show-requires open-window-requires done-requires same-length-2 same-length-3 returns-4)

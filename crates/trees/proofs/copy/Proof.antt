@@ -3,7 +3,7 @@ use Prim.Native.Nat.{◌-◌}
 use borrow.Author.Rules.{rules}
 use lib.ListN.{length}
 use Rattle.trees.specs.Release.{Copied}
-use Rattle.trees.proofs.Starting.{copied_none, copied_more, copied-whole}
+use Rattle.trees.proofs.Starting.{copied_none, copied_more, copied_whole}
 use Rattle.trees.proofs.copy.Statement.{statement}
 use Rattle.trees.proofs.copy.Tie as tie
 
@@ -38,7 +38,7 @@ loop-again : tie.Need-loop-preserved invariant-loop decreases-loop
 loop-again c = search copied_more
 
 returns : tie.Need-returns invariant-loop decreases-loop
-returns c = search copied-whole
+returns c = search copied_whole
 
 pub copy_spec : {M : Type 1} → statement M
 copy_spec =

@@ -1,7 +1,7 @@
 -- `trees::freed_with` marks the blocks that are freed with the pointer.
 use mathlib.Core.Path.{refl}
 use native.Mathlib.Omega.{arith}
-use Rattle.trees.proofs.Freeing.{sound-releasable, to_low, freed-enough, freed-loosened, freed-none, freed-all}
+use Rattle.trees.proofs.Freeing.{sound_releasable, to_low, freed_enough, freed_loosened, freed_none, freed_all}
 use borrow.Author.Rules.{rules}
 use Rattle.trees.proofs.freed_with.Statement.{statement}
 use Rattle.trees.proofs.freed_with.Tie as tie
@@ -33,8 +33,8 @@ sub-others : tie.Need-overflow-sub-others
 sub-others c =
     let start : tie.Start = search in
     let at_copy : tie.After-copy = search in
-    let at-times : tie.After-times = search in
-    freed-enough _ start.pre.0 start.args.source start.args.destination (omega arith) start.pre.1.0 at_copy.copy.ensures at-times.times.ensures
+    let at_times : tie.After-times = search in
+    freed_enough _ start.pre.0 start.args.source start.args.destination (omega arith) start.pre.1.0 at_copy.copy.ensures at_times.times.ensures
 
 mul_left : tie.Need-overflow-mul-left
 mul_left c = search rules
@@ -48,27 +48,27 @@ returns : tie.Need-returns
 returns c =
     let start : tie.Start = search in
     let at_copy : tie.After-copy = search in
-    let at-times : tie.After-times = search in
-    freed-none _ start.pre.0 start.args.source start.args.destination (omega arith) start.pre.1.0 at_copy.copy.ensures at-times.times.ensures c.if1.true start.pre.1.1
+    let at_times : tie.After-times = search in
+    freed_none _ start.pre.0 start.args.source start.args.destination (omega arith) start.pre.1.0 at_copy.copy.ensures at_times.times.ensures c.if1.true start.pre.1.1
 
 spread-requires : tie.Need-spread-requires
 spread-requires c κs =
     let start : tie.Start = search in
     let at_copy : tie.After-copy = search in
-    let at-times : tie.After-times = search in
+    let at_times : tie.After-times = search in
     let last : tie.Else1 = search in
-    (sound-releasable _ start.pre.0, (freed-loosened _ start.pre.0 start.args.source start.args.destination (omega arith) start.pre.1.0 at_copy.copy.ensures at-times.times.ensures last.if1.left, (start.pre.1.1, refl)))
+    (sound_releasable _ start.pre.0, (freed_loosened _ start.pre.0 start.args.source start.args.destination (omega arith) start.pre.1.0 at_copy.copy.ensures at_times.times.ensures last.if1.left, (start.pre.1.1, refl)))
 
 returns-2 : tie.Need-returns-2
 returns-2 c =
     let start : tie.Start = search in
     let at_copy : tie.After-copy = search in
-    let at-times : tie.After-times = search in
+    let at_times : tie.After-times = search in
     let last : tie.Else1 = search in
-    freed-all _ start.pre.0 start.args.source start.args.destination (omega arith) start.pre.1.0 at_copy.copy.ensures at-times.times.ensures last.if1.left c.spread.ensures
+    freed_all _ start.pre.0 start.args.source start.args.destination (omega arith) start.pre.1.0 at_copy.copy.ensures at_times.times.ensures last.if1.left c.spread.ensures
 
-pub freed-with-spec : {M : Type 1} → statement M
-freed-with-spec =
+pub freed_with_spec : {M : Type 1} → statement M
+freed_with_spec =
     tie.close
     (tie.spec
     copy-requires

@@ -31,8 +31,8 @@ enter-requires c κs = search rules
 returns-3 : tie.Need-returns-3
 returns-3 c = search last
 
-pub lose-spec : {M : Type 1} → statement M
-lose-spec =
+pub lose_spec : {M : Type 1} → statement M
+lose_spec =
     tie.close
     (tie.spec
     mul-count

@@ -4,8 +4,8 @@ use mathlib.Core.Path.{refl}
 use borrow.Author.Rules.{rules}
 use native.Mathlib.Omega.{arith}
 use lib.ListN.{take}
-use Rattle.walks.specs.WalkLaws.{walking-most}
-use Rattle.trees.proofs.Spreading.{Spreading, spreading-none, spreading-more, spreading-whole}
+use Rattle.walks.specs.WalkLaws.{walking_most}
+use Rattle.trees.proofs.Spreading.{Spreading, spreading_none, spreading_more, spreading_whole}
 use Rattle.trees.proofs.spread.Statement.{statement}
 use Rattle.trees.proofs.spread.Tie as tie
 
@@ -28,14 +28,14 @@ enter-requires c κs =
     (start.pre.1.0.low, λ n. omega arith)
 
 loop-holds : tie.Need-loop-init invariant-loop decreases-loop
-loop-holds c = search spreading-none
+loop-holds c = search spreading_none
 
 release-requires : tie.Need-release-requires invariant-loop decreases-loop
 release-requires c κs =
     let start : tie.Start invariant-loop decreases-loop = search in
-    let at-loop : tie.At-loop invariant-loop decreases-loop = search in
-    let at-index : tie.After-index invariant-loop decreases-loop = search in
-    (start.pre.0, (at-index.index.ensures, (at-loop.loop.inv.releasing, omega arith)))
+    let at_loop : tie.At-loop invariant-loop decreases-loop = search in
+    let at_index : tie.After-index invariant-loop decreases-loop = search in
+    (start.pre.0, (at_index.index.ensures, (at_loop.loop.inv.releasing, omega arith)))
 
 add-head : tie.Need-overflow-add-head invariant-loop decreases-loop
 add-head c = search rules
@@ -43,17 +43,17 @@ add-head c = search rules
 loop-less : tie.Need-loop-smaller invariant-loop decreases-loop
 loop-less c =
     let start : tie.Start invariant-loop decreases-loop = search in
-    let at-loop : tie.At-loop invariant-loop decreases-loop = search in
-    omega (arith, walking-most at-loop.loop.inv.releasing.walking)
+    let at_loop : tie.At-loop invariant-loop decreases-loop = search in
+    omega (arith, walking_most at_loop.loop.inv.releasing.walking)
 
 loop-again : tie.Need-loop-preserved invariant-loop decreases-loop
-loop-again c = search spreading-more
+loop-again c = search spreading_more
 
 returns : tie.Need-returns invariant-loop decreases-loop
-returns c = search spreading-whole
+returns c = search spreading_whole
 
-pub spread-spec : {M : Type 1} → statement M
-spread-spec =
+pub spread_spec : {M : Type 1} → statement M
+spread_spec =
     tie.close
     (tie.spec
     invariant-loop

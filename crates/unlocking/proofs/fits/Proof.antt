@@ -2,7 +2,7 @@
 use Prim.Native.Nat.{◌-◌}
 use borrow.Author.Rules.{rules}
 use native.Mathlib.Omega.{arith}
-use Rattle.unlocking.proofs.Fitting.{Passed, passed_none, passed-found, passed-more, passed-whole}
+use Rattle.unlocking.proofs.Fitting.{Passed, passed_none, passed_found, passed_more, passed_whole}
 use Rattle.unlocking.proofs.fits.Statement.{statement}
 use Rattle.unlocking.proofs.fits.Tie as tie
 
@@ -24,8 +24,8 @@ element-copy-out-has-this-key c = search rules
 cast-has-this-key : tie.Need-overflow-cast-has-this-key invariant-loop decreases-loop
 cast-has-this-key c =
     let start : tie.Start invariant-loop decreases-loop = search in
-    let at-loop : tie.At-loop invariant-loop decreases-loop = search in
-    omega (arith, start.pre.0.few, start.pre.1.below at-loop.loop.at (omega arith))
+    let at_loop : tie.At-loop invariant-loop decreases-loop = search in
+    omega (arith, start.pre.0.few, start.pre.1.below at_loop.loop.at (omega arith))
 
 has-this-key-requires : tie.Need-has-this-key-requires invariant-loop decreases-loop
 has-this-key-requires c κs =
@@ -33,7 +33,7 @@ has-this-key-requires c κs =
     (start.pre.0, start.pre.1.below _ (omega arith))
 
 returns : tie.Need-returns invariant-loop decreases-loop
-returns c = search passed-found
+returns c = search passed_found
 
 add_at : tie.Need-overflow-add-at invariant-loop decreases-loop
 add_at c = search rules
@@ -42,13 +42,13 @@ loop-less : tie.Need-loop-smaller invariant-loop decreases-loop
 loop-less c = search rules
 
 loop-again : tie.Need-loop-preserved invariant-loop decreases-loop
-loop-again c = search passed-more
+loop-again c = search passed_more
 
 returns-2 : tie.Need-returns-2 invariant-loop decreases-loop
-returns-2 c = search passed-whole
+returns-2 c = search passed_whole
 
-pub fits-spec : {M : Type 1} → statement M
-fits-spec =
+pub fits_spec : {M : Type 1} → statement M
+fits_spec =
     tie.close
     (tie.spec
     invariant-loop

@@ -1,6 +1,6 @@
 -- `unlocking::has_this_key` is the definition.
 use borrow.Author.Rules.{rules}
-use Rattle.unlocking.proofs.Fitting.{has-this}
+use Rattle.unlocking.proofs.Fitting.{has_this}
 use Rattle.unlocking.proofs.has_this_key.Statement.{statement}
 use Rattle.unlocking.proofs.has_this_key.Tie as tie
 
@@ -20,10 +20,10 @@ has-key-requires-2 : tie.Need-has-key-requires-2
 has-key-requires-2 c κs = search rules
 
 returns : tie.Need-returns
-returns c = search has-this
+returns c = search has_this
 
-pub has-this-key-spec : {M : Type 1} → statement M
-has-this-key-spec =
+pub has_this_key_spec : {M : Type 1} → statement M
+has_this_key_spec =
     tie.close
     (tie.spec
     shared-slice-read-flag

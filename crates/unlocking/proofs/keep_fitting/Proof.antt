@@ -3,7 +3,7 @@ use Prim.Native.Nat.{◌-◌}
 use borrow.Author.Rules.{rules}
 use native.Mathlib.Omega.{arith}
 use lib.ListN.{length, take}
-use Rattle.unlocking.proofs.Keeping.{Keeping, keeping_none, keeping-few, keeping-whole, keeping-open, keeping-fits, keeping-fails}
+use Rattle.unlocking.proofs.Keeping.{Keeping, keeping_none, keeping_few, keeping_whole, keeping_open, keeping_fits, keeping_fails}
 use Rattle.unlocking.proofs.keep_fitting.Statement.{statement}
 use Rattle.unlocking.proofs.keep_fitting.Tie as tie
 
@@ -27,14 +27,14 @@ leads-or-fits-requires c κs = search rules
 
 add_kept : tie.Need-overflow-add-kept invariant-loop decreases-loop
 add_kept c =
-    let at-loop : tie.At-loop invariant-loop decreases-loop = search in
-    omega (arith, keeping-few _ _ _ _ _ at-loop.loop.inv)
+    let at_loop : tie.At-loop invariant-loop decreases-loop = search in
+    omega (arith, keeping_few _ _ _ _ _ at_loop.loop.inv)
 
 loop-less : tie.Need-loop-smaller invariant-loop decreases-loop
 loop-less c = search rules
 
 loop-again : tie.Need-loop-preserved invariant-loop decreases-loop
-loop-again c = search keeping-fits
+loop-again c = search keeping_fits
 
 element-write-shut : tie.Need-element-write-shut invariant-loop decreases-loop
 element-write-shut c = search rules
@@ -44,20 +44,20 @@ loop-less-2 c = search rules
 
 loop-again-2 : tie.Need-loop-preserved-2 invariant-loop decreases-loop
 loop-again-2 c =
-    let at-loop : tie.At-loop invariant-loop decreases-loop = search in
-    keeping-fails _ _ _ _ _ at-loop.loop.inv (omega arith) c.before.before.if1.true c.before.leads-or-fits.ensures c.if2.false
+    let at_loop : tie.At-loop invariant-loop decreases-loop = search in
+    keeping_fails _ _ _ _ _ at_loop.loop.inv (omega arith) c.before.before.if1.true c.before.leads-or-fits.ensures c.if2.false
 
 loop-less-3 : tie.Need-loop-smaller-3 invariant-loop decreases-loop
 loop-less-3 c = search rules
 
 loop-again-3 : tie.Need-loop-preserved-3 invariant-loop decreases-loop
-loop-again-3 c = search keeping-open
+loop-again-3 c = search keeping_open
 
 returns : tie.Need-returns invariant-loop decreases-loop
-returns c = search keeping-whole
+returns c = search keeping_whole
 
-pub keep-fitting-spec : {M : Type 1} → statement M
-keep-fitting-spec =
+pub keep_fitting_spec : {M : Type 1} → statement M
+keep_fitting_spec =
     tie.close
     (tie.spec
     invariant-loop

@@ -1,6 +1,6 @@
 -- `unlocking::leads_or_fits` compares the write key of a block that is not marked.
 use borrow.Author.Rules.{rules}
-use Rattle.unlocking.proofs.Fitting.{leads-marked, fits-unmarked}
+use Rattle.unlocking.proofs.Fitting.{leads_marked, fits_unmarked}
 use Rattle.unlocking.proofs.leads_or_fits.Statement.{statement}
 use Rattle.unlocking.proofs.leads_or_fits.Tie as tie
 
@@ -8,7 +8,7 @@ element-copy-out-if1 : tie.Need-element-copy-out-if1
 element-copy-out-if1 c = search rules
 
 returns : tie.Need-returns
-returns c = search leads-marked
+returns c = search leads_marked
 
 mul_at : tie.Need-overflow-mul-at
 mul_at c = search rules
@@ -35,10 +35,10 @@ fits-requires : tie.Need-fits-requires
 fits-requires c κs = search rules
 
 returns-2 : tie.Need-returns-2
-returns-2 c = search fits-unmarked
+returns-2 c = search fits_unmarked
 
-pub leads-or-fits-spec : {M : Type 1} → statement M
-leads-or-fits-spec =
+pub leads_or_fits_spec : {M : Type 1} → statement M
+leads_or_fits_spec =
     tie.close
     (tie.spec
     element-copy-out-if1

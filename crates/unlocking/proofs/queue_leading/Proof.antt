@@ -1,6 +1,6 @@
 -- `unlocking::queue_leading` walks against the pointers from the chosen block.
 use borrow.Author.Rules.{rules}
-use Rattle.unlocking.proofs.Queueing.{chosen-waits, chosen-spread}
+use Rattle.unlocking.proofs.Queueing.{chosen_waits, chosen_spread}
 use Rattle.unlocking.proofs.queue_leading.Statement.{statement}
 use Rattle.unlocking.proofs.queue_leading.Tie as tie
 
@@ -10,11 +10,11 @@ enter-requires c κs = search rules
 walk-requires : tie.Need-walk-requires
 walk-requires c κs =
     let start : tie.Start = search in
-    let at-enter : tie.After-enter = search in
-    (start.pre.0, chosen-waits start.pre.1.1.0 start.pre.1.0 at-enter.enter.ensures start.pre.1.1.1)
+    let at_enter : tie.After-enter = search in
+    (start.pre.0, chosen_waits start.pre.1.1.0 start.pre.1.0 at_enter.enter.ensures start.pre.1.1.1)
 
 returns : tie.Need-returns
-returns c = search chosen-spread
+returns c = search chosen_spread
 
-pub queue-leading-spec : {M : Type 1} → statement M
-queue-leading-spec = tie.close (tie.spec enter-requires walk-requires returns)
+pub queue_leading_spec : {M : Type 1} → statement M
+queue_leading_spec = tie.close (tie.spec enter-requires walk-requires returns)

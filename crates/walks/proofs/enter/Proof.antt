@@ -1,7 +1,7 @@
 -- `walks::enter` marks and queues a block that is not marked.
 use borrow.Author.Rules.{rules}
 use native.Mathlib.Omega.{arith}
-use Rattle.walks.specs.WalkLaws.{entered-old, entered-new}
+use Rattle.walks.specs.WalkLaws.{entered_old, entered_new}
 use Rattle.walks.proofs.enter.Statement.{statement}
 use Rattle.walks.proofs.enter.Tie as tie
 
@@ -9,7 +9,7 @@ element-copy-out-if1 : tie.Need-element-copy-out-if1
 element-copy-out-if1 c = search rules
 
 returns : tie.Need-returns
-returns c = search entered-old
+returns c = search entered_old
 
 element-write-marks : tie.Need-element-write-marks
 element-write-marks c = search rules
@@ -24,7 +24,7 @@ add-result : tie.Need-overflow-add-result
 add-result c = omega (arith, c.before.before.requires.1 c.if1.false)
 
 returns-2 : tie.Need-returns-2
-returns-2 c = search entered-new
+returns-2 c = search entered_new
 
 pub enter_spec : {M : Type 1} → statement M
 enter_spec =

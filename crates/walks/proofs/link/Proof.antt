@@ -2,7 +2,7 @@
 use Prim.Native.Nat.{◌-◌}
 use borrow.Author.Rules.{rules}
 use lib.ListN.{take}
-use Rattle.walks.proofs.Linking.{Linking, near-low, linking-none, linking-more, linking-whole}
+use Rattle.walks.proofs.Linking.{Linking, near_low, linking_none, linking_more, linking_whole}
 use Rattle.walks.proofs.link.Statement.{statement}
 use Rattle.walks.proofs.link.Tie as tie
 
@@ -13,7 +13,7 @@ abbrev decreases-loop : tie.decreases-loop
 decreases-loop pointers used direction heads₀ nexts₀ at₀ heads nexts at = used - at
 
 loop-holds : tie.Need-loop-init invariant-loop decreases-loop
-loop-holds c = search linking-none
+loop-holds c = search linking_none
 
 mul-near-end : tie.Need-overflow-mul-near-end invariant-loop decreases-loop
 mul-near-end c = search rules
@@ -31,7 +31,7 @@ mul-nexts : tie.Need-overflow-mul-nexts invariant-loop decreases-loop
 mul-nexts c = search rules
 
 element-copy-out-nexts : tie.Need-element-copy-out-nexts invariant-loop decreases-loop
-element-copy-out-nexts c = search near-low
+element-copy-out-nexts c = search near_low
 
 mul-nexts-2 : tie.Need-overflow-mul-nexts-2 invariant-loop decreases-loop
 mul-nexts-2 c = search rules
@@ -49,19 +49,19 @@ mul-heads : tie.Need-overflow-mul-heads invariant-loop decreases-loop
 mul-heads c = search rules
 
 element-write-heads : tie.Need-element-write-heads invariant-loop decreases-loop
-element-write-heads c = search near-low
+element-write-heads c = search near_low
 
 loop-less : tie.Need-loop-smaller invariant-loop decreases-loop
 loop-less c = search rules
 
 loop-again : tie.Need-loop-preserved invariant-loop decreases-loop
-loop-again c = search linking-more
+loop-again c = search linking_more
 
 returns : tie.Need-returns invariant-loop decreases-loop
-returns c = search linking-whole
+returns c = search linking_whole
 
-pub link-spec : {M : Type 1} → statement M
-link-spec =
+pub link_spec : {M : Type 1} → statement M
+link_spec =
     tie.close
     (tie.spec
     invariant-loop

@@ -21,6 +21,6 @@ returns c = rw c.enum_told.given.1
 returns-2 : tie.Need-returns-2
 returns-2 c = rw c.enum-told2.given.1
 
-pub near-end-spec : {M : Type 1} → statement M
-near-end-spec =
+pub near_end_spec : {M : Type 1} → statement M
+near_end_spec =
     tie.close (tie.spec enum_told cast-result enum-told-2 cast-result-2 returns returns-2)

@@ -4,7 +4,7 @@ use borrow.Author.Rules.{rules}
 use native.Mathlib.Omega.{arith}
 use lib.ListN.{take}
 use Rattle.walks.specs.Walk.{Edge, Followed}
-use Rattle.walks.specs.WalkLaws.{walking-most, grown-none, grown-on, walking-whole}
+use Rattle.walks.specs.WalkLaws.{walking_most, grown_none, grown_on, walking_whole}
 use Rattle.walks.proofs.spread.Statement.{statement}
 use Rattle.walks.proofs.spread.Tie as tie
 
@@ -17,29 +17,29 @@ decreases-loop pointers used direction shut heads nexts marks₀ queue₀ begun 
     4096 - head
 
 loop-holds : tie.Need-loop-init invariant-loop decreases-loop
-loop-holds c = record { walking = c.before.requires.1.1; grown = grown-none }
+loop-holds c = record { walking = c.before.requires.1.1; grown = grown_none }
 
 follow-requires : tie.Need-follow-requires invariant-loop decreases-loop
 follow-requires c κs =
     let start : tie.Start invariant-loop decreases-loop = search in
-    let at-loop : tie.At-loop invariant-loop decreases-loop = search in
-    (start.pre.0, (start.pre.1.0, (at-loop.loop.inv.walking, omega arith)))
+    let at_loop : tie.At-loop invariant-loop decreases-loop = search in
+    (start.pre.0, (start.pre.1.0, (at_loop.loop.inv.walking, omega arith)))
 
 add-head : tie.Need-overflow-add-head invariant-loop decreases-loop
 add-head c = search rules
 
 loop-less : tie.Need-loop-smaller invariant-loop decreases-loop
 loop-less c =
-    let at-loop : tie.At-loop invariant-loop decreases-loop = search in
-    omega (arith, walking-most at-loop.loop.inv.walking)
+    let at_loop : tie.At-loop invariant-loop decreases-loop = search in
+    omega (arith, walking_most at_loop.loop.inv.walking)
 
 loop-again : tie.Need-loop-preserved invariant-loop decreases-loop
-loop-again c = search grown-on
+loop-again c = search grown_on
 
 returns : tie.Need-returns invariant-loop decreases-loop
-returns c = search walking-whole
+returns c = search walking_whole
 
-pub spread-spec : {M : Type 1} → statement M
-spread-spec =
+pub spread_spec : {M : Type 1} → statement M
+spread_spec =
     tie.close
     (tie.spec invariant-loop decreases-loop loop-holds follow-requires add-head loop-less loop-again returns)

@@ -9,13 +9,13 @@ link-requires c κs = search rules
 spread-requires : tie.Need-spread-requires
 spread-requires c κs =
     let start : tie.Start = search in
-    let at-link : tie.After-link = search in
-    (start.pre.0, (at-link.link.ensures, start.pre.1))
+    let at_link : tie.After-link = search in
+    (start.pre.0, (at_link.link.ensures, start.pre.1))
 
 returns : tie.Need-returns
 returns c =
-    let at-spread : tie.After-spread = search in
-    at-spread.spread.ensures
+    let at_spread : tie.After-spread = search in
+    at_spread.spread.ensures
 
-pub walk-spec : {M : Type 1} → statement M
-walk-spec = tie.close (tie.spec link-requires spread-requires returns)
+pub walk_spec : {M : Type 1} → statement M
+walk_spec = tie.close (tie.spec link-requires spread-requires returns)

@@ -29,8 +29,8 @@ same_length c = search rules
 returns : tie.Need-returns
 returns c = search rules
 
-pub close-windows-spec : {M : Type 1} → statement M
-close-windows-spec =
+pub close_windows_spec : {M : Type 1} → statement M
+close_windows_spec =
     tie.close
     (tie.spec
     mul_at

@@ -1,5 +1,5 @@
 -- `windows::window_at` is the place of the definition.
-use Rattle.windows.proofs.Windows.{at-reading, at-writing}
+use Rattle.windows.proofs.Windows.{at_reading, at_writing}
 use borrow.Author.Rules.{rules}
 use Rattle.windows.proofs.window_at.Statement.{statement}
 use Rattle.windows.proofs.window_at.Tie as tie
@@ -20,11 +20,11 @@ add-result : tie.Need-overflow-add-result
 add-result c = search rules
 
 returns : tie.Need-returns
-returns c = at-reading _ c.enum_told.given.1
+returns c = at_reading _ c.enum_told.given.1
 
 returns-2 : tie.Need-returns-2
-returns-2 c = at-writing _ c.enum-told2.given.1
+returns-2 c = at_writing _ c.enum-told2.given.1
 
-pub window-at-spec : {M : Type 1} → statement M
-window-at-spec =
+pub window_at_spec : {M : Type 1} → statement M
+window_at_spec =
     tie.close (tie.spec enum_told mul-result enum-told-2 mul-result-2 add-result returns returns-2)
