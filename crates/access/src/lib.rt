@@ -1,5 +1,7 @@
 // The tests of a block that calls share: is it there, is it a root at the host port, and the one access test, whether a credential opens it for
 // reading or writing.
+#![tactic(auto)]
+
 ghost use Rattle.std.specs.Prelude.{◌≡◌, ◌&&◌, [], ◌+◌, ◌*◌, ◌<◌, ◌≤◌, eqb, length, get_or};
 ghost use Rattle.card.specs.declared.Credential.TheVariants.{Reference};
 ghost use Rattle.card.specs.Card.{Card, card, window_open};

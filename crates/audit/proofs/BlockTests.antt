@@ -2,7 +2,7 @@
 -- The code joins tests to the left, `every` to the right and with `true` at the end.
 use Prim.Native.Nat.{ℕ, ◌+◌, ◌*◌, ◌≤◌, ◌<◌}
 use mathlib.Core.Path.{◌≡◌, refl}
-use mathlib.Core.Bool.{Bool, false, ◌&&◌, ◌||◌, not, and_assoc, and_true}
+use mathlib.Core.Bool.{Bool, false, ◌&&◌, ◌||◌, not, and_assoc, and-true}
 use mathlib.Core.List.{List}
 use lib.Dec.{eqb, ltb, leb}
 use lib.ListN.{get_or}
@@ -29,7 +29,7 @@ module _ (info : Info) (flags : List ℕ) (w : ℕ) where
   pub looked_up : {s : Bool} → s ≡ allocated (flagged info flags) (source w)
       → ltb (destination w) info.blocks && not (eqb (source w) (destination w)) && s ≡ link_right info flags w
   unfolding link_right every
-  looked_up e = simp (e, and_assoc, and_true)
+  looked_up e = simp (e, and_assoc, and-true)
 
 -- ---- a block
 
@@ -60,4 +60,4 @@ pub sound_block : (c : Card) (tallied b : ℕ) {held readKey writeKey read write
     && leb writing latest
     ≡ block_sound c tallied b
 unfolding block_sound every flags_low root_allocated unallocated_empty absent_key_zero key_zero pointed_to window_in_time
-sound_block c tallied b h k l e f g i = simp (h, k, l, e, f, g, i, and_assoc, and_true)
+sound_block c tallied b h k l e f g i = simp (h, k, l, e, f, g, i, and_assoc, and-true)

@@ -2,7 +2,7 @@
 use Prim.Native.Nat.{ℕ, suc, ◌+◌, ◌*◌, ◌≤◌, ◌<◌, zero-le}
 use mathlib.Core.Path.{◌≡◌, refl, sym, ◌∙◌}
 use mathlib.Core.Logic.{⊎_elim}
-use mathlib.Core.Bool.{Bool, true, false, ◌&&◌, cond, and_true}
+use mathlib.Core.Bool.{Bool, true, false, ◌&&◌, cond, and-true}
 use mathlib.Core.List.{List, ◌∷◌}
 use native.Mathlib.Numerals.{add-one}
 use native.Mathlib.Omega.{arith}
@@ -87,7 +87,7 @@ module _ {right often : ℕ → Bool} {ws ns tally : List ℕ} {least i : ℕ} (
 -- A number of 16 bits is at most the highest multiplicity.
 often_enough : (n : ℕ) → n < 65536 → leb 1 n ≡ multiplicity_right n
 unfolding multiplicity_right
-often_enough n l = sym (rw (le-leb n 65535 (omega arith)) (and_true (leb 1 n)))
+often_enough n l = sym (rw (le-leb n 65535 (omega arith)) (and-true (leb 1 n)))
 
 abbrev pub TalliedAt : Info → List ℕ → List ℕ → List ℕ → List ℕ → ℕ → ℕ → Type 0
 TalliedAt info flags ps ms tally least i =

@@ -1,4 +1,6 @@
 // The audit: shape and soundness of any record and tables, linear in blocks and places.
+#![tactic(auto)]
+
 ghost use Rattle.std.specs.Prelude.{◌≡◌, ◌&&◌, [], ◌+◌, ◌<◌, ◌≤◌, length, take, drop, get_or, replicate, eqb};
 ghost use Rattle.card.specs.Lent.{at_entry};
 ghost use Rattle.card.specs.Lists.{all, all_below};

@@ -1,4 +1,6 @@
 // A block's flags byte: whether it says that the block is allocated, waits or is free, and that the block has a key.
+#![tactic(auto)]
+
 ghost use Rattle.std.specs.Prelude.{◌≡◌};
 ghost use Rattle.card.specs.Card.{allocated_flag, waiting_flag, free_flag, key_flag};
 

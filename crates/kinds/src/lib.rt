@@ -1,6 +1,8 @@
 // The kinds of call records: which call and port a byte of kind says, by the port at which it arrives, and the length of its body. The rule stands in
 // specs/, after document 01, "Call records and the player", and the requests; in proofs/ what it guarantees of all 256 kinds.
 // There is no code here: `lengths` tells kinds by this rule.
+#![tactic(auto)]
+
 use card::Port;
 
 // The calls that a record may hold.

@@ -235,8 +235,8 @@ take_all_sound : {c : Card} (reference : ℕ) (bs : List ℕ) → SoundCard c �
     → SoundCard (changes c (take_all reference bs))
 unfolding take_all changes
 take_all_sound reference [] s a t room = s
-take_all_sound reference (b ∷ bs) s a t room =
-    take_all_sound reference bs (taken_sound reference s a t room) (taken_allocated reference s a t room) (taken_rest reference s a t room)
+take_all_sound {c = c} reference (b ∷ bs) s a t room =
+    take_all_sound {c = changes c (take_all reference (b ∷ []))} reference bs (taken_sound reference s a t room) (taken_allocated reference s a t room) (taken_rest reference s a t room)
     (taken_room reference s a t room)
 
 alloc_sound : (port : Port) (c : Card) (opened : Bool) (o : AllocOperands) (places : ℕ) → SoundCard c

@@ -44,7 +44,7 @@ module _ {p : Public} {b : ℕ} {bs : List ℕ} (t : Sweepable p (b ∷ bs)) whe
 pub sweep_each_sound : {c : Card} (bs : List ℕ) → SoundCard c → Sweepable c.public bs → SoundCard (changes c (sweep_each bs))
 unfolding sweep_each changes change
 sweep_each_sound [] s t = s
-sweep_each_sound (b ∷ bs) s t = sweep_each_sound bs (sweep_block_sound b s (first_waits t)) (rest_waits t)
+sweep_each_sound {c = c} (b ∷ bs) s t = sweep_each_sound {c = change c (sweep_block b)} bs (sweep_block_sound b s (first_waits t)) (rest_waits t)
 
 pub sweep_each_alone : (c : Card) (bs : List ℕ) → FlagsAndContents c (changes c (sweep_each bs))
 unfolding sweep_each changes change change_public change_keys
@@ -97,10 +97,10 @@ pub sweep_each_spares : {c : Card} (bs : List ℕ) (b : ℕ) → SoundCard c →
     → Holds (changes c (sweep_each bs)) b (flag c.public b) (block c b)
 unfolding sweep_each changes change contains any
 sweep_each_spares [] b s t h = record { flagged = refl; held = refl }
-sweep_each_spares {c} (x ∷ bs) b s t h =
+sweep_each_spares {c = c} (x ∷ bs) b s t h =
     let other : (b ≡ x → ⊥) = λ e. eqb-false x b (or_false_left (eqb x b) _ h) (sym e) in
     let one = another_kept x s (first_waits t) b other in
-    let rest = sweep_each_spares bs b (sweep_block_sound x s (first_waits t)) (rest_waits t) (or_false_right (eqb x b) _ h) in
+    let rest = sweep_each_spares {c = change c (sweep_block x)} bs b (sweep_block_sound x s (first_waits t)) (rest_waits t) (or_false_right (eqb x b) _ h) in
     record { flagged = rest.flagged ∙ one.flagged; held = rest.held ∙ one.held }
 
 -- A block that is among them has no flag then and holds zeros.
@@ -108,10 +108,10 @@ pub sweep_each_sweeps : {c : Card} (bs : List ℕ) (b : ℕ) → SoundCard c →
     → Holds (changes c (sweep_each bs)) b 0 (zeros c.public.info.bytes)
 unfolding sweep_each changes change change_public contains any
 sweep_each_sweeps [] b s t h = absurd_test {t = false} h refl
-sweep_each_sweeps {c} (x ∷ bs) b s t h =
+sweep_each_sweeps {c = c} (x ∷ bs) b s t h =
     let after : SoundCard (change c (sweep_block x)) = sweep_block_sound x s (first_waits t) in
     ⊎_elim
-    (λ (e : contains b bs ≡ true). sweep_each_sweeps bs b after (rest_waits t) e)
+    (λ (e : contains b bs ≡ true). sweep_each_sweeps {c = change c (sweep_block x)} bs b after (rest_waits t) e)
     (λ (e : contains b bs ≡ false).
     let same : x ≡ b = ⊎_elim (λ q. eqb-true x b q) (λ q. absurd_test q e) (or_cases (eqb x b) _ h) in
     let one = subst (λ (n : ℕ). Holds (change c (sweep_block x)) n 0 (zeros c.public.info.bytes)) same (one_swept x s (first_waits t)) in

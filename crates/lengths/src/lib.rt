@@ -1,5 +1,7 @@
 // The call and the port of a byte of kind, and the lengths of its operands and its body, worked out from the kind.
 // What is right is defined in crates/kinds/specs/.
+#![tactic(auto)]
+
 ghost use Rattle.std.specs.Prelude.{◌≡◌, ◌≤◌};
 ghost use Rattle.card.specs.declared.Port.TheVariants.{Host, Service};
 ghost use Rattle.kinds.specs.Kinds.{kind_of, body_length};

@@ -1,4 +1,6 @@
 // What a call returns: refused, with the record as it was, or done.
+#![tactic(auto)]
+
 ghost use Rattle.std.specs.Prelude.{◌≡◌};
 ghost use Rattle.outcomes.specs.Outcomes.{refusing, outcome};
 

@@ -2,7 +2,7 @@
 -- The code joins tests to the left, `every` to the right and with `true` at the end.
 use Prim.Native.Nat.{ℕ, ◌*◌, ◌%◌, ◌≤◌, ◌<◌}
 use mathlib.Core.Path.{◌≡◌, refl, sym}
-use mathlib.Core.Bool.{false, ◌&&◌, and_assoc, and_true}
+use mathlib.Core.Bool.{false, ◌&&◌, and_assoc, and-true}
 use native.Mathlib.Omega.{arith}
 use native.Mathlib.Nat.{mul-le-mul}
 use lib.Dec.{eqb, ltb, leb}
@@ -21,7 +21,7 @@ few_bytes blocks roots bytes l =
 pub in_ranges : (blocks roots bytes : ℕ)
     → leb 16 blocks && leb blocks 4096 && leb 1 roots && leb roots 8 && leb 512 bytes && leb bytes 65536 && eqb (65536 % bytes) 0 ≡ ranges blocks roots bytes
 unfolding ranges every
-in_ranges blocks roots bytes = simp (and_assoc, and_true)
+in_ranges blocks roots bytes = simp (and_assoc, and-true)
 
 pub contents_fit : {blocks roots bytes : ℕ} → InRanges blocks roots bytes → blocks * bytes ≤ 268435456
 contents_fit h = mul-le-mul h.blocks_high h.bytes_high
@@ -39,7 +39,7 @@ pub in_lengths : (c : Card) → InRanges c.public.info.blocks c.public.info.root
     && leb c.public.info.used (length c.public.pointers)
     ≡ shape c
 unfolding shape lengths every
-in_lengths c h = simp (true_ranges h, and_assoc, and_true)
+in_lengths c h = simp (true_ranges h, and_assoc, and-true)
 
 pub out_of_ranges : (c : Card) → false ≡ ranges c.public.info.blocks c.public.info.roots c.public.info.bytes → false ≡ shape c
 unfolding shape every

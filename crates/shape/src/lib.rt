@@ -1,4 +1,6 @@
 // The shape of a record and tables: ranges and lengths.
+#![tactic(auto)]
+
 ghost use Rattle.std.specs.Prelude.{◌≡◌};
 ghost use Rattle.card.specs.Lent.{at_entry};
 ghost use Rattle.card.specs.Soundness.{ranges, shape};

@@ -1,7 +1,7 @@
 -- A count of the blocks that pass a test, one block a turn, from a first block on below which none passes.
 use Prim.Native.Nat.{ℕ, ◌+◌, ◌≤◌, ◌<◌}
 use mathlib.Core.Path.{◌≡◌, sym, ap, ◌∙◌}
-use mathlib.Core.Bool.{Bool, true, false, cond, and_true}
+use mathlib.Core.Bool.{Bool, true, false, cond, and-true}
 use mathlib.Core.List.{List}
 use native.Mathlib.Nat.{not-suc-le-zero}
 use native.Mathlib.Numerals.{add-one}
@@ -67,7 +67,7 @@ rented_start roots flags =
 
 pub rented_more : {roots : ℕ} {flags : List ℕ} {count i next : ℕ} {t : Bool} → Counted (is_rented roots) flags roots count i → i < length flags → t ≡ allocated_flag (get_or flags i 0)
     → (u : Bool) → t ≡ u → next ≡ cond u (count + 1) count → Counted (is_rented roots) flags roots next (i + 1)
-rented_more {roots} {flags} {count} {i} k l told u e n = counted_more k l u (rw (le-ltb i roots k.from, and_true) (sym told ∙ e)) n
+rented_more {roots} {flags} {count} {i} k l told u e n = counted_more k l u (rw (le-ltb i roots k.from, and-true) (sym told ∙ e)) n
 
 pub rented_whole : {roots : ℕ} {flags : List ℕ} {count i : ℕ} → Counted (is_rented roots) flags roots count i → length flags ≤ i
     → count ≡ length (rented_below roots flags (length flags))

@@ -1,4 +1,6 @@
 // Leaves on the card's record and tables: copying, clearing, counting, and the sorted pointers.
+#![tactic(auto)]
+
 ghost use Rattle.std.specs.Prelude.{◌≡◌, false, ◌∷◌, ◌++◌, ◌+◌, length, take, drop};
 ghost use Rattle.card.specs.Contents.{zeros};
 ghost use Rattle.card.specs.Pointers.{contains, points_from, beside, insert};

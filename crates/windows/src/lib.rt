@@ -1,4 +1,6 @@
 // The windows of a block: set, opened by a host's READ or WRITE, and closed.
+#![tactic(auto)]
+
 ghost use Rattle.std.specs.Prelude.{◌≡◌, [], ◌+◌, ◌*◌, ◌≤◌, ◌<◌, length, set};
 ghost use Rattle.card.specs.Card.{card, window_at};
 ghost use Rattle.card.specs.Soundness.{time_limit};

@@ -1,0 +1,14 @@
+use Rattle.tables.proofs.Shift.{raised_start, raised_more, raised_whole}
+use Rattle.tables.proofs.raise.Goals as goal
+
+pub loop-i-init : goal.loop-i-init
+loop-i-init c = search raised_start
+
+pub loop-i-preserved : goal.loop-i-preserved
+loop-i-preserved c = search raised_more
+
+pub shape_of-pointers : goal.shape_of-pointers
+shape_of-pointers c = c.loop-i.invariant.same
+
+pub returns : goal.returns
+returns c = search raised_whole
