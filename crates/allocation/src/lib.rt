@@ -22,6 +22,7 @@ use runs::NearestRun;
 
 // What the checks of ALLOC_CONTIG find: the refusal, or the first block of the run.
 #[derive(Drop)]
+#[derive(Clone, Copy)]
 pub enum RunChecked {
     Refused(Refusal),
     From(usize),

@@ -3,6 +3,7 @@ use card::{Info, Verdict};
 
 // The table that is lent without its elements.
 #[derive(Drop)]
+#[derive(Clone, Copy)]
 enum Lack {
     Nothing,
     Flags,
@@ -17,6 +18,7 @@ enum Lack {
 // One store into a table of the good card, or into its record's total; or a fourth pointer, its
 // multiplicity, a block and that block's count.
 #[derive(Drop)]
+#[derive(Clone, Copy)]
 enum Fault {
     Nothing,
     Flag(usize, u8),

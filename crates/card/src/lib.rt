@@ -30,6 +30,7 @@ pub const MOST_BLOCKS: u8 = 64;
 
 // The card's small record: N, R, B, M and T of document 01, and the total of the request 2026-08.
 #[derive(Drop)]
+#[derive(Clone, Copy)]
 pub struct Info {
     pub blocks: usize,
     pub roots: usize,
@@ -41,6 +42,7 @@ pub struct Info {
 
 // Where a call arrives. The service port skips credentials and opens no window.
 #[derive(Drop)]
+#[derive(Clone, Copy)]
 pub enum Port {
     Host,
     Service,
@@ -48,6 +50,7 @@ pub enum Port {
 
 // The operation that a key, a window or an access test is for.
 #[derive(Drop)]
+#[derive(Clone, Copy)]
 pub enum Mode {
     Reading,
     Writing,
@@ -55,6 +58,7 @@ pub enum Mode {
 
 // What a host presents to open a block: nothing, a reference block, or a key as its high and low word.
 #[derive(Drop)]
+#[derive(Clone, Copy)]
 pub enum Credential {
     Nothing,
     Reference(u16),
@@ -63,12 +67,14 @@ pub enum Credential {
 
 // A key to be set, or none.
 #[derive(Drop)]
+#[derive(Clone, Copy)]
 pub enum NewKey {
     Absent,
     Present(u64, u64),
 }
 
 #[derive(Drop)]
+#[derive(Clone, Copy)]
 pub struct ReadOperands {
     pub block: u16,
     pub credential: Credential,
@@ -77,6 +83,7 @@ pub struct ReadOperands {
 
 // The bytes to be written stand beside the call.
 #[derive(Drop)]
+#[derive(Clone, Copy)]
 pub struct WriteOperands {
     pub block: u16,
     pub credential: Credential,
@@ -85,6 +92,7 @@ pub struct WriteOperands {
 
 // Of ALLOC and of ALLOC_CONTIG.
 #[derive(Drop)]
+#[derive(Clone, Copy)]
 pub struct AllocOperands {
     pub reference: u16,
     pub credential: Credential,
@@ -94,6 +102,7 @@ pub struct AllocOperands {
 
 // The first credential opens the source, the second the destination.
 #[derive(Drop)]
+#[derive(Clone, Copy)]
 pub struct CreateOperands {
     pub source: u16,
     pub credential: Credential,
@@ -103,6 +112,7 @@ pub struct CreateOperands {
 
 // Of DELETE and of DELETE_TREE.
 #[derive(Drop)]
+#[derive(Clone, Copy)]
 pub struct DeleteOperands {
     pub source: u16,
     pub credential: Credential,
@@ -111,6 +121,7 @@ pub struct DeleteOperands {
 
 // Of KEY_READ and of KEY_WRITE.
 #[derive(Drop)]
+#[derive(Clone, Copy)]
 pub struct KeyOperands {
     pub block: u16,
     pub credential: Credential,
@@ -119,6 +130,7 @@ pub struct KeyOperands {
 
 // Mode 0 renews the read window, 1 the write window. The key is given bare, as its two words.
 #[derive(Drop)]
+#[derive(Clone, Copy)]
 pub struct RenewOperands {
     pub mode: u8,
     pub block: u16,
@@ -128,28 +140,33 @@ pub struct RenewOperands {
 }
 
 #[derive(Drop)]
+#[derive(Clone, Copy)]
 pub struct ForceOperands {
     pub block: u16,
 }
 
 #[derive(Drop)]
+#[derive(Clone, Copy)]
 pub struct TickOperands {
     pub seconds: u64,
 }
 
 #[derive(Drop)]
+#[derive(Clone, Copy)]
 pub struct RentOperands {
     pub price: u32,
 }
 
 // At most so many blocks are swept.
 #[derive(Drop)]
+#[derive(Clone, Copy)]
 pub struct SweepOperands {
     pub most: u32,
 }
 
 // A call, with its credentials inside. Records carry all but RENT and SWEEP.
 #[derive(Drop)]
+#[derive(Clone, Copy)]
 pub enum Call {
     Read(ReadOperands),
     Write(WriteOperands),
@@ -172,6 +189,7 @@ pub enum Call {
 // Why a call is refused, in the order of the numbers: 1 to 13 of document 01, 14 of the request 2026-01,
 // 15 of the request 2026-07, 16 of the request 2026-08.
 #[derive(Drop)]
+#[derive(Clone, Copy)]
 pub enum Refusal {
     Misshapen,
     Unsound,
@@ -194,6 +212,7 @@ pub enum Refusal {
 // What a call answers: a refusal, done with no result, or done with one number.
 // The bytes of READ and the numbers of ALLOC and ALLOC_CONTIG are in the lent buffers.
 #[derive(Drop)]
+#[derive(Clone, Copy)]
 pub enum Answer {
     Refused(Refusal),
     Done,
@@ -202,6 +221,7 @@ pub enum Answer {
 
 // What the audit finds of a record and its tables.
 #[derive(Drop)]
+#[derive(Clone, Copy)]
 pub enum Verdict {
     Misshapen,
     Unsound,
@@ -210,6 +230,7 @@ pub enum Verdict {
 
 // What a call answers, and the record that it leaves.
 #[derive(Drop)]
+#[derive(Clone, Copy)]
 pub struct Outcome {
     pub answer: Answer,
     pub info: Info,

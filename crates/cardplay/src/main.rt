@@ -41,6 +41,7 @@ fn fill(buffer: &mut [u8], filled: usize) -> usize
 
 // What a play of the buffer's filled part comes to.
 #[derive(Drop)]
+#[derive(Clone, Copy)]
 struct Piece {
     stop: Stop,
     info: Info,
@@ -132,6 +133,7 @@ fn read_on(wanted: bool, buffer: &mut [u8], filled: usize) -> usize
 
 // How far the input is played.
 #[derive(Drop)]
+#[derive(Clone, Copy)]
 struct Progress {
     stop: Stop,
     info: Info,

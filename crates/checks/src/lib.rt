@@ -5,6 +5,7 @@ use card::Refusal;
 
 // No condition holds, or the refusal of the first that does.
 #[derive(Drop)]
+#[derive(Clone, Copy)]
 pub enum Checked {
     Passed,
     Refused(Refusal),

@@ -4,6 +4,7 @@ use card::{Call, Port};
 
 // A call at its port, or refusal 13.
 #[derive(Drop)]
+#[derive(Clone, Copy)]
 pub enum Decoding {
     Decoded(Port, Call),
     Bad,
@@ -11,6 +12,7 @@ pub enum Decoding {
 
 // What a kind and the bytes behind it hold: the call, and where the bytes beside its operands start and its body ends.
 #[derive(Drop)]
+#[derive(Clone, Copy)]
 pub struct Parsed {
     pub decoding: Decoding,
     pub payload: usize,

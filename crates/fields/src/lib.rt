@@ -8,6 +8,7 @@ use card::{Credential, NewKey};
 
 // What 17 bytes of a credential hold.
 #[derive(Drop)]
+#[derive(Clone, Copy)]
 pub enum ParsedCredential {
     Valid(Credential),
     Invalid,
@@ -15,6 +16,7 @@ pub enum ParsedCredential {
 
 // What 17 bytes of a new key hold.
 #[derive(Drop)]
+#[derive(Clone, Copy)]
 pub enum ParsedKey {
     Valid(NewKey),
     Invalid,

@@ -9,6 +9,7 @@ use kinds::Length;
 
 // Why a play of an input, or of its next record, stopped. A batch is served by the same turns: what is written is then an answer, not a line.
 #[derive(Drop)]
+#[derive(Clone, Copy)]
 pub enum Stop {
     // It did not: the call was made, and its line or its answer written.
     Went,
@@ -24,6 +25,7 @@ pub enum Stop {
 
 // A whole record of an input: its call, and where its data and the next record start.
 #[derive(Drop)]
+#[derive(Clone, Copy)]
 pub struct Record {
     pub kind: u8,
     pub port: Port,
@@ -34,6 +36,7 @@ pub struct Record {
 
 // What an input holds from a place on.
 #[derive(Drop)]
+#[derive(Clone, Copy)]
 pub enum Found {
     Whole(Record),
     Nothing(Stop),
@@ -74,6 +77,7 @@ pub fn find(wire: Port, input: &[u8], from: usize) -> Found
 
 // What is left after one record: the record of the card, and the place behind what was written of it.
 #[derive(Drop)]
+#[derive(Clone, Copy)]
 pub struct Wrote {
     pub info: Info,
     pub at: usize,
@@ -81,6 +85,7 @@ pub struct Wrote {
 
 // Where a play stands after one turn.
 #[derive(Drop)]
+#[derive(Clone, Copy)]
 pub struct Turned {
     pub stop: Stop,
     pub info: Info,
@@ -90,6 +95,7 @@ pub struct Turned {
 
 // What a play comes to: why it stopped, the card's record, the records played, and how far it read and wrote.
 #[derive(Drop)]
+#[derive(Clone, Copy)]
 pub struct Part {
     pub stop: Stop,
     pub info: Info,

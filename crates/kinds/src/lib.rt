@@ -7,6 +7,7 @@ use card::Port;
 
 // The calls that a record may hold.
 #[derive(Drop)]
+#[derive(Clone, Copy)]
 pub enum Name {
     Read,
     Write,
@@ -26,6 +27,7 @@ pub enum Name {
 
 // What the byte of kind says.
 #[derive(Drop)]
+#[derive(Clone, Copy)]
 pub enum Kind {
     Known(Port, Name),
     Unknown,
@@ -33,6 +35,7 @@ pub enum Kind {
 
 // The lengths of a call's operands and of its body.
 #[derive(Drop)]
+#[derive(Clone, Copy)]
 pub struct Lengths {
     pub operands: usize,
     pub body: usize,
@@ -40,6 +43,7 @@ pub struct Lengths {
 
 // The length of a body, where there is such a kind.
 #[derive(Drop)]
+#[derive(Clone, Copy)]
 pub enum Length {
     Bytes(usize),
     Unknown,

@@ -120,6 +120,7 @@ pub fn refusal_number(r: Refusal) -> u64
 
 // Which lent buffer a done call fills.
 #[derive(Drop)]
+#[derive(Clone, Copy)]
 pub enum Filled {
     Neither,
     Bytes,

@@ -66,6 +66,7 @@ pub fn new_key_of(bytes: &[u8]) -> ParsedKey
 
 // A port that C passes as a number, if there is one.
 #[derive(Drop)]
+#[derive(Clone, Copy)]
 pub enum Wire {
     At(Port),
     Nowhere,

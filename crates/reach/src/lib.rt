@@ -59,6 +59,7 @@ fn key_given(flag: u8, keys: &[u64], words: &[u64], mode: Mode, block: usize) ->
 
 // What keys and windows say of a block by itself.
 #[derive(Drop)]
+#[derive(Clone, Copy)]
 struct Standing {
     shut: u8,
     within: bool,

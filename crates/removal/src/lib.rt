@@ -18,6 +18,7 @@ use checks::Checked;
 
 // What the checks of DELETE_TREE find: the refusal, or how many blocks are freed.
 #[derive(Drop)]
+#[derive(Clone, Copy)]
 pub enum TreeChecked {
     Refused(Refusal),
     Frees(usize),

@@ -5,6 +5,7 @@ ghost use Rattle.runs.specs.Runs.{since_after, nearer_of, nearest_of, starts_in}
 
 // The first block of a run, or that there is none.
 #[derive(Drop)]
+#[derive(Clone, Copy)]
 pub enum NearestRun {
     Absent,
     From(usize),

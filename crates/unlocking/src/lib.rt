@@ -15,6 +15,7 @@ use walks::Direction;
 
 // What is found of the chosen block: that it is within reach, or how many blocks unlock it.
 #[derive(Drop)]
+#[derive(Clone, Copy)]
 enum Found {
     Within,
     Unlocked(usize),

@@ -5,6 +5,7 @@ ghost use Rattle.walks.specs.Walk.{near_end, far_end, Walkable, Edge, Linked, ma
 
 // Along the pointers a walk comes from a pointer's source to its destination, against them from the destination to the source.
 #[derive(Drop)]
+#[derive(Clone, Copy)]
 pub enum Direction {
     Along,
     Against,
