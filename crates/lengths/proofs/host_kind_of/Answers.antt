@@ -60,4 +60,4 @@ unfolding table_rules
 returns-in-14 c = at_kind Host c.in-14.is
 
 pub returns-in_default : goal.returns-in_default
-returns-in_default c = unknown_host _ c.in_default.rest
+returns-in_default c = unknown_host _ c.in_default.in_default-own.rest

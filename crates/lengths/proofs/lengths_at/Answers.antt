@@ -9,4 +9,4 @@ overflow_add-result c = omega (arith, part_most _ _ c.part_of.ensures, operands_
 
 pub returns : goal.returns
 unfolding lengths_at lengths_numbered
-returns c = rw (c.part_of.ensures, c.operands_length-operands.ensures, c.number_of_lem.ensures)
+returns c = rw (c.part_of.ensures, c.operands_length-operands.ensures, c.number_of-call.ensures)

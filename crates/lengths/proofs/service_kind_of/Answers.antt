@@ -40,4 +40,4 @@ unfolding table_rules
 returns-in-142 c = at_kind Service c.in-142.is
 
 pub returns-in_default : goal.returns-in_default
-returns-in_default c = unknown_service _ c.requires c.in_default.rest
+returns-in_default c = unknown_service _ c.requires c.in_default.in_default-own.rest
