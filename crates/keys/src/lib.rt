@@ -1,4 +1,6 @@
 // KEY_READ, KEY_WRITE, RENEW and FORCE on an audited card: one key set, a window renewed by a key, windows closed.
+#![tactic(auto)]
+
 ghost use Rattle.std.specs.Prelude.{◌≡◌, [], ◌+◌, ◌*◌, ◌≤◌, length, set};
 ghost use Rattle.card.specs.Lent.{Performs, lent};
 ghost use Rattle.card.specs.SoundCard.{SoundCard};

@@ -1,4 +1,6 @@
 // ALLOC_CONTIG's run: the free blocks that adjoin and start nearest the wanted one, found on one walk of the flags.
+#![tactic(auto)]
+
 ghost use Rattle.std.specs.Prelude.{◌≡◌, ◌≤◌, ◌<◌, length};
 ghost use Rattle.card.specs.Calls.{distance};
 ghost use Rattle.runs.specs.Runs.{since_after, nearer_of, nearest_of, starts_in};

@@ -1,0 +1,20 @@
+-- `keys::force_sound` is FORCE on an audited card.
+use mathlib.Core.Path.{refl}
+use Rattle.card.specs.Plan.{here, out_after, places_after}
+use Rattle.card.specs.Calls.{force_plan}
+use Rattle.card.specs.Session.{plan, perform_sound}
+use Rattle.outcomes.proofs.Returned.{refuses, finishes}
+use Rattle.keys.proofs.Changed.{closes_windows}
+use Rattle.access.proofs.Blocks.{missing_told, windows_there}
+use Rattle.keys.proofs.force_sound.Goals as goal
+
+pub returns-then-missing : goal.returns-then-missing
+unfolding perform_sound plan force_plan
+returns-then-missing c = λ port. search (refuses, here, missing_told)
+
+pub close_windows-requires : goal.close_windows-requires
+close_windows-requires c = windows_there _ c.requires c.missing.ensures c.if-missing.false
+
+pub returns : goal.returns
+unfolding perform_sound plan force_plan out_after places_after
+returns c = λ port. finishes _ _ _ c.done.ensures (search missing_told, tt) (closes_windows _ _ c.close_windows.ensures) refl refl
