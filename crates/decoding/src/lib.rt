@@ -1,5 +1,7 @@
 // What a call record asks for: the rule in specs/, after document 01, "Call records and the player", and the requests; in proofs/ what it guarantees.
 // There is no code here: `records` decodes by this rule.
+#![tactic(auto)]
+
 use card::{Call, Port};
 
 // A call at its port, or refusal 13.

@@ -1,5 +1,7 @@
 // The fields of a record's body: big-endian numbers, credentials and new keys.
 // What is right is defined in specs/, after document 01, "Call records and the player".
+#![tactic(auto)]
+
 ghost use Rattle.std.specs.Prelude.{◌≡◌, ◌+◌, ◌≤◌, ◌<◌, length, drop};
 ghost use Rattle.fields.specs.Bytes.{number, zeroed};
 ghost use Rattle.fields.specs.Fields.{credential, new_key};

@@ -11,7 +11,7 @@ use lib.Seq.{get_or-set_same}
 use Rattle.laws.specs.ListsLaws.{absurd_test, false_unless, same_or_other, not_cases}
 use Rattle.card.specs.Pointers.{contains}
 use Rattle.laws.specs.PointersLaws.{contains_all}
-use Rattle.card.specs.Card.{Public, Card, flag, allocated, waiting, count, multiplicity, points_to, block}
+use Rattle.card.specs.Card.{Public, Card, flag, allocated, waiting, count, multiplicity, points_to}
 use Rattle.card.specs.SoundCard.{SoundCard}
 use Rattle.laws.specs.SoundnessLaws.{allocated_below, flag_waiting, waiting_unallocated}
 use Rattle.card.specs.Plan.{freed_flags, set_window, set_block, take_block, free_block, add_pointer, raise_pointer, lower_pointer, drop_pointer, change_public, change_contents, change, changes, Buffers}
@@ -22,6 +22,7 @@ use Rattle.card.specs.Session.{plan, perform}
 use Rattle.card.specs.declared.Info.{Info}
 use Rattle.card.specs.declared.Port.{Port}
 use Rattle.card.specs.declared.Port.TheVariants.{Host, Service}
+use Rattle.card.specs.declared.Mode.TheVariants.{Reading, Writing}
 use Rattle.card.specs.declared.Mode.{Mode}
 use Rattle.card.specs.declared.DeleteOperands.{DeleteOperands}
 use Rattle.card.specs.declared.SweepOperands.{SweepOperands}
@@ -122,8 +123,8 @@ call_held port c (AllocContig o) lent b held s = inl (takes_held c o.reference _
 call_held port c (Create o) lent b held s = inl (create_held c o.source o.destination b (points_to c.public o.source o.destination) held)
 call_held port c (Delete o) lent b held s = delete_held port c _ o b held s
 call_held port c (DeleteTree o) lent b held s = tree_held port c _ o b held s
-call_held port c (KeyRead o) lent b held s = inl (allocated_set c.public o.block _ b (keyed_allocated (flag c.public o.block) _ o.key) held)
-call_held port c (KeyWrite o) lent b held s = inl (allocated_set c.public o.block _ b (keyed_allocated (flag c.public o.block) _ o.key) held)
+call_held port c (KeyRead o) lent b held s = inl (allocated_set c.public o.block _ b (keyed_allocated (flag c.public o.block) Reading o.key) held)
+call_held port c (KeyWrite o) lent b held s = inl (allocated_set c.public o.block _ b (keyed_allocated (flag c.public o.block) Writing o.key) held)
 call_held port c (Renew o) lent b held s = inl held
 call_held port c (Force o) lent b held s = inl held
 call_held port c Free lent b held s = inl held

@@ -311,15 +311,15 @@ take_all_made : {c : Card} (reference : ℕ) (bs : List ℕ) → SoundCard c →
     → c.public.info.used + length bs ≤ length c.public.pointers
     → (a b : ℕ) → b < 65536 → multiplicity (changes c (take_all reference bs)).public a b ≡ once (eqb reference a && contains b bs) + multiplicity c.public a b
 unfolding take_all changes change change_public allocated contains any points_to
-take_all_made {c} reference [] s held t room a b narrow = none_made (eqb reference a)
+take_all_made {c = c} reference [] s held t room a b narrow = none_made (eqb reference a)
   where
     none_made : (r : Bool) → multiplicity c.public a b ≡ once (r && false) + multiplicity c.public a b
     none_made true = omega arith
     none_made false = omega arith
-take_all_made {c} reference (x ∷ bs) s held t room a b narrow =
+take_all_made {c = c} reference (x ∷ bs) s held t room a b narrow =
     let p : Public = c.public in
     let rest : _ =
-    take_all_made reference bs (taken_sound reference s held t room) (taken_allocated reference s held t room) (taken_rest reference s held t room)
+    take_all_made {c = changes c (take_all reference (x ∷ []))} reference bs (taken_sound reference s held t room) (taken_allocated reference s held t room) (taken_rest reference s held t room)
     (taken_room reference s held t room) a b narrow in
     let one : multiplicity (change_public (add_pointer reference x) (change_public (take_block x) p)) a b ≡ once (eqb reference a && eqb x b) + multiplicity p a b =
     added (change_public (take_block x) p) reference x

@@ -32,7 +32,7 @@ not_here : {t : Bool} {s r : Refusal} {checks : List Check} → (refusal_number 
 not_here other (here e) = absurd (other refl)
 not_here other (later e h) = (e, h)
 
-is_here : {t : Bool} {r : Refusal} {checks : List Check} → (FirstHolds checks r → ⊥) → FirstHolds ((t ⇒ r) ∷ checks) r → t ≡ true
+is_here : {t : Bool} {s r : Refusal} {checks : List Check} → (FirstHolds checks r → ⊥) → FirstHolds ((t ⇒ s) ∷ checks) r → t ≡ true
 is_here other (here e) = e
 is_here other (later e h) = absurd (other h)
 

@@ -1,4 +1,3 @@
-use Prim.Native.Nat.{◌-◌}
 use Rattle.fields.proofs.Filler.{filler_start, filler_more, filler_fault, filler_whole}
 use Rattle.fields.proofs.zeroed.Goals as goal
 

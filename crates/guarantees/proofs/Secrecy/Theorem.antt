@@ -79,7 +79,7 @@ same_hidden K Differ c d same b =
 -- A block that is neither hidden nor unallocated cannot fail to be within reach, so contents that agree there agree.
 agree : (K : ℕ → ℕ → Bool) (c : Card) (b : ℕ) (xs ys : List ℕ) → allocated c.public b ≡ true → (Hidden K c b → ⊥) → (Reach K c b → xs ≡ ys) → xs ≡ ys
 agree K c b xs ys a visible f =
-    (Dec.not_not (List-discrete ℕ_discrete xs ys)).0 (λ n. visible (record { is_allocated = a; out_of_reach = λ g. n (f g) }))
+    (Dec.not-not (List-discrete ℕ_discrete xs ys)).0 (λ n. visible (record { is_allocated = a; out_of_reach = λ g. n (f g) }))
 
 -- Two such cards agree on the blocks within reach.
 start : (K : ℕ → ℕ → Bool) (c d : Card) → EqualBut (HiddenOrUnallocated K c) c d → Alike (λ p ks ls. ks ≡ ls) (Reach K c) c d
@@ -119,7 +119,7 @@ module _ (K : ℕ → ℕ → Bool) (session : List Request) (all : HasKeys K se
 
   same_after : (b : ℕ) → (StillDiffers K c (after_all c calls) b → ⊥) → block (after_all c calls) b ≡ block (after_all d calls) b
   same_after b n =
-      (Dec.not_not (List-discrete ℕ_discrete (block (after_all c calls) b) (block (after_all d calls) b))).0
+      (Dec.not-not (List-discrete ℕ_discrete (block (after_all c calls) b) (block (after_all d calls) b))).0
       (same_unless b n (allocated c.public b) (allocated (after_all c calls).public b) refl refl)
 
   pub secrecy_by : Secret K (host_session session) c d
