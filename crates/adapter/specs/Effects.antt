@@ -90,21 +90,21 @@ pub record Gives (want : Effect) (number value : ℕ) (info : List ℕ) (after :
 -- What a function returns and leaves is the effect of the rule on the record and the card at its entry.
 abbrev pub Effects : (List ℕ → Card → Effect) → Lent → Lent → Lent → Lent → Lent → Lent → Lent → Lent → ℕ → List ℕ → List ℕ → Type 0
 Effects rule info flags keys counts pointers multiplicities windows contents r out places =
-    Does (rule info.entry.now (at_entry (record_of info.entry.now) flags keys counts pointers multiplicities windows contents))
+    Does (rule info.entry (at_entry (record_of info.entry) flags keys counts pointers multiplicities windows contents))
     r
-    info.exit.now
-    (at_exit (record_of info.exit.now) flags keys counts pointers multiplicities windows contents)
+    info.exit
+    (at_exit (record_of info.exit) flags keys counts pointers multiplicities windows contents)
     out
     places
 
 -- The same of a function that may have a result.
 abbrev pub EffectsGiving : (ℕ → List ℕ → Card → Effect) → Lent → Lent → Lent → Lent → Lent → Lent → Lent → Lent → LentNumber → ℕ → Type 0
 EffectsGiving rule info flags keys counts pointers multiplicities windows contents value r =
-    Gives (rule value.entry.now info.entry.now (at_entry (record_of info.entry.now) flags keys counts pointers multiplicities windows contents))
+    Gives (rule value.entry info.entry (at_entry (record_of info.entry) flags keys counts pointers multiplicities windows contents))
     r
-    value.exit.now
-    info.exit.now
-    (at_exit (record_of info.exit.now) flags keys counts pointers multiplicities windows contents)
+    value.exit
+    info.exit
+    (at_exit (record_of info.exit) flags keys counts pointers multiplicities windows contents)
     []
     []
 
@@ -112,22 +112,22 @@ EffectsGiving rule info flags keys counts pointers multiplicities windows conten
 abbrev pub EffectsLent : (List ℕ → List ℕ → ℕ → List ℕ → Card → Effect) → Lent → Lent → Lent → Lent → Lent → Lent → Lent → Lent → Lent → Lent → LentNumber → ℕ → Type 0
 EffectsLent rule info flags keys counts pointers multiplicities windows contents out places value r =
     Gives
-    (rule out.entry.now places.entry.now value.entry.now info.entry.now (at_entry (record_of info.entry.now) flags keys counts pointers multiplicities windows contents))
+    (rule out.entry places.entry value.entry info.entry (at_entry (record_of info.entry) flags keys counts pointers multiplicities windows contents))
     r
-    value.exit.now
-    info.exit.now
-    (at_exit (record_of info.exit.now) flags keys counts pointers multiplicities windows contents)
-    out.exit.now
-    places.exit.now
+    value.exit
+    info.exit
+    (at_exit (record_of info.exit) flags keys counts pointers multiplicities windows contents)
+    out.exit
+    places.exit
 
 -- The same of a function that lists numbers in lent places, and is lent the record and the tables to read.
 abbrev pub EffectsListing : (List ℕ → ℕ → List ℕ → Card → Effect) → Lent → Lent → Lent → Lent → Lent → Lent → Lent → Lent → Lent → LentNumber → ℕ → Type 0
 EffectsListing rule info flags keys counts pointers multiplicities windows contents places value r =
     Gives
-    (rule places.entry.now value.entry.now info.entry.now (at_entry (record_of info.entry.now) flags keys counts pointers multiplicities windows contents))
+    (rule places.entry value.entry info.entry (at_entry (record_of info.entry) flags keys counts pointers multiplicities windows contents))
     r
-    value.exit.now
-    info.exit.now
-    (at_exit (record_of info.exit.now) flags keys counts pointers multiplicities windows contents)
+    value.exit
+    info.exit
+    (at_exit (record_of info.exit) flags keys counts pointers multiplicities windows contents)
     []
-    places.exit.now
+    places.exit

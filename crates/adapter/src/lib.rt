@@ -1,5 +1,6 @@
 // A call performed on what C lends, and what C gets of it: a number, and a result where there is one.
 ghost use Rattle.std.specs.Prelude.{◌≡◌, [], length};
+ghost use Rattle.card.specs.Lent.{changed};
 ghost use Rattle.card.specs.Calls.{answer_number};
 ghost use Rattle.parameters.specs.Numbers.{record_length, numbers_of};
 ghost use Rattle.adapter.specs.Effects.{value_after, effect, EffectsGiving, EffectsLent};
@@ -51,7 +52,7 @@ pub fn perform(
     places: &mut [u16],
     value: &mut u64,
 ) -> u32
-    ensures { EffectsLent (effect decoding input.now) info flags keys counts pointers multiplicities windows contents out places value result }
+    ensures { EffectsLent (effect decoding input.now) (changed info.old info.new) (changed flags.old flags.new) (changed keys.old keys.new) (changed counts.old counts.new) (changed pointers.old pointers.new) (changed multiplicities.old multiplicities.new) (changed windows.old windows.new) (changed contents.old contents.new) (changed out.old out.new) (changed places.old places.new) (changed value.old value.new) result }
 {
     let Decoding::Decoded(port, call) = decoding else {
         return 13;
@@ -91,7 +92,7 @@ pub fn perform_without_buffers(
     input: &[u8],
     value: &mut u64,
 ) -> u32
-    ensures { EffectsGiving (effect decoding input.now [] []) info flags keys counts pointers multiplicities windows contents value result }
+    ensures { EffectsGiving (effect decoding input.now [] []) (changed info.old info.new) (changed flags.old flags.new) (changed keys.old keys.new) (changed counts.old counts.new) (changed pointers.old pointers.new) (changed multiplicities.old multiplicities.new) (changed windows.old windows.new) (changed contents.old contents.new) (changed value.old value.new) result }
 {
     perform(
         info,

@@ -2,7 +2,7 @@
 ghost use Rattle.std.specs.Prelude.{◌≡◌, [], length, ◌+◌, ◌≤◌};
 ghost use Rattle.card.specs.Lists.{numbers_from};
 ghost use Rattle.card.specs.Contents.{overwrite};
-ghost use Rattle.card.specs.Lent.{Performs, lent, at_entry, at_exit};
+ghost use Rattle.card.specs.Lent.{Performs, lent, at_entry, at_exit, kept, changed};
 ghost use Rattle.card.specs.SoundCard.{SoundCard};
 ghost use Rattle.card.specs.Plan.{first, changes};
 ghost use Rattle.card.specs.Calls.{wanted, picks, take_all};
@@ -110,8 +110,8 @@ fn take_all(
     reference: u16,
     numbers: &[u16],
 ) -> Info
-    requires { CanTakeAll (lent info flags keys counts pointers multiplicities windows contents) reference numbers.now }
-    ensures { at_exit result flags keys counts pointers multiplicities windows contents ≡ changes (at_entry info flags keys counts pointers multiplicities windows contents) (take_all reference numbers.now) }
+    requires { CanTakeAll (lent info flags.old keys.now counts.old pointers.old multiplicities.old windows.now contents.old) reference numbers.now }
+    ensures { at_exit result (changed flags.old flags.new) (kept keys.now) (changed counts.old counts.new) (changed pointers.old pointers.new) (changed multiplicities.old multiplicities.new) (kept windows.now) (changed contents.old contents.new) ≡ changes (at_entry info (changed flags.old flags.new) (kept keys.now) (changed counts.old counts.new) (changed pointers.old pointers.new) (changed multiplicities.old multiplicities.new) (kept windows.now) (changed contents.old contents.new)) (take_all reference numbers.now) }
 {
     let bytes = info.bytes;
     let count = numbers.len();
@@ -164,8 +164,8 @@ fn shared_check(
     o: AllocOperands,
     places: &[u16],
 ) -> Checked
-    requires { SoundCard (lent info flags keys counts pointers multiplicities windows contents) }
-    ensures { result ≡ by_refusal (first (shared_checks port (at_entry info flags keys counts pointers multiplicities windows contents) o (length places.now))) }
+    requires { SoundCard (lent info flags.now keys.now counts.now pointers.now multiplicities.now windows.now contents.now) }
+    ensures { result ≡ by_refusal (first (shared_checks port (lent info flags.now keys.now counts.now pointers.now multiplicities.now windows.now contents.now) o (length places.now))) }
 {
     let credential = o.credential;
     let from = o.reference as usize;
@@ -212,8 +212,8 @@ fn alloc_check(
     o: AllocOperands,
     places: &[u16],
 ) -> Checked
-    requires { SoundCard (lent info flags keys counts pointers multiplicities windows contents) }
-    ensures { result ≡ checked port (at_entry info flags keys counts pointers multiplicities windows contents) (request (Alloc o) [] [] places.now) }
+    requires { SoundCard (lent info flags.now keys.now counts.now pointers.now multiplicities.now windows.now contents.now) }
+    ensures { result ≡ checked port (lent info flags.now keys.now counts.now pointers.now multiplicities.now windows.now contents.now) (request (Alloc o) [] [] places.now) }
 {
     match shared_check(
         info,
@@ -252,8 +252,8 @@ pub fn alloc_sound(
     o: AllocOperands,
     places: &mut [u16],
 ) -> Outcome
-    requires { SoundCard (lent info flags keys counts pointers multiplicities windows contents) }
-    ensures { Performs (λ c. perform_sound port c (request (Alloc o) [] [] places.old)) info flags keys counts pointers multiplicities windows contents result [] places.new }
+    requires { SoundCard (lent info flags.old keys.now counts.old pointers.old multiplicities.old windows.now contents.old) }
+    ensures { Performs (λ c. perform_sound port c (request (Alloc o) [] [] places.old)) info (changed flags.old flags.new) (kept keys.now) (changed counts.old counts.new) (changed pointers.old pointers.new) (changed multiplicities.old multiplicities.new) (kept windows.now) (changed contents.old contents.new) result [] places.new }
 {
     match alloc_check(
         info,
@@ -303,8 +303,8 @@ fn alloc_contig_check(
     o: AllocOperands,
     places: &[u16],
 ) -> RunChecked
-    requires { SoundCard (lent info flags keys counts pointers multiplicities windows contents) }
-    ensures { result ≡ run_checked (checked port (at_entry info flags keys counts pointers multiplicities windows contents) (request (AllocContig o) [] [] places.now)) (nearest_of (wanted o.hint) (starts_in flags.now o.count)) }
+    requires { SoundCard (lent info flags.now keys.now counts.now pointers.now multiplicities.now windows.now contents.now) }
+    ensures { result ≡ run_checked (checked port (lent info flags.now keys.now counts.now pointers.now multiplicities.now windows.now contents.now) (request (AllocContig o) [] [] places.now)) (nearest_of (wanted o.hint) (starts_in flags.now o.count)) }
 {
     let shared = shared_check(
         info,
@@ -346,8 +346,8 @@ pub fn alloc_contig_sound(
     o: AllocOperands,
     places: &mut [u16],
 ) -> Outcome
-    requires { SoundCard (lent info flags keys counts pointers multiplicities windows contents) }
-    ensures { Performs (λ c. perform_sound port c (request (AllocContig o) [] [] places.old)) info flags keys counts pointers multiplicities windows contents result [] places.new }
+    requires { SoundCard (lent info flags.old keys.now counts.old pointers.old multiplicities.old windows.now contents.old) }
+    ensures { Performs (λ c. perform_sound port c (request (AllocContig o) [] [] places.old)) info (changed flags.old flags.new) (kept keys.now) (changed counts.old counts.new) (changed pointers.old pointers.new) (changed multiplicities.old multiplicities.new) (kept windows.now) (changed contents.old contents.new) result [] places.new }
 {
     match alloc_contig_check(
         info,

@@ -2,7 +2,7 @@
 #![tactic(auto)]
 
 ghost use Rattle.std.specs.Prelude.{◌≡◌, ◌&&◌, [], ◌+◌, ◌<◌, ◌≤◌, length, take, drop, get_or, replicate, eqb};
-ghost use Rattle.card.specs.Lent.{at_entry};
+ghost use Rattle.card.specs.Lent.{lent};
 ghost use Rattle.card.specs.Lists.{all, all_below};
 ghost use Rattle.card.specs.Card.{card, allocated};
 ghost use Rattle.card.specs.Soundness.{sound, verdict};
@@ -205,7 +205,7 @@ pub fn audit(
     windows: &[u64],
     contents: &[u8],
 ) -> Verdict
-    ensures { result ≡ verdict (at_entry info flags keys counts pointers multiplicities windows contents) }
+    ensures { result ≡ verdict (lent info flags.now keys.now counts.now pointers.now multiplicities.now windows.now contents.now) }
 {
     if shape::shaped(
         info,

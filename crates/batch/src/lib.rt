@@ -1,7 +1,7 @@
 // Call records served on lent tables at the price of one audit: each answer goes into a lent buffer.
 // What comes of it is what auditing before every call makes of it.
 ghost use Rattle.std.specs.Prelude.{◌+◌, ◌*◌, ◌≤◌, length, take, drop, ◌≡◌};
-ghost use Rattle.card.specs.Lent.{lent};
+ghost use Rattle.card.specs.Lent.{lent, kept, changed};
 ghost use Rattle.card.specs.Soundness.{verdict};
 ghost use Rattle.fields.specs.Bytes.{bytes};
 ghost use Rattle.lines.specs.Replied.{replied};
@@ -143,9 +143,9 @@ fn answer_call(
     to: &mut [u8],
     at: usize,
 ) -> Wrote
-    requires fact_1 { found ≡ verdict (lent info flags keys counts pointers multiplicities windows contents) }
+    requires fact_1 { found ≡ verdict (lent info flags.old keys.old counts.old pointers.old multiplicities.old windows.old contents.old) }
     requires fact_2 { at + answer_room info.bytes call ≤ length to.old }
-    ensures { Writes (λ c. served port c call payload.now) (answer_bytes call) (answer_room info.bytes call) info flags keys counts pointers multiplicities windows contents to at result }
+    ensures { Writes (λ c. served port c call payload.now) (answer_bytes call) (answer_room info.bytes call) info (changed flags.old flags.new) (changed keys.old keys.new) (changed counts.old counts.new) (changed pointers.old pointers.new) (changed multiplicities.old multiplicities.new) (changed windows.old windows.new) (changed contents.old contents.new) (changed to.old to.new) at result }
 {
     let mut places = [0u16; MOST_BLOCKS as usize];
     let size = lent_size(info, call);
@@ -193,10 +193,10 @@ fn serve_turn(
     to: &mut [u8],
     at: usize,
 ) -> Turned
-    requires fact_1 { found ≡ verdict (lent info flags keys counts pointers multiplicities windows contents) }
+    requires fact_1 { found ≡ verdict (lent info flags.old keys.old counts.old pointers.old multiplicities.old windows.old contents.old) }
     requires fact_2 { from ≤ length input.now }
     requires fact_3 { at ≤ length to.old }
-    ensures { Turns (serve_turn wire (room_from to.old at)) (room_from to.old at) info flags keys counts pointers multiplicities windows contents input from to at result }
+    ensures { Turns (serve_turn wire (room_from to.old at)) (room_from to.old at) info (changed flags.old flags.new) (changed keys.old keys.new) (changed counts.old counts.new) (changed pointers.old pointers.new) (changed multiplicities.old multiplicities.new) (changed windows.old windows.new) (changed contents.old contents.new) (kept input.now) from (changed to.old to.new) at result }
 {
     let sent = input::find(wire, input, from);
     match sent {
@@ -263,7 +263,7 @@ pub fn serve(
     input: &[u8],
     answers: &mut [u8],
 ) -> Part
-    ensures { Plays (serve wire) info flags keys counts pointers multiplicities windows contents input answers result }
+    ensures { Plays (serve wire) info (changed flags.old flags.new) (changed keys.old keys.new) (changed counts.old counts.new) (changed pointers.old pointers.new) (changed multiplicities.old multiplicities.new) (changed windows.old windows.new) (changed contents.old contents.new) (kept input.now) (changed answers.old answers.new) result }
 {
     let found = audit::audit(
         info,

@@ -1,23 +1,34 @@
 -- A card on lent tables: what a contract says of one, with a word for each table.
 use Rattle.std.specs.Prelude.{ℕ, List}
-use Rattle.std.specs.Borrow.{Bor}
-use denote.Triple.Both.{Both}
 use Rattle.card.specs.Card.{Card, card}
 use Rattle.card.specs.Plan.{Result}
 use Rattle.card.specs.Promises.{Is}
 use Rattle.card.specs.declared.Info.{Info}
 use Rattle.card.specs.declared.Outcome.{Outcome}
 
--- A lent slice at a function's entry and at its exit. One that is lent shared holds the same at both.
+-- What a lent value is at a function's entry and at its exit.
+pub record Held (A : Type 0) : Type 0 where
+  pub entry : A
+  pub exit : A
+
+-- One that is lent shared is the same at both.
+abbrev pub kept : {A : Type 0} → A → Held A
+kept now = record { entry = now; exit = now }
+
+-- One that is lent to be changed.
+abbrev pub changed : {A : Type 0} → A → A → Held A
+changed old new = record { entry = old; exit = new }
+
+-- A lent slice.
 abbrev pub Lent : Type 0
-Lent = Both (Bor (List ℕ)) (Bor (List ℕ))
+Lent = Held (List ℕ)
 
 abbrev pub LentNumber : Type 0
-LentNumber = Both (Bor ℕ) (Bor ℕ)
+LentNumber = Held ℕ
 
--- The card that a `requires` speaks of.
-abbrev pub lent : Info → Bor (List ℕ) → Bor (List ℕ) → Bor (List ℕ) → Bor (List ℕ) → Bor (List ℕ) → Bor (List ℕ) → Bor (List ℕ) → Card
-lent info flags keys counts pointers multiplicities windows contents = card info flags.now keys.now counts.now pointers.now multiplicities.now windows.now contents.now
+-- The card on tables that hold so much.
+abbrev pub lent : Info → List ℕ → List ℕ → List ℕ → List ℕ → List ℕ → List ℕ → List ℕ → Card
+lent info flags keys counts pointers multiplicities windows contents = card info flags keys counts pointers multiplicities windows contents
 
 abbrev pub at_entry : Info → Lent → Lent → Lent → Lent → Lent → Lent → Lent → Card
 at_entry info flags keys counts pointers multiplicities windows contents =

@@ -58,7 +58,7 @@ pub record ProgressIs (want : Play) (stop : Stop) (records : ℕ) (after : Card)
 -- The play of a buffer's filled part, where so many records were played before.
 abbrev pub play_filled : ℕ → Info → Lent → Lent → Lent → Lent → Lent → Lent → Lent → Lent → ℕ → Lent → Play
 play_filled records info flags keys counts pointers multiplicities windows contents buffer filled output =
-    play records (at_entry info flags keys counts pointers multiplicities windows contents) (take filled buffer.entry.now) (length output.entry.now)
+    play records (at_entry info flags keys counts pointers multiplicities windows contents) (take filled buffer.entry) (length output.entry)
 
 abbrev pub PlaysPiece : ℕ → Info → Lent → Lent → Lent → Lent → Lent → Lent → Lent → Lent → ℕ → Lent → Piece → Type 0
 PlaysPiece records info flags keys counts pointers multiplicities windows contents buffer filled output r =
@@ -66,10 +66,10 @@ PlaysPiece records info flags keys counts pointers multiplicities windows conten
     r.stop
     r.records
     (at_exit r.info flags keys counts pointers multiplicities windows contents)
-    buffer.exit.now
+    buffer.exit
     r.filled
-    output.entry.now
-    output.exit.now
+    output.entry
+    output.exit
     r.written
 
 abbrev pub Progresses : ℕ → Info → Lent → Lent → Lent → Lent → Lent → Lent → Lent → Lent → ℕ → Lent → Progress → Type 0
@@ -78,9 +78,9 @@ Progresses records info flags keys counts pointers multiplicities windows conten
     r.stop
     r.records
     (at_exit r.info flags keys counts pointers multiplicities windows contents)
-    buffer.exit.now
+    buffer.exit
     r.filled
-    output.entry.now
-    output.exit.now
+    output.entry
+    output.exit
     r.wrote
     r.on

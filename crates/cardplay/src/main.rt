@@ -1,7 +1,7 @@
 // Plays the call records of standard input on a fresh card, and writes their lines to standard output.
 // Both pass through buffers, so that no record takes a system call of its own.
 ghost use Rattle.std.specs.Prelude.{◌-◌, ◌≤◌, ◌<◌, true, ◌≡◌, length, take, drop};
-ghost use Rattle.card.specs.Lent.{lent, at_entry};
+ghost use Rattle.card.specs.Lent.{lent, at_entry, changed};
 ghost use Rattle.card.specs.Calls.{fresh_info};
 ghost use Rattle.card.specs.Trials.{blank_card, player_card};
 ghost use Rattle.lines.specs.Lines.{line_room, last_line};
@@ -69,7 +69,7 @@ fn play_some(
 ) -> Piece
     requires fact_1 { records < 9223372036854775808 }
     requires fact_2 { filled ≤ length buffer.old }
-    ensures { PlaysPiece records info flags keys counts pointers multiplicities windows contents buffer filled output result }
+    ensures { PlaysPiece records info (changed flags.old flags.new) (changed keys.old keys.new) (changed counts.old counts.new) (changed pointers.old pointers.new) (changed multiplicities.old multiplicities.new) (changed windows.old windows.new) (changed contents.old contents.new) (changed buffer.old buffer.new) filled (changed output.old output.new) result }
 {
     let part = player::play(
         info,
@@ -163,7 +163,7 @@ fn play_on(
     requires fact_1 { records < 9223372036854775808 }
     requires fact_2 { filled ≤ length buffer.old }
     requires fact_3 { record_room ≤ length buffer.old }
-    ensures { Progresses records info flags keys counts pointers multiplicities windows contents buffer filled output result }
+    ensures { Progresses records info (changed flags.old flags.new) (changed keys.old keys.new) (changed counts.old counts.new) (changed pointers.old pointers.new) (changed multiplicities.old multiplicities.new) (changed windows.old windows.new) (changed contents.old contents.new) (changed buffer.old buffer.new) filled (changed output.old output.new) result }
 {
     let played = play_some(
         info,
@@ -208,7 +208,7 @@ fn play_all(
     windows: &mut [u64],
     contents: &mut [u8],
 ) -> Progress
-    ensures { PlaysInPieces (at_entry info flags keys counts pointers multiplicities windows contents) flags keys counts pointers multiplicities windows contents result }
+    ensures { PlaysInPieces (at_entry info (changed flags.old flags.new) (changed keys.old keys.new) (changed counts.old counts.new) (changed pointers.old pointers.new) (changed multiplicities.old multiplicities.new) (changed windows.old windows.new) (changed contents.old contents.new)) (changed flags.old flags.new) (changed keys.old keys.new) (changed counts.old counts.new) (changed pointers.old pointers.new) (changed multiplicities.old multiplicities.new) (changed windows.old windows.new) (changed contents.old contents.new) result }
 {
     let mut buffer = [0u8; 65536];
     let mut output = [0u8; 65536];
@@ -253,8 +253,8 @@ fn play_fresh(
     windows: &mut [u64],
     contents: &mut [u8],
 ) -> Progress
-    requires { lent (fresh_info 16 1 512) flags keys counts pointers multiplicities windows contents ≡ blank_card }
-    ensures { PlaysInPieces player_card flags keys counts pointers multiplicities windows contents result }
+    requires { lent (fresh_info 16 1 512) flags.old keys.old counts.old pointers.old multiplicities.old windows.old contents.old ≡ blank_card }
+    ensures { PlaysInPieces player_card (changed flags.old flags.new) (changed keys.old keys.new) (changed counts.old counts.new) (changed pointers.old pointers.new) (changed multiplicities.old multiplicities.new) (changed windows.old windows.new) (changed contents.old contents.new) result }
 {
     let formatted = format::format(
         tables::fresh(0, 0, 0),

@@ -34,8 +34,8 @@ taken_by pointers multiplicities used a b = cond (eqb (beside (pointer a b) (tak
 abbrev pub ChangesPointers : Change → Info → Lent → Lent → Lent → Info → Type 0
 ChangesPointers step info counts pointers multiplicities after =
     (flags keys windows contents : List ℕ)
-    → card after flags keys counts.exit.now pointers.exit.now multiplicities.exit.now windows contents
-    ≡ change (card info flags keys counts.entry.now pointers.entry.now multiplicities.entry.now windows contents) step
+    → card after flags keys counts.exit pointers.exit multiplicities.exit windows contents
+    ≡ change (card info flags keys counts.entry pointers.entry multiplicities.entry windows contents) step
 
 -- ---- blocks
 
@@ -43,5 +43,5 @@ ChangesPointers step info counts pointers multiplicities after =
 abbrev pub FreesBlock : ℕ → Lent → Lent → Lent → Type 0
 FreesBlock block flags keys windows =
     (info : Info) (counts pointers multiplicities contents : List ℕ)
-    → card info flags.exit.now keys.exit.now counts pointers multiplicities windows.exit.now contents
-    ≡ change (card info flags.entry.now keys.entry.now counts pointers multiplicities windows.entry.now contents) (free_block block)
+    → card info flags.exit keys.exit counts pointers multiplicities windows.exit contents
+    ≡ change (card info flags.entry keys.entry counts pointers multiplicities windows.entry contents) (free_block block)

@@ -1,5 +1,6 @@
 // Changes of the tables that a pointer more or less and a freed block make.
 ghost use Rattle.std.specs.Prelude.{◌≡◌, ◌+◌, ◌*◌, ◌≤◌, ◌<◌, length, get_or};
+ghost use Rattle.card.specs.Lent.{changed};
 ghost use Rattle.card.specs.Pointers.{pointer};
 ghost use Rattle.card.specs.Plan.{clear_keys};
 ghost use Rattle.changes.specs.OnTables.{CanMakePointer, CanTakePointer, made_by, taken_by, ChangesPointers, FreesBlock};
@@ -19,7 +20,7 @@ pub fn make_pointer(
     requires can_make_pointer { CanMakePointer pointers.old multiplicities.old info.used (pointer source destination) }
     requires destination_in_bounds { destination < length counts.old }
     requires destination_bound { get_or counts.old destination 0 < 4294967295 }
-    ensures { ChangesPointers (made_by pointers.old info.used source destination) info counts pointers multiplicities result }
+    ensures { ChangesPointers (made_by pointers.old info.used source destination) info (changed counts.old counts.new) (changed pointers.old pointers.new) (changed multiplicities.old multiplicities.new) result }
 {
     let used = info.used;
     let to = destination as usize;
@@ -46,7 +47,7 @@ pub fn take_pointer(
     requires can_take_pointer { CanTakePointer pointers.old multiplicities.old info.used (pointer source destination) }
     requires destination_in_bounds { destination < length counts.old }
     requires bound { 1 ≤ get_or counts.old destination 0 }
-    ensures { ChangesPointers (taken_by pointers.old multiplicities.old info.used source destination) info counts pointers multiplicities result }
+    ensures { ChangesPointers (taken_by pointers.old multiplicities.old info.used source destination) info (changed counts.old counts.new) (changed pointers.old pointers.new) (changed multiplicities.old multiplicities.new) result }
 {
     let used = info.used;
     let to = destination as usize;
@@ -79,7 +80,7 @@ pub fn free_block(flags: &mut [u8], keys: &mut [u64], windows: &mut [u64], block
     requires block_in_bounds { block < length flags.old }
     requires block_in_bounds_2 { 4 * block + 4 ≤ length keys.old }
     requires block_in_bounds_3 { 2 * block + 2 ≤ length windows.old }
-    ensures { FreesBlock block flags keys windows }
+    ensures { FreesBlock block (changed flags.old flags.new) (changed keys.old keys.new) (changed windows.old windows.new) }
 {
     let b = block as usize;
     let window = 2 * b;

@@ -1,6 +1,6 @@
 // Performs a decoded call at a port: audits the card, refuses 1 or 2, or hands the call on.
 ghost use Rattle.std.specs.Prelude.{◌≡◌};
-ghost use Rattle.card.specs.Lent.{Performs, lent};
+ghost use Rattle.card.specs.Lent.{Performs, lent, changed};
 ghost use Rattle.card.specs.Soundness.{verdict};
 ghost use Rattle.card.specs.Session.{request, perform};
 
@@ -23,8 +23,8 @@ pub fn perform_judged(
     out: &mut [u8],
     places: &mut [u16],
 ) -> Outcome
-    requires { found ≡ verdict (lent info flags keys counts pointers multiplicities windows contents) }
-    ensures { Performs (λ c. perform port c (request call input.now out.old places.old)) info flags keys counts pointers multiplicities windows contents result out.new places.new }
+    requires { found ≡ verdict (lent info flags.old keys.old counts.old pointers.old multiplicities.old windows.old contents.old) }
+    ensures { Performs (λ c. perform port c (request call input.now out.old places.old)) info (changed flags.old flags.new) (changed keys.old keys.new) (changed counts.old counts.new) (changed pointers.old pointers.new) (changed multiplicities.old multiplicities.new) (changed windows.old windows.new) (changed contents.old contents.new) result out.new places.new }
 {
     match found {
         Verdict::Misshapen => Outcome {
@@ -69,7 +69,7 @@ pub fn perform(
     out: &mut [u8],
     places: &mut [u16],
 ) -> Outcome
-    ensures { Performs (λ c. perform port c (request call input.now out.old places.old)) info flags keys counts pointers multiplicities windows contents result out.new places.new }
+    ensures { Performs (λ c. perform port c (request call input.now out.old places.old)) info (changed flags.old flags.new) (changed keys.old keys.new) (changed counts.old counts.new) (changed pointers.old pointers.new) (changed multiplicities.old multiplicities.new) (changed windows.old windows.new) (changed contents.old contents.new) result out.new places.new }
 {
     let found = audit::audit(
         info,

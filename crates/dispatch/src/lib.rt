@@ -1,5 +1,5 @@
 // A decoded call handed to its function, on an audited card: the one place where the calls are told apart.
-ghost use Rattle.card.specs.Lent.{Performs, lent};
+ghost use Rattle.card.specs.Lent.{Performs, lent, changed};
 ghost use Rattle.card.specs.SoundCard.{SoundCard};
 ghost use Rattle.card.specs.Session.{request, perform_sound};
 
@@ -20,8 +20,8 @@ pub fn perform_sound(
     out: &mut [u8],
     places: &mut [u16],
 ) -> Outcome
-    requires { SoundCard (lent info flags keys counts pointers multiplicities windows contents) }
-    ensures { Performs (λ c. perform_sound port c (request call input.now out.old places.old)) info flags keys counts pointers multiplicities windows contents result out.new places.new }
+    requires { SoundCard (lent info flags.old keys.old counts.old pointers.old multiplicities.old windows.old contents.old) }
+    ensures { Performs (λ c. perform_sound port c (request call input.now out.old places.old)) info (changed flags.old flags.new) (changed keys.old keys.new) (changed counts.old counts.new) (changed pointers.old pointers.new) (changed multiplicities.old multiplicities.new) (changed windows.old windows.new) (changed contents.old contents.new) result out.new places.new }
 {
     match call {
         Call::Read(o) => transfer::read_sound(

@@ -1,6 +1,6 @@
 // FORMAT: a fresh card on the lent tables.
 ghost use Rattle.std.specs.Prelude.{◌≡◌, [], ◌++◌, ◌-◌, ◌≤◌, length, replicate};
-ghost use Rattle.card.specs.Lent.{Performs};
+ghost use Rattle.card.specs.Lent.{Performs, changed};
 ghost use Rattle.card.specs.Contents.{zeros};
 ghost use Rattle.card.specs.Calls.{format};
 
@@ -70,7 +70,7 @@ pub fn format(
     windows: &mut [u64],
     contents: &mut [u8],
 ) -> Outcome
-    ensures { Performs (format blocks roots bytes) info flags keys counts pointers multiplicities windows contents result [] [] }
+    ensures { Performs (format blocks roots bytes) info (changed flags.old flags.new) (changed keys.old keys.new) (changed counts.old counts.new) (changed pointers.old pointers.new) (changed multiplicities.old multiplicities.new) (changed windows.old windows.new) (changed contents.old contents.new) result [] [] }
 {
     let fresh = tables::fresh(blocks, roots, bytes);
     if shape::shaped(

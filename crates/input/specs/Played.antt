@@ -57,34 +57,34 @@ Writes rule bytes room info flags keys counts pointers multiplicities windows co
     (bytes (reply (rule (at_entry info flags keys counts pointers multiplicities windows contents))))
     room
     (at_exit r.info flags keys counts pointers multiplicities windows contents)
-    to.entry.now
+    to.entry
     at
-    to.exit.now
+    to.exit
     r.at
 
 -- A turn from a place of the input does what the rule makes of the card at its entry.
 abbrev pub Turns : (Card → List ℕ → Turn) → ℕ → Info → Lent → Lent → Lent → Lent → Lent → Lent → Lent → Lent → ℕ → Lent → ℕ → Turned → Type 0
 Turns rule room info flags keys counts pointers multiplicities windows contents input from to at r =
-    TurnIs (rule (at_entry info flags keys counts pointers multiplicities windows contents) (drop from input.entry.now))
+    TurnIs (rule (at_entry info flags keys counts pointers multiplicities windows contents) (drop from input.entry))
     room
     r.stop
     (at_exit r.info flags keys counts pointers multiplicities windows contents)
-    input.entry.now
+    input.entry
     r.from
-    to.entry.now
+    to.entry
     at
-    to.exit.now
+    to.exit
     r.at
 
 -- A play of the input does what the rule makes of the card at its entry, with as much room as there is output.
 abbrev pub Plays : (Card → List ℕ → ℕ → Play) → Info → Lent → Lent → Lent → Lent → Lent → Lent → Lent → Lent → Lent → Part → Type 0
 Plays rule info flags keys counts pointers multiplicities windows contents input output r =
-    PlayedIs (rule (at_entry info flags keys counts pointers multiplicities windows contents) input.entry.now (length output.entry.now))
+    PlayedIs (rule (at_entry info flags keys counts pointers multiplicities windows contents) input.entry (length output.entry))
     r.stop
     r.records
     (at_exit r.info flags keys counts pointers multiplicities windows contents)
-    input.entry.now
+    input.entry
     r.read
-    output.entry.now
-    output.exit.now
+    output.entry
+    output.exit
     r.written

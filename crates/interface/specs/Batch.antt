@@ -60,7 +60,7 @@ batch_state info flags keys counts pointers multiplicities windows contents answ
 abbrev pub ServesBatch : ℕ → Lent → Lent → Lent → Lent → Lent → Lent → Lent → Lent → Lent → Lent → LentNumber → LentNumber → LentNumber → ℕ → Type 0
 ServesBatch port info flags keys counts pointers multiplicities windows contents input answers records read written r =
     BatchIs (wire_of port)
-    (batch_state info.entry.now flags.entry.now keys.entry.now counts.entry.now pointers.entry.now multiplicities.entry.now windows.entry.now contents.entry.now answers.entry.now records.entry.now read.entry.now written.entry.now)
-    input.entry.now
+    (batch_state info.entry flags.entry keys.entry counts.entry pointers.entry multiplicities.entry windows.entry contents.entry answers.entry records.entry read.entry written.entry)
+    input.entry
     r
-    (batch_state info.exit.now flags.exit.now keys.exit.now counts.exit.now pointers.exit.now multiplicities.exit.now windows.exit.now contents.exit.now answers.exit.now records.exit.now read.exit.now written.exit.now)
+    (batch_state info.exit flags.exit keys.exit counts.exit pointers.exit multiplicities.exit windows.exit contents.exit answers.exit records.exit read.exit written.exit)

@@ -2,6 +2,7 @@
 // enums as numbers, credentials and new keys as bytes. Each makes a call of its operands and performs it, as a call record is.
 // include/negvask.h describes them.
 ghost use Rattle.std.specs.Prelude.{◌≡◌, []};
+ghost use Rattle.card.specs.Lent.{kept, changed};
 ghost use Rattle.adapter.specs.Effects.{format_effect, reach_effect, unlocking_effect, Effects, EffectsGiving, EffectsLent, EffectsListing};
 ghost use Rattle.interface.specs.Functions.{read, write, alloc, alloc_contig, create, delete, delete_tree, key_read, key_write, renew, force, tick, free, audit, rent, sweep, serve, effect_by};
 ghost use Rattle.interface.specs.Batch.{stop_number, ServesBatch};
@@ -29,7 +30,7 @@ pub extern "C" fn negvask_read(
     interval: u32,
     out: &mut [u8],
 ) -> u32
-    ensures { Effects (effect_by (read port block credential.now interval out.old)) info flags keys counts pointers multiplicities windows contents result out.new [] }
+    ensures { Effects (effect_by (read port block credential.now interval out.old)) (changed info.old info.new) (changed flags.old flags.new) (changed keys.old keys.new) (changed counts.old counts.new) (changed pointers.old pointers.new) (changed multiplicities.old multiplicities.new) (changed windows.old windows.new) (changed contents.old contents.new) result out.new [] }
 {
     let decoding = parameters::read_at(port, block, credential, interval);
     let mut value = 0;
@@ -67,7 +68,7 @@ pub extern "C" fn negvask_write(
     interval: u32,
     bytes: &[u8],
 ) -> u32
-    ensures { Effects (effect_by (write port block credential.now interval bytes.now)) info flags keys counts pointers multiplicities windows contents result [] [] }
+    ensures { Effects (effect_by (write port block credential.now interval bytes.now)) (changed info.old info.new) (changed flags.old flags.new) (changed keys.old keys.new) (changed counts.old counts.new) (changed pointers.old pointers.new) (changed multiplicities.old multiplicities.new) (changed windows.old windows.new) (changed contents.old contents.new) result [] [] }
 {
     let decoding = parameters::write_at(port, block, credential, interval);
     let mut value = 0;
@@ -104,7 +105,7 @@ pub extern "C" fn negvask_alloc(
     count: u8,
     places: &mut [u16],
 ) -> u32
-    ensures { Effects (effect_by (alloc port block credential.now hint count places.old)) info flags keys counts pointers multiplicities windows contents result [] places.new }
+    ensures { Effects (effect_by (alloc port block credential.now hint count places.old)) (changed info.old info.new) (changed flags.old flags.new) (changed keys.old keys.new) (changed counts.old counts.new) (changed pointers.old pointers.new) (changed multiplicities.old multiplicities.new) (changed windows.old windows.new) (changed contents.old contents.new) result [] places.new }
 {
     let decoding = parameters::alloc_at(port, block, credential, hint, count);
     let mut value = 0;
@@ -143,7 +144,7 @@ pub extern "C" fn negvask_alloc_contig(
     count: u8,
     places: &mut [u16],
 ) -> u32
-    ensures { Effects (effect_by (alloc_contig port block credential.now hint count places.old)) info flags keys counts pointers multiplicities windows contents result [] places.new }
+    ensures { Effects (effect_by (alloc_contig port block credential.now hint count places.old)) (changed info.old info.new) (changed flags.old flags.new) (changed keys.old keys.new) (changed counts.old counts.new) (changed pointers.old pointers.new) (changed multiplicities.old multiplicities.new) (changed windows.old windows.new) (changed contents.old contents.new) result [] places.new }
 {
     let decoding = parameters::alloc_contig_at(port, block, credential, hint, count);
     let mut value = 0;
@@ -181,7 +182,7 @@ pub extern "C" fn negvask_create(
     destination: u16,
     second: &[u8],
 ) -> u32
-    ensures { Effects (effect_by (create port source credential.now destination second.now)) info flags keys counts pointers multiplicities windows contents result [] [] }
+    ensures { Effects (effect_by (create port source credential.now destination second.now)) (changed info.old info.new) (changed flags.old flags.new) (changed keys.old keys.new) (changed counts.old counts.new) (changed pointers.old pointers.new) (changed multiplicities.old multiplicities.new) (changed windows.old windows.new) (changed contents.old contents.new) result [] [] }
 {
     let decoding = parameters::create_at(port, source, credential, destination, second);
     let mut value = 0;
@@ -217,7 +218,7 @@ pub extern "C" fn negvask_delete(
     destination: u16,
     value: &mut u64,
 ) -> u32
-    ensures { EffectsGiving (λ v. effect_by (delete port source credential.now destination v)) info flags keys counts pointers multiplicities windows contents value result }
+    ensures { EffectsGiving (λ v. effect_by (delete port source credential.now destination v)) (changed info.old info.new) (changed flags.old flags.new) (changed keys.old keys.new) (changed counts.old counts.new) (changed pointers.old pointers.new) (changed multiplicities.old multiplicities.new) (changed windows.old windows.new) (changed contents.old contents.new) (changed value.old value.new) result }
 {
     let decoding = parameters::delete_at(port, source, credential, destination);
     adapter::perform_without_buffers(
@@ -252,7 +253,7 @@ pub extern "C" fn negvask_delete_tree(
     destination: u16,
     value: &mut u64,
 ) -> u32
-    ensures { EffectsGiving (λ v. effect_by (delete_tree port source credential.now destination v)) info flags keys counts pointers multiplicities windows contents value result }
+    ensures { EffectsGiving (λ v. effect_by (delete_tree port source credential.now destination v)) (changed info.old info.new) (changed flags.old flags.new) (changed keys.old keys.new) (changed counts.old counts.new) (changed pointers.old pointers.new) (changed multiplicities.old multiplicities.new) (changed windows.old windows.new) (changed contents.old contents.new) (changed value.old value.new) result }
 {
     let decoding = parameters::delete_tree_at(port, source, credential, destination);
     adapter::perform_without_buffers(
@@ -286,7 +287,7 @@ pub extern "C" fn negvask_key_read(
     credential: &[u8],
     key: &[u8],
 ) -> u32
-    ensures { Effects (effect_by (key_read port block credential.now key.now)) info flags keys counts pointers multiplicities windows contents result [] [] }
+    ensures { Effects (effect_by (key_read port block credential.now key.now)) (changed info.old info.new) (changed flags.old flags.new) (changed keys.old keys.new) (changed counts.old counts.new) (changed pointers.old pointers.new) (changed multiplicities.old multiplicities.new) (changed windows.old windows.new) (changed contents.old contents.new) result [] [] }
 {
     let decoding = parameters::key_at(Mode::Reading, port, block, credential, key);
     let mut value = 0;
@@ -321,7 +322,7 @@ pub extern "C" fn negvask_key_write(
     credential: &[u8],
     key: &[u8],
 ) -> u32
-    ensures { Effects (effect_by (key_write port block credential.now key.now)) info flags keys counts pointers multiplicities windows contents result [] [] }
+    ensures { Effects (effect_by (key_write port block credential.now key.now)) (changed info.old info.new) (changed flags.old flags.new) (changed keys.old keys.new) (changed counts.old counts.new) (changed pointers.old pointers.new) (changed multiplicities.old multiplicities.new) (changed windows.old windows.new) (changed contents.old contents.new) result [] [] }
 {
     let decoding = parameters::key_at(Mode::Writing, port, block, credential, key);
     let mut value = 0;
@@ -356,7 +357,7 @@ pub extern "C" fn negvask_renew(
     key: &[u8],
     interval: u32,
 ) -> u32
-    ensures { Effects (effect_by (renew mode block key.now interval)) info flags keys counts pointers multiplicities windows contents result [] [] }
+    ensures { Effects (effect_by (renew mode block key.now interval)) (changed info.old info.new) (changed flags.old flags.new) (changed keys.old keys.new) (changed counts.old counts.new) (changed pointers.old pointers.new) (changed multiplicities.old multiplicities.new) (changed windows.old windows.new) (changed contents.old contents.new) result [] [] }
 {
     let decoding = parameters::renew_call(mode, block, key, interval);
     let mut value = 0;
@@ -388,7 +389,7 @@ pub extern "C" fn negvask_force(
     contents: &mut [u8],
     block: u16,
 ) -> u32
-    ensures { Effects (effect_by (force block)) info flags keys counts pointers multiplicities windows contents result [] [] }
+    ensures { Effects (effect_by (force block)) (changed info.old info.new) (changed flags.old flags.new) (changed keys.old keys.new) (changed counts.old counts.new) (changed pointers.old pointers.new) (changed multiplicities.old multiplicities.new) (changed windows.old windows.new) (changed contents.old contents.new) result [] [] }
 {
     let decoding = parameters::force_call(block);
     let mut value = 0;
@@ -421,7 +422,7 @@ pub extern "C" fn negvask_tick(
     seconds: u64,
     value: &mut u64,
 ) -> u32
-    ensures { EffectsGiving (λ v. effect_by (tick seconds v)) info flags keys counts pointers multiplicities windows contents value result }
+    ensures { EffectsGiving (λ v. effect_by (tick seconds v)) (changed info.old info.new) (changed flags.old flags.new) (changed keys.old keys.new) (changed counts.old counts.new) (changed pointers.old pointers.new) (changed multiplicities.old multiplicities.new) (changed windows.old windows.new) (changed contents.old contents.new) (changed value.old value.new) result }
 {
     let decoding = parameters::tick_call(seconds);
     adapter::perform_without_buffers(
@@ -452,7 +453,7 @@ pub extern "C" fn negvask_count_free(
     contents: &mut [u8],
     value: &mut u64,
 ) -> u32
-    ensures { EffectsGiving (λ v. effect_by (free v)) info flags keys counts pointers multiplicities windows contents value result }
+    ensures { EffectsGiving (λ v. effect_by (free v)) (changed info.old info.new) (changed flags.old flags.new) (changed keys.old keys.new) (changed counts.old counts.new) (changed pointers.old pointers.new) (changed multiplicities.old multiplicities.new) (changed windows.old windows.new) (changed contents.old contents.new) (changed value.old value.new) result }
 {
     let decoding = parameters::free_call();
     adapter::perform_without_buffers(
@@ -482,7 +483,7 @@ pub extern "C" fn negvask_audit(
     windows: &mut [u64],
     contents: &mut [u8],
 ) -> u32
-    ensures { Effects (effect_by audit) info flags keys counts pointers multiplicities windows contents result [] [] }
+    ensures { Effects (effect_by audit) (changed info.old info.new) (changed flags.old flags.new) (changed keys.old keys.new) (changed counts.old counts.new) (changed pointers.old pointers.new) (changed multiplicities.old multiplicities.new) (changed windows.old windows.new) (changed contents.old contents.new) result [] [] }
 {
     let decoding = parameters::audit_call();
     let mut value = 0;
@@ -515,7 +516,7 @@ pub extern "C" fn negvask_rent(
     price: u32,
     cents: &mut u64,
 ) -> u32
-    ensures { EffectsGiving (λ v. effect_by (rent price v)) info flags keys counts pointers multiplicities windows contents cents result }
+    ensures { EffectsGiving (λ v. effect_by (rent price v)) (changed info.old info.new) (changed flags.old flags.new) (changed keys.old keys.new) (changed counts.old counts.new) (changed pointers.old pointers.new) (changed multiplicities.old multiplicities.new) (changed windows.old windows.new) (changed contents.old contents.new) (changed cents.old cents.new) result }
 {
     let decoding = parameters::rent_call(price);
     adapter::perform_without_buffers(
@@ -547,7 +548,7 @@ pub extern "C" fn negvask_sweep(
     most: u32,
     swept: &mut u64,
 ) -> u32
-    ensures { EffectsGiving (λ v. effect_by (sweep most v)) info flags keys counts pointers multiplicities windows contents swept result }
+    ensures { EffectsGiving (λ v. effect_by (sweep most v)) (changed info.old info.new) (changed flags.old flags.new) (changed keys.old keys.new) (changed counts.old counts.new) (changed pointers.old pointers.new) (changed multiplicities.old multiplicities.new) (changed windows.old windows.new) (changed contents.old contents.new) (changed swept.old swept.new) result }
 {
     let decoding = parameters::sweep_call(most);
     adapter::perform_without_buffers(
@@ -582,7 +583,7 @@ pub extern "C" fn negvask_format(
     roots: u64,
     bytes: u64,
 ) -> u32
-    ensures { Effects (format_effect blocks roots bytes) info flags keys counts pointers multiplicities windows contents result [] [] }
+    ensures { Effects (format_effect blocks roots bytes) (changed info.old info.new) (changed flags.old flags.new) (changed keys.old keys.new) (changed counts.old counts.new) (changed pointers.old pointers.new) (changed multiplicities.old multiplicities.new) (changed windows.old windows.new) (changed contents.old contents.new) result [] [] }
 {
     if info.len() != parameters::RECORD_LENGTH {
         return 1;
@@ -621,7 +622,7 @@ pub extern "C" fn negvask_reach(
     places: &mut [u16],
     value: &mut u64,
 ) -> u32
-    ensures { EffectsListing (reach_effect given.now) info flags keys counts pointers multiplicities windows contents places value result }
+    ensures { EffectsListing (reach_effect given.now) (kept info.now) (kept flags.now) (kept keys.now) (kept counts.now) (kept pointers.now) (kept multiplicities.now) (kept windows.now) (kept contents.now) (changed places.old places.new) (changed value.old value.new) result }
 {
     if info.len() != parameters::RECORD_LENGTH {
         return 1;
@@ -657,7 +658,7 @@ pub extern "C" fn negvask_unlocking(
     places: &mut [u16],
     value: &mut u64,
 ) -> u32
-    ensures { EffectsListing (unlocking_effect given.now block) info flags keys counts pointers multiplicities windows contents places value result }
+    ensures { EffectsListing (unlocking_effect given.now block) (kept info.now) (kept flags.now) (kept keys.now) (kept counts.now) (kept pointers.now) (kept multiplicities.now) (kept windows.now) (kept contents.now) (changed places.old places.new) (changed value.old value.new) result }
 {
     if info.len() != parameters::RECORD_LENGTH {
         return 1;
@@ -698,7 +699,7 @@ pub extern "C" fn negvask_serve(
     places: &mut [u16],
     value: &mut u64,
 ) -> u32
-    ensures { EffectsLent (λ o p v. effect_by (serve port kind body.now o p v)) info flags keys counts pointers multiplicities windows contents out places value result }
+    ensures { EffectsLent (λ o p v. effect_by (serve port kind body.now o p v)) (changed info.old info.new) (changed flags.old flags.new) (changed keys.old keys.new) (changed counts.old counts.new) (changed pointers.old pointers.new) (changed multiplicities.old multiplicities.new) (changed windows.old windows.new) (changed contents.old contents.new) (changed out.old out.new) (changed places.old places.new) (changed value.old value.new) result }
 {
     let parsed = parameters::decode_at(port, kind, body);
     let decoding = parsed.decoding;
@@ -754,7 +755,7 @@ pub extern "C" fn negvask_batch(
     read: &mut u64,
     written: &mut u64,
 ) -> u32
-    ensures { ServesBatch port info flags keys counts pointers multiplicities windows contents input answers records read written result }
+    ensures { ServesBatch port (changed info.old info.new) (changed flags.old flags.new) (changed keys.old keys.new) (changed counts.old counts.new) (changed pointers.old pointers.new) (changed multiplicities.old multiplicities.new) (changed windows.old windows.new) (changed contents.old contents.new) (kept input.now) (changed answers.old answers.new) (changed records.old records.new) (changed read.old read.new) (changed written.old written.new) result }
 {
     let Wire::At(wire) = parameters::wire_of(port) else {
         return 13;

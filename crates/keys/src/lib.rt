@@ -2,7 +2,7 @@
 #![tactic(auto)]
 
 ghost use Rattle.std.specs.Prelude.{◌≡◌, [], ◌+◌, ◌*◌, ◌≤◌, length, set};
-ghost use Rattle.card.specs.Lent.{Performs, lent};
+ghost use Rattle.card.specs.Lent.{Performs, lent, kept, changed};
 ghost use Rattle.card.specs.SoundCard.{SoundCard};
 ghost use Rattle.card.specs.Plan.{is_present, high_word, low_word, other_mode, key_bit, keyed_flags, replace_key};
 ghost use Rattle.card.specs.Calls.{mode_of};
@@ -111,8 +111,8 @@ pub fn key_sound(
     mode: Mode,
     o: KeyOperands,
 ) -> Outcome
-    requires { SoundCard (lent info flags keys counts pointers multiplicities windows contents) }
-    ensures { Performs (λ c. perform_sound port c (request (key_call mode o) [] [] [])) info flags keys counts pointers multiplicities windows contents result [] [] }
+    requires { SoundCard (lent info flags.old keys.old counts.now pointers.now multiplicities.now windows.old contents.now) }
+    ensures { Performs (λ c. perform_sound port c (request (key_call mode o) [] [] [])) info (changed flags.old flags.new) (changed keys.old keys.new) (kept counts.now) (kept pointers.now) (kept multiplicities.now) (changed windows.old windows.new) (kept contents.now) result [] [] }
 {
     let block = o.block as usize;
     if access::missing(info, flags, block) {
@@ -166,8 +166,8 @@ pub fn renew_sound(
     contents: &[u8],
     o: RenewOperands,
 ) -> Outcome
-    requires { SoundCard (lent info flags keys counts pointers multiplicities windows contents) }
-    ensures { (port : Port) → Performs (λ c. perform_sound port c (request (Call.Renew o) [] [] [])) info flags keys counts pointers multiplicities windows contents result [] [] }
+    requires { SoundCard (lent info flags.now keys.now counts.now pointers.now multiplicities.now windows.old contents.now) }
+    ensures { (port : Port) → Performs (λ c. perform_sound port c (request (Call.Renew o) [] [] [])) info (kept flags.now) (kept keys.now) (kept counts.now) (kept pointers.now) (kept multiplicities.now) (changed windows.old windows.new) (kept contents.now) result [] [] }
 {
     let block = o.block as usize;
     let bad = (1 < o.mode) | (o.interval == 0) | (LONGEST_INTERVAL < o.interval);
@@ -209,8 +209,8 @@ pub fn force_sound(
     contents: &[u8],
     o: ForceOperands,
 ) -> Outcome
-    requires { SoundCard (lent info flags keys counts pointers multiplicities windows contents) }
-    ensures { (port : Port) → Performs (λ c. perform_sound port c (request (Call.Force o) [] [] [])) info flags keys counts pointers multiplicities windows contents result [] [] }
+    requires { SoundCard (lent info flags.now keys.now counts.now pointers.now multiplicities.now windows.old contents.now) }
+    ensures { (port : Port) → Performs (λ c. perform_sound port c (request (Call.Force o) [] [] [])) info (kept flags.now) (kept keys.now) (kept counts.now) (kept pointers.now) (kept multiplicities.now) (changed windows.old windows.new) (kept contents.now) result [] [] }
 {
     let block = o.block as usize;
     if access::missing(info, flags, block) {

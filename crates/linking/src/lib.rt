@@ -1,6 +1,6 @@
 // CREATE and DELETE: the calls that point to a block and that take a pointer away.
 ghost use Rattle.std.specs.Prelude.{◌≡◌, []};
-ghost use Rattle.card.specs.Lent.{Performs, lent, at_entry};
+ghost use Rattle.card.specs.Lent.{Performs, lent, kept, changed};
 ghost use Rattle.card.specs.Card.{card, multiplicity};
 ghost use Rattle.card.specs.SoundCard.{SoundCard};
 ghost use Rattle.card.specs.Plan.{first};
@@ -47,8 +47,8 @@ fn create_check(
     port: Port,
     o: CreateOperands,
 ) -> Checked
-    requires { SoundCard (lent info flags keys counts pointers multiplicities windows contents) }
-    ensures { result ≡ checked port (at_entry info flags keys counts pointers multiplicities windows contents) (request (Create o) [] [] []) }
+    requires { SoundCard (lent info flags.now keys.now counts.now pointers.now multiplicities.now windows.now contents.now) }
+    ensures { result ≡ checked port (lent info flags.now keys.now counts.now pointers.now multiplicities.now windows.now contents.now) (request (Create o) [] [] []) }
 {
     let first = o.credential;
     let second = o.second;
@@ -114,8 +114,8 @@ pub fn create_sound(
     port: Port,
     o: CreateOperands,
 ) -> Outcome
-    requires { SoundCard (lent info flags keys counts pointers multiplicities windows contents) }
-    ensures { Performs (λ c. perform_sound port c (request (Create o) [] [] [])) info flags keys counts pointers multiplicities windows contents result [] [] }
+    requires { SoundCard (lent info flags.now keys.now counts.old pointers.old multiplicities.old windows.now contents.now) }
+    ensures { Performs (λ c. perform_sound port c (request (Create o) [] [] [])) info (kept flags.now) (kept keys.now) (changed counts.old counts.new) (changed pointers.old pointers.new) (changed multiplicities.old multiplicities.new) (kept windows.now) (kept contents.now) result [] [] }
 {
     match create_check(
         info,
@@ -154,8 +154,8 @@ pub fn removal_check(
     port: Port,
     o: DeleteOperands,
 ) -> Checked
-    requires { SoundCard (lent info flags keys counts pointers multiplicities windows contents) }
-    ensures { result ≡ by_refusal (first (removal port (at_entry info flags keys counts pointers multiplicities windows contents) o)) }
+    requires { SoundCard (lent info flags.now keys.now counts.now pointers.now multiplicities.now windows.now contents.now) }
+    ensures { result ≡ by_refusal (first (removal port (lent info flags.now keys.now counts.now pointers.now multiplicities.now windows.now contents.now) o)) }
 {
     let credential = o.credential;
     let from = o.source as usize;
@@ -201,8 +201,8 @@ fn delete_check(
     port: Port,
     o: DeleteOperands,
 ) -> Checked
-    requires { SoundCard (lent info flags keys counts pointers multiplicities windows contents) }
-    ensures { result ≡ checked port (at_entry info flags keys counts pointers multiplicities windows contents) (request (Delete o) [] [] []) }
+    requires { SoundCard (lent info flags.now keys.now counts.now pointers.now multiplicities.now windows.now contents.now) }
+    ensures { result ≡ checked port (lent info flags.now keys.now counts.now pointers.now multiplicities.now windows.now contents.now) (request (Delete o) [] [] []) }
 {
     match removal_check(
         info,
@@ -242,8 +242,8 @@ pub fn delete_sound(
     port: Port,
     o: DeleteOperands,
 ) -> Outcome
-    requires { SoundCard (lent info flags keys counts pointers multiplicities windows contents) }
-    ensures { Performs (λ c. perform_sound port c (request (Delete o) [] [] [])) info flags keys counts pointers multiplicities windows contents result [] [] }
+    requires { SoundCard (lent info flags.old keys.old counts.old pointers.old multiplicities.old windows.old contents.now) }
+    ensures { Performs (λ c. perform_sound port c (request (Delete o) [] [] [])) info (changed flags.old flags.new) (changed keys.old keys.new) (changed counts.old counts.new) (changed pointers.old pointers.new) (changed multiplicities.old multiplicities.new) (changed windows.old windows.new) (kept contents.now) result [] [] }
 {
     match delete_check(
         info,

@@ -1,5 +1,6 @@
 // Plays call records on lent tables: decodes each, performs it, and writes its line.
 ghost use Rattle.std.specs.Prelude.{◌+◌, ◌≤◌, ◌<◌, length};
+ghost use Rattle.card.specs.Lent.{kept, changed};
 ghost use Rattle.lines.specs.Lines.{line, line_room};
 ghost use Rattle.input.specs.Play.{played, turn, play};
 ghost use Rattle.input.specs.Played.{Writes, Turns, Plays};
@@ -26,7 +27,7 @@ fn play_call(
     at: usize,
 ) -> Wrote
     requires { at + line_room ≤ length to.old }
-    ensures { Writes (λ c. played port c call payload.now) (line ordinal kind call) line_room info flags keys counts pointers multiplicities windows contents to at result }
+    ensures { Writes (λ c. played port c call payload.now) (line ordinal kind call) line_room info (changed flags.old flags.new) (changed keys.old keys.new) (changed counts.old counts.new) (changed pointers.old pointers.new) (changed multiplicities.old multiplicities.new) (changed windows.old windows.new) (changed contents.old contents.new) (changed to.old to.new) at result }
 {
     let mut out = [0u8; 512];
     let mut places = [0u16; MOST_BLOCKS as usize];
@@ -72,7 +73,7 @@ fn play_turn(
 ) -> Turned
     requires fact_1 { from ≤ length input.now }
     requires fact_2 { at + line_room ≤ length to.old }
-    ensures { Turns (turn ordinal) line_room info flags keys counts pointers multiplicities windows contents input from to at result }
+    ensures { Turns (turn ordinal) line_room info (changed flags.old flags.new) (changed keys.old keys.new) (changed counts.old counts.new) (changed pointers.old pointers.new) (changed multiplicities.old multiplicities.new) (changed windows.old windows.new) (changed contents.old contents.new) (kept input.now) from (changed to.old to.new) at result }
 {
     let found = input::find(Port::Service, input, from);
     match found {
@@ -130,7 +131,7 @@ pub fn play(
     output: &mut [u8],
 ) -> Part
     requires { records < 9223372036854775808 }
-    ensures { Plays (play records) info flags keys counts pointers multiplicities windows contents input output result }
+    ensures { Plays (play records) info (changed flags.old flags.new) (changed keys.old keys.new) (changed counts.old counts.new) (changed pointers.old pointers.new) (changed multiplicities.old multiplicities.new) (changed windows.old windows.new) (changed contents.old contents.new) (kept input.now) (changed output.old output.new) result }
 {
     let mut left = info;
     let mut count = records;

@@ -2,7 +2,7 @@
 ghost use Rattle.std.specs.Prelude.{◌≡◌, [], ◌+◌, ◌*◌, ◌≤◌, ◌<◌, length, get_or};
 ghost use Rattle.card.specs.Card.{Card, card};
 ghost use Rattle.card.specs.Contents.{overwrite};
-ghost use Rattle.card.specs.Lent.{lent, at_entry};
+ghost use Rattle.card.specs.Lent.{lent, kept, changed};
 ghost use Rattle.card.specs.SoundCard.{SoundCard};
 ghost use Rattle.card.specs.Reach.{key_presented};
 ghost use Rattle.report.specs.Report.{given, bad_keys, reach_report};
@@ -137,9 +137,9 @@ pub fn mark_within(
     marks: &mut [u8; 4096],
     queue: &mut [u16; 4096],
 ) -> usize
-    requires sound_card { SoundCard (lent info flags keys counts pointers multiplicities windows contents) }
+    requires sound_card { SoundCard (lent info flags.now keys.now counts.now pointers.now multiplicities.now windows.now contents.now) }
     requires fresh { Fresh shut.old marks.old queue.old }
-    ensures { Within words.now (at_entry info flags keys counts pointers multiplicities windows contents) shut.new marks.new result }
+    ensures { Within words.now (lent info flags.now keys.now counts.now pointers.now multiplicities.now windows.now contents.now) shut.new marks.new result }
 {
     let begun = begin(info, flags, keys, windows, words, shut, marks, queue);
     walks::walk(
@@ -185,8 +185,8 @@ fn reach_sound(
     words: &[u64],
     places: &mut [u16],
 ) -> Answer
-    requires { SoundCard (lent info flags keys counts pointers multiplicities windows contents) }
-    ensures { Reports (reach_sound words.now) info flags keys counts pointers multiplicities windows contents places result }
+    requires { SoundCard (lent info flags.now keys.now counts.now pointers.now multiplicities.now windows.now contents.now) }
+    ensures { Reports (reach_sound words.now) info (kept flags.now) (kept keys.now) (kept counts.now) (kept pointers.now) (kept multiplicities.now) (kept windows.now) (kept contents.now) (changed places.old places.new) result }
 {
     if bad_keys(words) {
         return Answer::Refused(Refusal::BadOperand);
@@ -228,7 +228,7 @@ pub fn reach(
     words: &[u64],
     places: &mut [u16],
 ) -> Answer
-    ensures { Reports (reach_report words.now) info flags keys counts pointers multiplicities windows contents places result }
+    ensures { Reports (reach_report words.now) info (kept flags.now) (kept keys.now) (kept counts.now) (kept pointers.now) (kept multiplicities.now) (kept windows.now) (kept contents.now) (changed places.old places.new) result }
 {
     match audit::audit(
         info,

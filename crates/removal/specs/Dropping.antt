@@ -51,7 +51,7 @@ pub record CanDrop (counts pointers multiplicities : List ℕ) (used blocks w : 
 abbrev pub DropsPointers : ℕ → ℕ → List ℕ → Info → Lent → Lent → Lent → Info → Type 0
 DropsPointers a b marks info counts pointers multiplicities after =
     (flags keys windows contents : List ℕ)
-    → card after flags keys counts.exit.now pointers.exit.now multiplicities.exit.now windows contents
+    → card after flags keys counts.exit pointers.exit multiplicities.exit windows contents
     ≡ changes
-    (card info flags keys counts.entry.now pointers.entry.now multiplicities.entry.now windows contents)
+    (card info flags keys counts.entry pointers.entry multiplicities.entry windows contents)
     (drop_pointer a b ∷ (drop_from (marked_below marks info.blocks) ∷ []))

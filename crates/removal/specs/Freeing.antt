@@ -9,5 +9,5 @@ use Rattle.card.specs.declared.Info.{Info}
 abbrev pub FreesEach : List ℕ → Lent → Lent → Lent → Type 0
 FreesEach blocks flags keys windows =
     (info : Info) (counts pointers multiplicities contents : List ℕ)
-    → card info flags.exit.now keys.exit.now counts pointers multiplicities windows.exit.now contents
-    ≡ changes (card info flags.entry.now keys.entry.now counts pointers multiplicities windows.entry.now contents) (free_each blocks)
+    → card info flags.exit keys.exit counts pointers multiplicities windows.exit contents
+    ≡ changes (card info flags.entry keys.entry counts pointers multiplicities windows.entry contents) (free_each blocks)

@@ -3,7 +3,7 @@ ghost use Rattle.std.specs.Prelude.{◌≡◌, [], ◌*◌, ◌≤◌, length, g
 ghost use Rattle.card.specs.Lists.{any};
 ghost use Rattle.card.specs.Pointers.{pointer};
 ghost use Rattle.card.specs.Card.{key_flag};
-ghost use Rattle.card.specs.Lent.{Performs, lent, at_entry};
+ghost use Rattle.card.specs.Lent.{Performs, lent, kept, changed};
 ghost use Rattle.card.specs.SoundCard.{SoundCard};
 ghost use Rattle.card.specs.Session.{request, perform_sound};
 ghost use Rattle.card.specs.declared.Call.TheVariants.{DeleteTree};
@@ -56,9 +56,9 @@ fn tree_check(
     o: DeleteOperands,
     marks: &mut [u8; 4096],
 ) -> TreeChecked
-    requires sound_card { SoundCard (lent info flags keys counts pointers multiplicities windows contents) }
+    requires sound_card { SoundCard (lent info flags.now keys.now counts.now pointers.now multiplicities.now windows.now contents.now) }
     requires marks_value { marks.old ≡ replicate 4096 0 }
-    ensures { TreeFound port (at_entry info flags keys counts pointers multiplicities windows contents) o marks.new result }
+    ensures { TreeFound port (lent info flags.now keys.now counts.now pointers.now multiplicities.now windows.now contents.now) o marks.new result }
 {
     match linking::removal_check(
         info,
@@ -154,7 +154,7 @@ fn drop_pointers(
     destination: u16,
 ) -> Info
     requires { CanDrop counts.old pointers.old multiplicities.old info.used info.blocks (pointer source destination) }
-    ensures { DropsPointers source destination marks.now info counts pointers multiplicities result }
+    ensures { DropsPointers source destination marks.now info (changed counts.old counts.new) (changed pointers.old pointers.new) (changed multiplicities.old multiplicities.new) result }
 {
     let used = info.used;
     let gone = (source as u32) * 65536 + (destination as u32);
@@ -177,7 +177,7 @@ fn free_marked(
     requires blocks_in_bounds { blocks ≤ length flags.old }
     requires blocks_in_bounds_2 { 4 * blocks ≤ length keys.old }
     requires blocks_in_bounds_3 { 2 * blocks ≤ length windows.old }
-    ensures { FreesEach (marked_below marks.now blocks) flags keys windows }
+    ensures { FreesEach (marked_below marks.now blocks) (changed flags.old flags.new) (changed keys.old keys.new) (changed windows.old windows.new) }
 {
     let mut at = 0;
     while at < blocks {
@@ -203,8 +203,8 @@ pub fn delete_tree_sound(
     port: Port,
     o: DeleteOperands,
 ) -> Outcome
-    requires { SoundCard (lent info flags keys counts pointers multiplicities windows contents) }
-    ensures { Performs (λ c. perform_sound port c (request (DeleteTree o) [] [] [])) info flags keys counts pointers multiplicities windows contents result [] [] }
+    requires { SoundCard (lent info flags.old keys.old counts.old pointers.old multiplicities.old windows.old contents.now) }
+    ensures { Performs (λ c. perform_sound port c (request (DeleteTree o) [] [] [])) info (changed flags.old flags.new) (changed keys.old keys.new) (changed counts.old counts.new) (changed pointers.old pointers.new) (changed multiplicities.old multiplicities.new) (changed windows.old windows.new) (kept contents.now) result [] [] }
 {
     let mut marks = [0u8; 4096];
     match tree_check(

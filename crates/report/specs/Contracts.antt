@@ -18,8 +18,8 @@ unlocking_sound words chosen places c = judge_sound c (lent_places places) (unlo
 -- What a function answers, the card and the places at its exit are what the rule makes of the places and the card at its entry.
 abbrev pub Reports : (List ℕ → Card → Result) → Info → Lent → Lent → Lent → Lent → Lent → Lent → Lent → Lent → Answer → Type 0
 Reports rule info flags keys counts pointers multiplicities windows contents places r =
-    Is (rule places.entry.now (at_entry info flags keys counts pointers multiplicities windows contents))
+    Is (rule places.entry (at_entry info flags keys counts pointers multiplicities windows contents))
     r
     (at_exit info flags keys counts pointers multiplicities windows contents)
     []
-    places.exit.now
+    places.exit

@@ -2,7 +2,7 @@
 #![tactic(auto)]
 
 ghost use Rattle.std.specs.Prelude.{◌≡◌};
-ghost use Rattle.card.specs.Lent.{at_entry};
+ghost use Rattle.card.specs.Lent.{lent};
 ghost use Rattle.card.specs.Soundness.{ranges, shape};
 ghost use Rattle.card.specs.SoundCard.{InRanges};
 
@@ -35,7 +35,7 @@ fn has_lengths(
     contents: &[u8],
 ) -> bool
     requires { InRanges info.blocks info.roots info.bytes }
-    ensures { result ≡ shape (at_entry info flags keys counts pointers multiplicities windows contents) }
+    ensures { result ≡ shape (lent info flags.now keys.now counts.now pointers.now multiplicities.now windows.now contents.now) }
 {
     let blocks = info.blocks;
     let places = pointers.len();
@@ -62,7 +62,7 @@ pub fn shaped(
     windows: &[u64],
     contents: &[u8],
 ) -> bool
-    ensures { result ≡ shape (at_entry info flags keys counts pointers multiplicities windows contents) }
+    ensures { result ≡ shape (lent info flags.now keys.now counts.now pointers.now multiplicities.now windows.now contents.now) }
 {
     if in_ranges(info.blocks, info.roots, info.bytes) {
         has_lengths(

@@ -1,6 +1,6 @@
 // FREE, TICK and RENT on an audited card.
 ghost use Rattle.std.specs.Prelude.{◌*◌, ◌^◌, ◌≤◌, ◌<◌, ◌≡◌, []};
-ghost use Rattle.card.specs.Lent.{Performs, lent};
+ghost use Rattle.card.specs.Lent.{Performs, lent, kept};
 ghost use Rattle.card.specs.Rent.{highest_price, half_rounded, rounded, cents};
 ghost use Rattle.card.specs.Soundness.{time_limit, most_blocks};
 ghost use Rattle.card.specs.SoundCard.{SoundCard};
@@ -24,8 +24,8 @@ pub fn free_sound(
     windows: &[u64],
     contents: &[u8],
 ) -> Outcome
-    requires { SoundCard (lent info flags keys counts pointers multiplicities windows contents) }
-    ensures { (port : Port) → Performs (λ c. perform_sound port c (request (Call.Free) [] [] [])) info flags keys counts pointers multiplicities windows contents result [] [] }
+    requires { SoundCard (lent info flags.now keys.now counts.now pointers.now multiplicities.now windows.now contents.now) }
+    ensures { (port : Port) → Performs (λ c. perform_sound port c (request (Call.Free) [] [] [])) info (kept flags.now) (kept keys.now) (kept counts.now) (kept pointers.now) (kept multiplicities.now) (kept windows.now) (kept contents.now) result [] [] }
 {
     let free = tables::count_free(flags);
     Outcome {
@@ -45,8 +45,8 @@ pub fn tick_sound(
     contents: &[u8],
     o: TickOperands,
 ) -> Outcome
-    requires { SoundCard (lent info flags keys counts pointers multiplicities windows contents) }
-    ensures { (port : Port) → Performs (λ c. perform_sound port c (request (Call.Tick o) [] [] [])) info flags keys counts pointers multiplicities windows contents result [] [] }
+    requires { SoundCard (lent info flags.now keys.now counts.now pointers.now multiplicities.now windows.now contents.now) }
+    ensures { (port : Port) → Performs (λ c. perform_sound port c (request (Call.Tick o) [] [] [])) info (kept flags.now) (kept keys.now) (kept counts.now) (kept pointers.now) (kept multiplicities.now) (kept windows.now) (kept contents.now) result [] [] }
 {
     // Compared before it is added: the sum could wrap.
     if TIME_LIMIT - info.time <= o.seconds {
@@ -109,8 +109,8 @@ pub fn rent_sound(
     contents: &[u8],
     o: RentOperands,
 ) -> Outcome
-    requires { SoundCard (lent info flags keys counts pointers multiplicities windows contents) }
-    ensures { (port : Port) → Performs (λ c. perform_sound port c (request (Call.Rent o) [] [] [])) info flags keys counts pointers multiplicities windows contents result [] [] }
+    requires { SoundCard (lent info flags.now keys.now counts.now pointers.now multiplicities.now windows.now contents.now) }
+    ensures { (port : Port) → Performs (λ c. perform_sound port c (request (Call.Rent o) [] [] [])) info (kept flags.now) (kept keys.now) (kept counts.now) (kept pointers.now) (kept multiplicities.now) (kept windows.now) (kept contents.now) result [] [] }
 {
     if HIGHEST_PRICE < o.price {
         return outcomes::refused(info, Refusal::PriceTooHigh);

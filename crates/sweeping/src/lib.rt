@@ -1,6 +1,6 @@
 // SWEEP on an audited card: the lowest waiting blocks are overwritten and become free, on one walk of the flags.
 ghost use Rattle.std.specs.Prelude.{◌*◌, ◌≡◌, [], length};
-ghost use Rattle.card.specs.Lent.{Performs, lent};
+ghost use Rattle.card.specs.Lent.{Performs, lent, kept, changed};
 ghost use Rattle.card.specs.SoundCard.{SoundCard};
 ghost use Rattle.card.specs.Session.{request, perform_sound};
 ghost use Rattle.sweeping.specs.Sweeping.{CanSweep, BlockSwept, LowestSwept};
@@ -47,8 +47,8 @@ pub fn sweep_sound(
     contents: &mut [u8],
     o: SweepOperands,
 ) -> Outcome
-    requires { SoundCard (lent info flags keys counts pointers multiplicities windows contents) }
-    ensures { (port : Port) → Performs (λ c. perform_sound port c (request (Call.Sweep o) [] [] [])) info flags keys counts pointers multiplicities windows contents result [] [] }
+    requires { SoundCard (lent info flags.old keys.now counts.now pointers.now multiplicities.now windows.now contents.old) }
+    ensures { (port : Port) → Performs (λ c. perform_sound port c (request (Call.Sweep o) [] [] [])) info (changed flags.old flags.new) (kept keys.now) (kept counts.now) (kept pointers.now) (kept multiplicities.now) (kept windows.now) (changed contents.old contents.new) result [] [] }
 {
     let swept = sweep_lowest(info.bytes, flags, contents, o.most as usize);
     Outcome {

@@ -1,6 +1,6 @@
 // READ and WRITE on an audited card.
 ghost use Rattle.std.specs.Prelude.{◌≡◌, [], ◌-◌, ◌≤◌, length, take, drop};
-ghost use Rattle.card.specs.Lent.{Performs, lent};
+ghost use Rattle.card.specs.Lent.{Performs, lent, kept, changed};
 ghost use Rattle.card.specs.SoundCard.{SoundCard};
 ghost use Rattle.card.specs.Session.{request, perform_sound};
 
@@ -29,8 +29,8 @@ pub fn read_sound(
     o: ReadOperands,
     out: &mut [u8],
 ) -> Outcome
-    requires { SoundCard (lent info flags keys counts pointers multiplicities windows contents) }
-    ensures { Performs (λ c. perform_sound port c (request (Call.Read o) [] out.old [])) info flags keys counts pointers multiplicities windows contents result out.new [] }
+    requires { SoundCard (lent info flags.now keys.now counts.now pointers.now multiplicities.now windows.old contents.now) }
+    ensures { Performs (λ c. perform_sound port c (request (Call.Read o) [] out.old [])) info (kept flags.now) (kept keys.now) (kept counts.now) (kept pointers.now) (kept multiplicities.now) (changed windows.old windows.new) (kept contents.now) result out.new [] }
 {
     let block = o.block as usize;
     let bytes = info.bytes;
@@ -76,8 +76,8 @@ pub fn write_sound(
     o: WriteOperands,
     input: &[u8],
 ) -> Outcome
-    requires { SoundCard (lent info flags keys counts pointers multiplicities windows contents) }
-    ensures { Performs (λ c. perform_sound port c (request (Call.Write o) input.now [] [])) info flags keys counts pointers multiplicities windows contents result [] [] }
+    requires { SoundCard (lent info flags.now keys.now counts.now pointers.now multiplicities.now windows.old contents.old) }
+    ensures { Performs (λ c. perform_sound port c (request (Call.Write o) input.now [] [])) info (kept flags.now) (kept keys.now) (kept counts.now) (kept pointers.now) (kept multiplicities.now) (changed windows.old windows.new) (changed contents.old contents.new) result [] [] }
 {
     let block = o.block as usize;
     let bytes = info.bytes;

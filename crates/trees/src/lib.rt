@@ -2,7 +2,7 @@
 // with the last of them the block is marked, and queued until its own pointers are taken off in turn.
 ghost use Rattle.std.specs.Prelude.{◌≡◌, true, ◌+◌, ◌≤◌, ◌<◌, length, take, get_or, replicate};
 ghost use Rattle.card.specs.Card.{points_to};
-ghost use Rattle.card.specs.Lent.{lent, at_entry};
+ghost use Rattle.card.specs.Lent.{lent};
 ghost use Rattle.card.specs.SoundCard.{SoundCard};
 ghost use Rattle.walks.specs.Walk.{Walkable, mark};
 ghost use Rattle.trees.specs.Release.{Copied, Indexed, Releasable, Lost, Releasing, Dropped, Loosened, Released};
@@ -148,10 +148,10 @@ pub fn freed_with(
     destination: u16,
     marks: &mut [u8; 4096],
 ) -> usize
-    requires sound_card { SoundCard (lent info flags keys counts pointers multiplicities windows contents) }
-    requires destination_value { points_to (lent info flags keys counts pointers multiplicities windows contents).public source destination ≡ true }
+    requires sound_card { SoundCard (lent info flags.now keys.now counts.now pointers.now multiplicities.now windows.now contents.now) }
+    requires destination_value { points_to (lent info flags.now keys.now counts.now pointers.now multiplicities.now windows.now contents.now).public source destination ≡ true }
     requires marks_value { marks.old ≡ replicate 4096 0 }
-    ensures { Freed (at_entry info flags keys counts pointers multiplicities windows contents).public source destination marks.new result }
+    ensures { Freed (lent info flags.now keys.now counts.now pointers.now multiplicities.now windows.now contents.now).public source destination marks.new result }
 {
     let used = info.used;
     let to = destination as usize;

@@ -1,7 +1,7 @@
 // The second list of the reach report: the sealed blocks whose write key would bring a chosen block within reach, found by one walk against
 // the pointers. A key does that if some block that leads on to the chosen one has it.
 ghost use Rattle.std.specs.Prelude.{◌≡◌, false, ◌<◌, length, take, set, replicate};
-ghost use Rattle.card.specs.Lent.{lent, at_entry};
+ghost use Rattle.card.specs.Lent.{lent, kept, changed};
 ghost use Rattle.card.specs.SoundCard.{SoundCard};
 ghost use Rattle.card.specs.Calls.{missing};
 ghost use Rattle.report.specs.Report.{unlocking_report};
@@ -146,10 +146,10 @@ fn find(
     chosen: u16,
     shut: &mut [u8; 4096],
 ) -> Found
-    requires sound_card { SoundCard (lent info flags keys counts pointers multiplicities windows contents) }
-    requires chosen_value { missing (lent info flags keys counts pointers multiplicities windows contents).public chosen ≡ false }
+    requires sound_card { SoundCard (lent info flags.now keys.now counts.now pointers.now multiplicities.now windows.now contents.now) }
+    requires chosen_value { missing (lent info flags.now keys.now counts.now pointers.now multiplicities.now windows.now contents.now).public chosen ≡ false }
     requires shut_value { shut.old ≡ replicate 4096 0 }
-    ensures { FoundOf words.now (at_entry info flags keys counts pointers multiplicities windows contents) chosen shut.new result }
+    ensures { FoundOf words.now (lent info flags.now keys.now counts.now pointers.now multiplicities.now windows.now contents.now) chosen shut.new result }
 {
     let mut marks = [0u8; 4096];
     let mut queue = [0u16; 4096];
@@ -191,8 +191,8 @@ fn unlocking_sound(
     chosen: u16,
     places: &mut [u16],
 ) -> Answer
-    requires { SoundCard (lent info flags keys counts pointers multiplicities windows contents) }
-    ensures { Reports (unlocking_sound words.now chosen) info flags keys counts pointers multiplicities windows contents places result }
+    requires { SoundCard (lent info flags.now keys.now counts.now pointers.now multiplicities.now windows.now contents.now) }
+    ensures { Reports (unlocking_sound words.now chosen) info (kept flags.now) (kept keys.now) (kept counts.now) (kept pointers.now) (kept multiplicities.now) (kept windows.now) (kept contents.now) (changed places.old places.new) result }
 {
     let gone = access::missing(info, flags, chosen as usize);
     let bad = reach::bad_keys(words);
@@ -240,7 +240,7 @@ pub fn unlocking(
     chosen: u16,
     places: &mut [u16],
 ) -> Answer
-    ensures { Reports (unlocking_report words.now chosen) info flags keys counts pointers multiplicities windows contents places result }
+    ensures { Reports (unlocking_report words.now chosen) info (kept flags.now) (kept keys.now) (kept counts.now) (kept pointers.now) (kept multiplicities.now) (kept windows.now) (kept contents.now) (changed places.old places.new) result }
 {
     match audit::audit(
         info,

@@ -6,6 +6,8 @@ use Rattle.outcomes.proofs.Returned.{refuses, finishes}
 use Rattle.access.proofs.Blocks.{missing_told, root_told, access_there, closed_told, flag_there, keys_there, windows_there}
 use Rattle.keys.proofs.Keys.{key_judged}
 use Rattle.keys.proofs.Changed.{replaces_key}
+use Rattle.std.proofs.Common.{ap}
+use mathlib.Core.Bool.{not}
 use Rattle.keys.proofs.key_sound.Goals as goal
 
 pub returns-then-missing : goal.returns-then-missing
@@ -37,4 +39,4 @@ close_windows-requires c = windows_there _ c.requires c.missing.ensures c.if-mis
 
 pub returns : goal.returns
 unfolding key_plan out_after places_after
-returns c = key_judged _ _ c.args.mode c.args.o (finishes _ _ _ c.done.ensures (missing_told _ _ c.missing.ensures c.if-missing.false, (root_told _ _ _ c.root_at_host.ensures c.if-root_at_host.false, (closed_told _ _ _ _ _ c.admits-opened.ensures c.if-not-opened.false, tt))) (replaces_key _ _ _ _ c.keyed_flags.ensures c.replace_key.ensures c.close_windows.ensures) refl refl)
+returns c = key_judged _ _ c.args.mode c.args.o (finishes _ _ _ c.done.ensures (missing_told _ _ c.missing.ensures c.if-missing.false, (root_told _ _ _ c.root_at_host.ensures c.if-root_at_host.false, (closed_told _ _ _ _ _ c.admits-opened.ensures (ap not c.if-not-opened.false), tt))) (replaces_key _ _ _ _ c.keyed_flags.ensures c.replace_key.ensures c.close_windows.ensures) refl refl)
