@@ -1,4 +1,6 @@
 // Changes of the tables that a pointer more or less and a freed block make.
+#![tactic(auto)]
+
 ghost use Rattle.std.specs.Prelude.{◌≡◌, ◌+◌, ◌*◌, ◌≤◌, ◌<◌, length, get_or};
 ghost use Rattle.card.specs.Lent.{changed};
 ghost use Rattle.card.specs.Pointers.{pointer};

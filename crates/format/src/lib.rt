@@ -1,4 +1,6 @@
 // FORMAT: a fresh card on the lent tables.
+#![tactic(auto)]
+
 ghost use Rattle.std.specs.Prelude.{◌≡◌, [], ◌++◌, ◌-◌, ◌≤◌, length, replicate};
 ghost use Rattle.card.specs.Lent.{Performs, changed};
 ghost use Rattle.card.specs.Contents.{zeros};

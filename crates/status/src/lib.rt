@@ -1,4 +1,6 @@
 // FREE, TICK and RENT on an audited card.
+#![tactic(auto)]
+
 ghost use Rattle.std.specs.Prelude.{◌*◌, ◌^◌, ◌≤◌, ◌<◌, ◌≡◌, []};
 ghost use Rattle.card.specs.Lent.{Performs, lent, kept};
 ghost use Rattle.card.specs.Rent.{highest_price, half_rounded, rounded, cents};

@@ -1,4 +1,6 @@
 // SWEEP on an audited card: the lowest waiting blocks are overwritten and become free, on one walk of the flags.
+#![tactic(auto)]
+
 ghost use Rattle.std.specs.Prelude.{◌*◌, ◌≡◌, [], length};
 ghost use Rattle.card.specs.Lent.{Performs, lent, kept, changed};
 ghost use Rattle.card.specs.SoundCard.{SoundCard};

@@ -1,5 +1,7 @@
 // Walks from block to block, along the pointers or against them, each pointer looked at once: a mark for each block that was come to, and a
 // queue of them: of those from its head on the pointers are still to be followed.
+#![tactic(auto)]
+
 ghost use Rattle.std.specs.Prelude.{◌≡◌, ◌+◌, ◌<◌, length, take, replicate};
 ghost use Rattle.walks.specs.Walk.{near_end, far_end, Walkable, Edge, Linked, mark, Walking, Followed, Spread, Entered};
 
