@@ -1,4 +1,6 @@
 // ALLOC and ALLOC_CONTIG: blocks are picked on one walk outward from the wanted one, or a run of them is found, then taken and pointed to.
+#![tactic(auto)]
+
 ghost use Rattle.std.specs.Prelude.{◌≡◌, [], length, ◌+◌, ◌≤◌};
 ghost use Rattle.card.specs.Lists.{numbers_from};
 ghost use Rattle.card.specs.Contents.{overwrite};

@@ -1,4 +1,6 @@
 // CREATE and DELETE: the calls that point to a block and that take a pointer away.
+#![tactic(auto)]
+
 ghost use Rattle.std.specs.Prelude.{◌≡◌, []};
 ghost use Rattle.card.specs.Lent.{Performs, lent, kept, changed};
 ghost use Rattle.card.specs.Card.{card, multiplicity};

@@ -1,5 +1,7 @@
 // The blocks that are freed with a pointer, found before anything is changed: of each block it is held how often pointers still lead to it, and
 // with the last of them the block is marked, and queued until its own pointers are taken off in turn.
+#![tactic(auto)]
+
 ghost use Rattle.std.specs.Prelude.{◌≡◌, true, ◌+◌, ◌≤◌, ◌<◌, length, take, get_or, replicate};
 ghost use Rattle.card.specs.Card.{points_to};
 ghost use Rattle.card.specs.Lent.{lent};

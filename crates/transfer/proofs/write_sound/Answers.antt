@@ -37,7 +37,7 @@ pub slice_bounds-copy-end : goal.slice_bounds-copy-end
 slice_bounds-copy-end c = omega (arith, lies _ c.requires c.missing.ensures c.if-missing.false)
 
 pub copy-requires : goal.copy-requires
-copy-requires c = let both = taken_size _ c.args.input.now _ (lies _ c.requires c.missing.ensures c.if-missing.false) c.if-bad.false in record { counts_len_bound = both.0; left_value = both.1 }
+copy-requires c = taken_size _ c.args.input.now _ (lies _ c.requires c.missing.ensures c.if-missing.false) c.if-bad.false
 
 pub open_window-requires : goal.open_window-requires
 open_window-requires c = windows_low _ c.requires c.missing.ensures c.if-missing.false
