@@ -22,7 +22,7 @@ passed c =
 
 pub list_run-requires : goal.list_run-requires
 list_run-requires c = let there = passed c in
-record { count_bound = run_narrow _ _ _ _ c.requires there.0 there.1; count_in_bounds = run_fits _ _ _ _ c.requires there.0 there.1 }
+    record { count_bound = run_narrow _ _ _ _ c.requires there.0 there.1; count_in_bounds = run_fits _ _ _ _ c.requires there.0 there.1 }
 
 pub slice_bounds-take_all-end : goal.slice_bounds-take_all-end
 slice_bounds-take_all-end c = places_there (chosen _ _ _ _ c.requires (passed (goal.at.slice_bounds-take_all-end c).After-list_run-arg-1).0 (passed (goal.at.slice_bounds-take_all-end c).After-list_run-arg-1).1 c.list_run.ensures)

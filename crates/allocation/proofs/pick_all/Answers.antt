@@ -1,16 +1,18 @@
 use Prim.Native.Nat.{◌-◌}
-use mathlib.Core.Logic.{⊎_elim}
 use native.Mathlib.Omega.{arith}
 use Rattle.allocation.proofs.Outward.{Moves, picked_start, picked_spread, next_narrow, moves_down, moves_up, picked_fewer, picked_passed, picked_taken, picked_whole}
 use Rattle.allocation.proofs.pick_all.Goals as goal
-use Rattle.allocation.proofs.pick_all.Goals.{Joined-block-low}
+use Rattle.allocation.proofs.pick_all.Goals.{Joined-block-low, then-block-low, else-block-low}
 
 -- Where the two ways of the first test meet, one end has moved.
 moved : (c : Joined-block-low) → (let loop = c.loop-taken in Moves loop.low loop.high c.next-block.result c.if-block-low.low c.if-block-low.high)
 moved c =
     let inv = c.loop-taken.invariant in
     let next = c.next-block.ensures in
-    ⊎_elim (λ w. moves_down inv next w.0.taken w.1 w.2) (λ w. moves_up inv next w.0.left w.1 w.2) c.if-block-low.branch
+    elim c.if-block-low.branch [
+      | then-block-low w ↦ moves_down inv next w.if-block-low.true w.low-is w.high-is
+      | else-block-low w ↦ moves_up inv next w.if-block-low.false w.low-is w.high-is
+    ]
 
 pub loop-taken-init : goal.loop-taken-init
 loop-taken-init c = search picked_start
@@ -31,16 +33,16 @@ pub bounds-places-taken : goal.bounds-places-taken
 bounds-places-taken c = omega (arith, c.loop-taken-test.true, c.loop-taken.invariant.ready.fits, c.loop-taken.invariant.same_places)
 
 pub loop-taken-smaller-then-free : goal.loop-taken-smaller-then-free
-loop-taken-smaller-then-free c = search (picked_fewer, moved)
+loop-taken-smaller-then-free c = search (picked_fewer, moved (goal.at.loop-taken-smaller-then-free c).Joined-block-low)
 
 pub loop-taken-preserved-then-free : goal.loop-taken-preserved-then-free
-loop-taken-preserved-then-free c = search (picked_taken, moved)
+loop-taken-preserved-then-free c = search (picked_taken, moved (goal.at.loop-taken-preserved-then-free c).Joined-block-low)
 
 pub loop-taken-smaller : goal.loop-taken-smaller
-loop-taken-smaller c = search (picked_fewer, moved)
+loop-taken-smaller c = search (picked_fewer, moved (goal.at.loop-taken-smaller c).Joined-block-low)
 
 pub loop-taken-preserved : goal.loop-taken-preserved
-loop-taken-preserved c = search (picked_passed, moved)
+loop-taken-preserved c = search (picked_passed, moved (goal.at.loop-taken-preserved c).Joined-block-low)
 
 pub returns : goal.returns
 returns c = search picked_whole

@@ -9,13 +9,13 @@ pub loop-taken-init : goal.loop-taken-init
 loop-taken-init c = search collected_start
 
 pub overflow_cast-pointer-in-loop-taken : goal.overflow_cast-pointer-in-loop-taken
-overflow_cast-pointer-in-loop-taken c = omega (arith, c.shared_slice_known-in-loop-taken-1.given c.loop-taken.true)
+overflow_cast-pointer-in-loop-taken c = omega (arith, c.shared_slice_known-in-loop-taken-1.given c.loop-taken.taken)
 
 pub overflow_add-pointer : goal.overflow_add-pointer
-overflow_add-pointer c = omega (arith, c.shared_slice_known-in-loop-taken-1.given c.loop-taken.true)
+overflow_add-pointer c = omega (arith, c.shared_slice_known-in-loop-taken-1.given c.loop-taken.taken)
 
 pub overflow_cast-number : goal.overflow_cast-number
-overflow_cast-number c = omega (arith, c.shared_slice_known-in-loop-taken-1.given c.loop-taken.true)
+overflow_cast-number c = omega (arith, c.shared_slice_known-in-loop-taken-1.given c.loop-taken.taken)
 
 pub take-requires : goal.take-requires
 take-requires c = can_take c.loop-taken.invariant c.loop-taken-test.true
