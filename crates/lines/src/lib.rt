@@ -1,5 +1,7 @@
 // Lines of text in a lent buffer: numbers in decimal with single spaces between.
 // Each function writes from a place on and returns the place behind what it wrote.
+#![tactic(auto)]
+
 ghost use Rattle.std.specs.Prelude.{◌≡◌, [], ◌∷◌, ◌+◌, ◌*◌, ◌≤◌, length, take};
 ghost use Rattle.card.specs.Session.{reported};
 ghost use Rattle.card.specs.Calls.{refusal_number};

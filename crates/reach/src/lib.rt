@@ -1,4 +1,6 @@
 // The first list of the reach report: the blocks within reach of some keys, found by one walk along the pointers.
+#![tactic(auto)]
+
 ghost use Rattle.std.specs.Prelude.{◌≡◌, [], ◌+◌, ◌*◌, ◌≤◌, ◌<◌, length, get_or};
 ghost use Rattle.card.specs.Card.{Card, card};
 ghost use Rattle.card.specs.Contents.{overwrite};

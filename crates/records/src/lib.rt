@@ -1,5 +1,7 @@
 // Decoding a call record: from a kind and the bytes of a body to the call and its port.
 // What is right is defined in specs/, after document 01, "Call records and the player", and the requests.
+#![tactic(auto)]
+
 ghost use Rattle.std.specs.Prelude.{◌≡◌, ◌≤◌, length};
 ghost use Rattle.kinds.specs.Kinds.{length_of};
 ghost use Rattle.decoding.specs.Decode.{read_with, write_with, alloc_operands, alloc_with, alloc_contig_with, create_with, delete_operands, delete_with, delete_tree_with, key_with, renew_with, decode_key, decode_call, decode_body};

@@ -1,4 +1,6 @@
 // DELETE_TREE: a pointer goes, and with it each block to which then no pointer leads but from blocks that go.
+#![tactic(auto)]
+
 ghost use Rattle.std.specs.Prelude.{◌≡◌, [], ◌*◌, ◌≤◌, length, get_or, replicate};
 ghost use Rattle.card.specs.Lists.{any};
 ghost use Rattle.card.specs.Pointers.{pointer};

@@ -1,5 +1,7 @@
 // The second list of the reach report: the sealed blocks whose write key would bring a chosen block within reach, found by one walk against
 // the pointers. A key does that if some block that leads on to the chosen one has it.
+#![tactic(auto)]
+
 ghost use Rattle.std.specs.Prelude.{◌≡◌, false, ◌<◌, length, take, set, replicate};
 ghost use Rattle.card.specs.Lent.{lent, kept, changed};
 ghost use Rattle.card.specs.SoundCard.{SoundCard};

@@ -1,0 +1,6 @@
+-- `records::decode_force` meets its contract.
+use Rattle.decoding.specs.DecodeLaws.{force}
+use Rattle.records.proofs.decode_force.Goals as goal
+
+pub returns : goal.returns
+returns c = force _ _ c.two-block.ensures

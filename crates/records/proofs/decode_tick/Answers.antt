@@ -1,0 +1,6 @@
+-- `records::decode_tick` meets its contract.
+use Rattle.decoding.specs.DecodeLaws.{tick}
+use Rattle.records.proofs.decode_tick.Goals as goal
+
+pub returns : goal.returns
+returns c = tick _ _ c.eight-seconds.ensures
