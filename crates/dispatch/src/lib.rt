@@ -1,4 +1,6 @@
 // A decoded call handed to its function, on an audited card: the one place where the calls are told apart.
+#![tactic(auto)]
+
 ghost use Rattle.card.specs.Lent.{Performs, lent, changed};
 ghost use Rattle.card.specs.SoundCard.{SoundCard};
 ghost use Rattle.card.specs.Session.{request, perform_sound};

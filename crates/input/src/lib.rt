@@ -1,4 +1,6 @@
 // An input of call records: the record that starts at a place of it, and how far a play of it has come.
+#![tactic(auto)]
+
 ghost use Rattle.std.specs.Prelude.{◌≤◌, length, ◌≡◌};
 ghost use Rattle.input.specs.Found.{FoundIs};
 ghost use Rattle.input.specs.Played.{is_went};

@@ -1,4 +1,6 @@
 // What C passes: the card's record as lent numbers, a port as a number, credentials and new keys as the bytes that records have.
+#![tactic(auto)]
+
 ghost use Rattle.std.specs.Prelude.{◌≡◌, length};
 ghost use Rattle.card.specs.declared.Port.TheVariants.{Host};
 ghost use Rattle.card.specs.declared.Call.TheVariants.{Force, Tick, Free, Audit, Rent, Sweep};
