@@ -1,4 +1,6 @@
 // A call performed on what C lends, and what C gets of it: a number, and a result where there is one.
+#![tactic(auto)]
+
 ghost use Rattle.std.specs.Prelude.{◌≡◌, [], length};
 ghost use Rattle.card.specs.Lent.{changed};
 ghost use Rattle.card.specs.Calls.{answer_number};

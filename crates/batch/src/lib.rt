@@ -1,5 +1,7 @@
 // Call records served on lent tables at the price of one audit: each answer goes into a lent buffer.
 // What comes of it is what auditing before every call makes of it.
+#![tactic(auto)]
+
 ghost use Rattle.std.specs.Prelude.{◌+◌, ◌*◌, ◌≤◌, length, take, drop, ◌≡◌};
 ghost use Rattle.card.specs.Lent.{lent, kept, changed};
 ghost use Rattle.card.specs.Soundness.{verdict};

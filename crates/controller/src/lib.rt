@@ -1,4 +1,6 @@
 // Performs a decoded call at a port: audits the card, refuses 1 or 2, or hands the call on.
+#![tactic(auto)]
+
 ghost use Rattle.std.specs.Prelude.{◌≡◌};
 ghost use Rattle.card.specs.Lent.{Performs, lent, changed};
 ghost use Rattle.card.specs.Soundness.{verdict};

@@ -1,4 +1,6 @@
 // Plays call records on lent tables: decodes each, performs it, and writes its line.
+#![tactic(auto)]
+
 ghost use Rattle.std.specs.Prelude.{◌+◌, ◌≤◌, ◌<◌, length};
 ghost use Rattle.card.specs.Lent.{kept, changed};
 ghost use Rattle.lines.specs.Lines.{line, line_room};

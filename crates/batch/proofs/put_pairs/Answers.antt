@@ -1,0 +1,24 @@
+use native.Mathlib.Omega.{arith}
+use Prim.Native.Nat.{◌-◌}
+use mathlib.Core.Path.{refl}
+use lib.ListN.{length, take}
+use Rattle.lines.proofs.WrittenPart.{part_none}
+use Rattle.serving.specs.Serve.{pairs}
+use Rattle.batch.proofs.AnswerBytesLaws.{pairing_more, pairing_done}
+use Rattle.batch.proofs.put_pairs.Goals as goal
+
+pub loop-i-init : goal.loop-i-init
+unfolding pairs
+loop-i-init c = part_none 2 (length c.args.values.now) (λ k. pairs (take k c.args.values.now)) _ _ refl c.requires
+
+pub put_big_endian-next-requires : goal.put_big_endian-next-requires
+put_big_endian-next-requires c = omega (arith, c.loop-i.invariant.room, c.loop-i-test.true)
+
+pub loop-i-preserved : goal.loop-i-preserved
+loop-i-preserved c = search pairing_more
+
+pub shape_of-to : goal.shape_of-to
+shape_of-to c = c.loop-i.invariant.kept
+
+pub returns : goal.returns
+returns c = search pairing_done
