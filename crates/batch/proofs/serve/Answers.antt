@@ -8,8 +8,11 @@ use Rattle.batch.proofs.serve.Goals as goal
 pub loop-stop-init : goal.loop-stop-init
 loop-stop-init c = record { tables = same_tables _ _ _ _ _ _ _; same_answers = refl; serving = serving_none c.args.wire _ c.args.input.now c.args.answers.now }
 
-pub serve_turn-turned-requires : goal.serve_turn-turned-requires
-serve_turn-turned-requires c = (c.audit-found.ensures ∙ sym c.loop-stop.invariant.serving.judged, search serving_at)
+pub serve_turn-turned-requires-clause-fact_1 : goal.serve_turn-turned-requires-clause-fact_1
+serve_turn-turned-requires-clause-fact_1 c = c.audit-found.ensures ∙ sym c.loop-stop.invariant.serving.judged
+
+pub serve_turn-turned-requires-clause-fact_3 : goal.serve_turn-turned-requires-clause-fact_3
+serve_turn-turned-requires-clause-fact_3 c = search serving_at
 
 pub overflow_add-count : goal.overflow_add-count
 overflow_add-count c = omega (arith, c.loop-stop.invariant.serving.counted, c.loop-stop.invariant.serving.within)
