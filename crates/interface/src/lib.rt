@@ -1,6 +1,8 @@
 // The functions that C links: the card's record as a lent slice of numbers, tables and buffers as slices,
 // enums as numbers, credentials and new keys as bytes. Each makes a call of its operands and performs it, as a call record is.
 // include/negvask.h describes them.
+#![tactic(auto)]
+
 ghost use Rattle.std.specs.Prelude.{◌≡◌, []};
 ghost use Rattle.card.specs.Lent.{kept, changed};
 ghost use Rattle.adapter.specs.Effects.{format_effect, reach_effect, unlocking_effect, Effects, EffectsGiving, EffectsLent, EffectsListing};
