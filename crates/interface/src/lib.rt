@@ -1,4 +1,4 @@
-// The functions that C links: the card's record as a lent slice of numbers, tables and buffers as slices,
+// The functions behind those that C links, which `interface_c` exports: the card's record as a lent slice of numbers, tables and buffers as slices,
 // enums as numbers, credentials and new keys as bytes. Each makes a call of its operands and performs it, as a call record is.
 // include/negvask.h describes them.
 #![tactic(auto)]
@@ -16,8 +16,7 @@ use parameters::Wire;
 // ---- the calls, by their operands
 
 // READ: B bytes of the block into `out`.
-#[unsafe(no_mangle)]
-pub extern "C" fn negvask_read(
+pub fn negvask_read(
     info: &mut [u64],
     flags: &mut [u8],
     keys: &mut [u64],
@@ -54,8 +53,7 @@ pub extern "C" fn negvask_read(
 }
 
 // WRITE: `bytes` into the block.
-#[unsafe(no_mangle)]
-pub extern "C" fn negvask_write(
+pub fn negvask_write(
     info: &mut [u64],
     flags: &mut [u8],
     keys: &mut [u64],
@@ -90,8 +88,7 @@ pub extern "C" fn negvask_write(
 }
 
 // ALLOC: `count` blocks below the block, their numbers into `places`.
-#[unsafe(no_mangle)]
-pub extern "C" fn negvask_alloc(
+pub fn negvask_alloc(
     info: &mut [u64],
     flags: &mut [u8],
     keys: &mut [u64],
@@ -129,8 +126,7 @@ pub extern "C" fn negvask_alloc(
 }
 
 // ALLOC_CONTIG: `count` adjoining blocks below the block, their numbers into `places`.
-#[unsafe(no_mangle)]
-pub extern "C" fn negvask_alloc_contig(
+pub fn negvask_alloc_contig(
     info: &mut [u64],
     flags: &mut [u8],
     keys: &mut [u64],
@@ -168,8 +164,7 @@ pub extern "C" fn negvask_alloc_contig(
 }
 
 // CREATE: a pointer from the source to the destination, each with its credential.
-#[unsafe(no_mangle)]
-pub extern "C" fn negvask_create(
+pub fn negvask_create(
     info: &mut [u64],
     flags: &mut [u8],
     keys: &mut [u64],
@@ -204,8 +199,7 @@ pub extern "C" fn negvask_create(
 }
 
 // DELETE: the pointer from the source to the destination; `value` 1 if that freed the destination, else 0.
-#[unsafe(no_mangle)]
-pub extern "C" fn negvask_delete(
+pub fn negvask_delete(
     info: &mut [u64],
     flags: &mut [u8],
     keys: &mut [u64],
@@ -239,8 +233,7 @@ pub extern "C" fn negvask_delete(
 }
 
 // DELETE_TREE: the pointer from the source to the destination wholly, and all blocks that are left without one; `value` how many were freed.
-#[unsafe(no_mangle)]
-pub extern "C" fn negvask_delete_tree(
+pub fn negvask_delete_tree(
     info: &mut [u64],
     flags: &mut [u8],
     keys: &mut [u64],
@@ -274,8 +267,7 @@ pub extern "C" fn negvask_delete_tree(
 }
 
 // KEY_READ: the read key of the block replaced.
-#[unsafe(no_mangle)]
-pub extern "C" fn negvask_key_read(
+pub fn negvask_key_read(
     info: &mut [u64],
     flags: &mut [u8],
     keys: &mut [u64],
@@ -309,8 +301,7 @@ pub extern "C" fn negvask_key_read(
 }
 
 // KEY_WRITE: the write key of the block replaced.
-#[unsafe(no_mangle)]
-pub extern "C" fn negvask_key_write(
+pub fn negvask_key_write(
     info: &mut [u64],
     flags: &mut [u8],
     keys: &mut [u64],
@@ -344,8 +335,7 @@ pub extern "C" fn negvask_key_write(
 }
 
 // RENEW: the window for the mode, by a key.
-#[unsafe(no_mangle)]
-pub extern "C" fn negvask_renew(
+pub fn negvask_renew(
     info: &mut [u64],
     flags: &mut [u8],
     keys: &mut [u64],
@@ -379,8 +369,7 @@ pub extern "C" fn negvask_renew(
 }
 
 // FORCE: both windows of the block closed.
-#[unsafe(no_mangle)]
-pub extern "C" fn negvask_force(
+pub fn negvask_force(
     info: &mut [u64],
     flags: &mut [u8],
     keys: &mut [u64],
@@ -411,8 +400,7 @@ pub extern "C" fn negvask_force(
 }
 
 // TICK: `value` the new time.
-#[unsafe(no_mangle)]
-pub extern "C" fn negvask_tick(
+pub fn negvask_tick(
     info: &mut [u64],
     flags: &mut [u8],
     keys: &mut [u64],
@@ -443,8 +431,7 @@ pub extern "C" fn negvask_tick(
 }
 
 // FREE: `value` the number of free blocks.
-#[unsafe(no_mangle)]
-pub extern "C" fn negvask_count_free(
+pub fn negvask_count_free(
     info: &mut [u64],
     flags: &mut [u8],
     keys: &mut [u64],
@@ -474,8 +461,7 @@ pub extern "C" fn negvask_count_free(
 }
 
 // AUDIT: 0, or the refusal 1 or 2.
-#[unsafe(no_mangle)]
-pub extern "C" fn negvask_audit(
+pub fn negvask_audit(
     info: &mut [u64],
     flags: &mut [u8],
     keys: &mut [u64],
@@ -505,8 +491,7 @@ pub extern "C" fn negvask_audit(
 }
 
 // RENT: `cents` what the total comes to at the price.
-#[unsafe(no_mangle)]
-pub extern "C" fn negvask_rent(
+pub fn negvask_rent(
     info: &mut [u64],
     flags: &mut [u8],
     keys: &mut [u64],
@@ -537,8 +522,7 @@ pub extern "C" fn negvask_rent(
 }
 
 // SWEEP: the lowest waiting blocks overwritten and made free, at most so many; `swept` how many were.
-#[unsafe(no_mangle)]
-pub extern "C" fn negvask_sweep(
+pub fn negvask_sweep(
     info: &mut [u64],
     flags: &mut [u8],
     keys: &mut [u64],
@@ -571,8 +555,7 @@ pub extern "C" fn negvask_sweep(
 // ---- FORMAT
 
 // FORMAT: a fresh card on the lent tables.
-#[unsafe(no_mangle)]
-pub extern "C" fn negvask_format(
+pub fn negvask_format(
     info: &mut [u64],
     flags: &mut [u8],
     keys: &mut [u64],
@@ -610,8 +593,7 @@ pub extern "C" fn negvask_format(
 // ---- the reach report
 
 // The blocks within reach of the given keys, into `places`; `value` how many.
-#[unsafe(no_mangle)]
-pub extern "C" fn negvask_reach(
+pub fn negvask_reach(
     info: &[u64],
     flags: &[u8],
     keys: &[u64],
@@ -645,8 +627,7 @@ pub extern "C" fn negvask_reach(
 }
 
 // The sealed blocks whose write key, added alone to the given keys, would bring the block within reach, into `places`; `value` how many.
-#[unsafe(no_mangle)]
-pub extern "C" fn negvask_unlocking(
+pub fn negvask_unlocking(
     info: &[u64],
     flags: &[u8],
     keys: &[u64],
@@ -684,8 +665,7 @@ pub extern "C" fn negvask_unlocking(
 // ---- call records
 
 // One call record: its kind, and its body or a longer part of an input that starts with it.
-#[unsafe(no_mangle)]
-pub extern "C" fn negvask_serve(
+pub fn negvask_serve(
     info: &mut [u64],
     flags: &mut [u8],
     keys: &mut [u64],
@@ -740,8 +720,7 @@ fn stop_number(stop: Stop) -> u32
 }
 
 // The records of an input that arrives at a port, served into `answers` with one audit: how many, and how far both went.
-#[unsafe(no_mangle)]
-pub extern "C" fn negvask_batch(
+pub fn negvask_batch(
     info: &mut [u64],
     flags: &mut [u8],
     keys: &mut [u64],
