@@ -12,7 +12,7 @@ use lib.Seq.{drop-cons, get_or-set_same, get_or-set_other, get_or-take, length-t
 use borrow.Author.Tests.{le-leb, ltb-true, eq-eqb, ne_eqb, eqb-true, eqb-false}
 use Rattle.card.specs.Lists.{all}
 use Rattle.laws.specs.ListsLaws.{not_cases, and_left, and_right, absurd_test, Holds, every_true}
-use Rattle.card.specs.Pointers.{source, destination, total, pointers_to}
+use Rattle.card.specs.Pointers.{destination, total, pointers_to}
 use Rattle.card.specs.Soundness.{multiplicity_right}
 use Rattle.card.specs.declared.Info.{Info}
 use Rattle.audit.specs.Walks.{PointersFit, link_clauses, link_right, passes, PointersWalked}

@@ -1,5 +1,6 @@
 // The types of the storage card: its record, credentials, calls, refusals and answers.
 // What they mean is defined in specs/, after document 01 and the requests of document 02.
+#![tactic(auto)]
 
 // The limits of document 01.
 

@@ -9,7 +9,7 @@ use lib.Dec.{eqb, ltb}
 use lib.ListN.{length, set}
 use borrow.Author.Tests.{eqb-true, eqb-false, ltb-false, leb-false, not-true, not-false}
 use Rattle.laws.specs.ListsLaws.{or_false_left, or_false_right, all_head, all_tail, all_both}
-use Rattle.card.specs.Pointers.{pointer, source, destination}
+use Rattle.card.specs.Pointers.{pointer}
 use Rattle.card.specs.Card.{Public, Card, flag, allocated_flag, free_flag, allocated, free, is_root, free_blocks, longest_interval, count, multiplicity, points_to, has_pointers}
 use Rattle.card.specs.Soundness.{time_limit}
 use Rattle.card.specs.SoundCard.{SoundCard}

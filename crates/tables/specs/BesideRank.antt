@@ -1,5 +1,5 @@
 -- Laws of insertion, removal and another number beside ascending pointers, by the rank of a pointer. The pointers themselves are an instance.
-use Rattle.std.specs.Prelude.{ℕ, zero, suc, ◌+◌, ◌≤◌, ◌<◌, ◌≡◌, refl, Bool, true, ◌||◌, cond, List, [], ◌∷◌, ◌++◌, take, drop, get_or, set}
+use Rattle.std.specs.Prelude.{ℕ, zero, suc, ◌≤◌, ◌<◌, ◌≡◌, refl, Bool, true, ◌||◌, cond, List, [], ◌∷◌, ◌++◌, take, drop, get_or, set}
 use Rattle.std.proofs.Common.{ap, subst, le_of_suc-le-suc, not-suc-le-zero, arith, take-append-drop}
 use Rattle.std.proofs.Math.Logic.{⊎_elim}
 use Rattle.std.proofs.Math.Bool.{false}

@@ -1,5 +1,5 @@
 -- From a sound card to what the functions on its pointers ask, and to the bound of its counts.
-use Rattle.std.specs.Prelude.{ℕ, ◌*◌, ◌≤◌, ◌<◌, ◌≡◌, true, false, eqb, leb, length}
+use Rattle.std.specs.Prelude.{ℕ, ◌*◌, ◌≤◌, ◌<◌, ◌≡◌, eqb, leb, length}
 use Rattle.std.proofs.Common.{ap, arith, length-take-le, le-leb}
 use Rattle.laws.specs.ListsLaws.{all_map}
 use Rattle.card.specs.Pointers.{destination, pointers_to}

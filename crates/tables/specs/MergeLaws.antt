@@ -1,6 +1,6 @@
 -- Laws of several pointers put into an ascending list with a number beside each: the order of insertion, and the last of the result.
 -- What holds of any numbers beside the pointers holds of the pointers themselves.
-use Rattle.std.specs.Prelude.{ℕ, zero, suc, ◌+◌, ◌≤◌, ◌<◌, ◌≡◌, refl, ◌⊎◌, Bool, true, false, ◌||◌, cond, List, [], ◌∷◌, ◌++◌, eqb, ltb, length, take, get_or}
+use Rattle.std.specs.Prelude.{ℕ, zero, suc, ◌+◌, ◌≤◌, ◌<◌, ◌≡◌, refl, Bool, true, false, ◌||◌, cond, List, [], ◌∷◌, ◌++◌, eqb, ltb, length, take, get_or}
 use Rattle.std.proofs.Common.{sym, ap, ◌∙◌, ⊎_elim, le_of_suc-le-suc, not-suc-le-zero, arith, lt-ltb, le-ltb, ltb-true}
 use Rattle.card.specs.Lists.{all, any}
 use Rattle.laws.specs.ListsLaws.{or_left, or_right, or_false, or_false_left, or_false_right, or_cases, all_head, all_tail, all_cons, all_map, absurd_test, below_or_not}

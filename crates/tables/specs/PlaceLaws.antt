@@ -1,5 +1,5 @@
 -- The place of a pointer in use: what stands beside it, and what a store, an insertion or a removal there is.
-use Rattle.std.specs.Prelude.{ℕ, ◌+◌, ◌≤◌, ◌<◌, ◌≡◌, true, false, List, ◌++◌, ltb, eqb, length, take, drop, get_or, set}
+use Rattle.std.specs.Prelude.{ℕ, ◌≤◌, ◌<◌, ◌≡◌, true, false, List, ◌++◌, ltb, eqb, length, take, drop, get_or, set}
 use Rattle.std.proofs.Math.Path.{sym}
 use Rattle.std.proofs.Common.{◌∙◌, arith, ltb-true, get_or-take, length-take-le}
 use Rattle.laws.specs.ListsLaws.{and_left}

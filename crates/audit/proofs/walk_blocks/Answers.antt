@@ -1,7 +1,6 @@
 use native.Mathlib.Omega.{arith}
-use Prim.Native.Nat.{◌-◌}
 use mathlib.Core.Path.{ap, sym, ◌∙◌}
-use Rattle.audit.specs.Walks.{block_sound, judged}
+use Rattle.audit.specs.Walks.{judged}
 use Rattle.audit.proofs.Passing.{passed_none, passed_more, passed_fault, passed_whole}
 use Rattle.audit.proofs.walk_blocks.Goals as goal
 

@@ -1,6 +1,4 @@
 use native.Mathlib.Omega.{arith}
-use Prim.Native.Nat.{◌-◌}
-use mathlib.Core.Logic.{⊎_elim}
 use Rattle.audit.proofs.Tallying.{walk_none, placed, room, walk_more, walk_fault, walk_whole}
 use Rattle.audit.proofs.walk_pointers.Goals as goal
 use Rattle.audit.proofs.walk_pointers.Goals.{else-walk-test, then-walk-test+else-link_right-least}

@@ -1,5 +1,3 @@
-use Prim.Native.Nat.{◌-◌}
-use mathlib.Core.Logic.{⊎_elim}
 use Rattle.audit.proofs.Passing.{remaining_start, remaining_more, remaining_fault, remaining_whole}
 use Rattle.audit.proofs.walk_unused.Goals as goal
 use Rattle.audit.proofs.walk_unused.Goals.{else-walk-test, then-walk-test+else-pointers-i}

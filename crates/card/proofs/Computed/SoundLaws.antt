@@ -8,7 +8,6 @@ use borrow.Author.Tests.{eqb-true, eq-eqb, lt-ltb, ltb-true, le-leb, leb-true, l
 use Rattle.card.specs.Card.{Public, Card, allocated_flag, key_flag, waiting_flag, free_flag, flag, allocated, is_root, window_end, count, key_high}
 use Rattle.card.specs.Soundness.{range_clauses, ranges, length_clauses, lengths, shape_clauses, shape, flags_low, root_allocated, key_zero, unallocated_empty, absent_key_zero, count_right, pointed_to, window_in_time, total_in_time, sound_clauses, sound}
 use Rattle.card.specs.SoundCard.{InRanges, HasLengths, Shaped, KeyZero, Empty, Consistent, SoundCard}
-use Rattle.card.specs.Reach.{pointed}
 use Rattle.card.specs.declared.Mode.{Mode}
 use Rattle.card.specs.declared.Mode.TheVariants.{Reading, Writing}
 use Rattle.card.proofs.Computed.TestLaws.{and_left, and_right, and_true, or_false, or_else, every_true, true_every, all_below_true, true_all_below, or_false_left, or_false_right}

@@ -1,4 +1,3 @@
-use Prim.Native.Nat.{◌-◌}
 use Rattle.tables.proofs.Overlay.{overlaid_start, overlaid_more, overlaid_whole}
 use Rattle.tables.proofs.copy.Goals as goal
 

@@ -1,4 +1,3 @@
-use Prim.Native.Nat.{◌-◌}
 use mathlib.Core.Bool.{true, false}
 use Rattle.tables.proofs.Counted.{free_start, free_more, free_whole}
 use Rattle.tables.proofs.count_free.Goals as goal

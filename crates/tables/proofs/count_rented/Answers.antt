@@ -1,4 +1,3 @@
-use Prim.Native.Nat.{◌-◌}
 use mathlib.Core.Bool.{true, false}
 use Rattle.tables.proofs.Counted.{rented_start, rented_more, rented_whole}
 use Rattle.tables.proofs.count_rented.Goals as goal

@@ -1,4 +1,3 @@
-use Prim.Native.Nat.{◌-◌}
 use lib.ListN.{length-set}
 use Rattle.tables.proofs.Shift.{lowered_start, lowered_more, removed_at}
 use Rattle.tables.proofs.lower.Goals as goal

@@ -1,5 +1,4 @@
 -- `tables::merge` meets its contract: what is left to do are the first `old` pointers in use and the first `new` added ones. The measure is `new`.
-use Prim.Native.Nat.{◌-◌}
 use Rattle.tables.proofs.Merging.{BothMerging}
 use Rattle.tables.proofs.merge.Given as goal
 

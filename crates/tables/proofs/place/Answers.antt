@@ -1,4 +1,3 @@
-use Prim.Native.Nat.{◌-◌}
 use native.Mathlib.Omega.{arith}
 use Rattle.tables.proofs.Search.{between_start, between_above, between_below}
 use Rattle.tables.proofs.place.Goals as goal
