@@ -15,7 +15,7 @@ ghost use Rattle.cardplay.specs.Pieces.{PlaysInPieces};
 
 use card::Info;
 use input::Stop;
-use std::io::Read;
+use std::io::{Read, Write};
 
 // Moves the bytes from a place to the end of a buffer's filled part to the front. Returns how many there are.
 fn keep(buffer: &mut [u8], from: usize, filled: usize) -> usize
@@ -32,13 +32,14 @@ fn keep(buffer: &mut [u8], from: usize, filled: usize) -> usize
     i
 }
 
-// Reads once into the buffer behind its filled part. Returns where that part then ends: where it did at the end of the input.
-fn fill(rt: &impl Input, buffer: &mut [u8], filled: usize) -> usize
+// Reads once into the buffer behind its filled part. Returns where that part then ends: where it did at the end of the input,
+// and where nothing could be read.
+fn fill(from: &mut impl Read, buffer: &mut [u8], filled: usize) -> usize
     requires { filled < length buffer.old }
     ensures { GrownIs buffer.old filled buffer.new result }
 {
     let rest = &mut buffer[filled..];
-    match rt.reader().read(rest) {
+    match from.read(rest) {
         Ok(got) => filled + got,
         Err(_) => filled,
     }
@@ -128,13 +129,13 @@ fn needs_input(stop: Stop) -> bool
 }
 
 // Reads on if asked to.
-fn read_on(rt: &impl Input, wanted: bool, buffer: &mut [u8], filled: usize) -> usize
+fn read_on(from: &mut impl Read, wanted: bool, buffer: &mut [u8], filled: usize) -> usize
     requires fact_1 { filled ≤ length buffer.old }
     requires fact_2 { (wanted ≡ true → filled < length buffer.old) }
     ensures { ReadIs wanted buffer.old filled buffer.new result }
 {
     if wanted {
-        fill(rt, buffer, filled)
+        fill(from, buffer, filled)
     } else {
         filled
     }
@@ -156,7 +157,8 @@ struct Progress {
 
 // Plays the filled part of the buffer, writes the lines, and reads on where the play stopped for want of input.
 fn play_on(
-    rt: &(impl Input + Print),
+    from: &mut impl Read,
+    to: &mut impl Write,
     info: Info,
     flags: &mut [u8],
     keys: &mut [u64],
@@ -192,8 +194,8 @@ fn play_on(
     let stop = played.stop;
     let left = played.filled;
     let written = played.written;
-    let wrote = rt.write_all(&output[..written]).is_ok();
-    let end = read_on(rt, wrote & needs_input(stop), buffer, left);
+    let wrote = to.write_all(&output[..written]).is_ok();
+    let end = read_on(from, wrote & needs_input(stop), buffer, left);
     let on = wrote & (is_full(stop) | (left < end));
     let after = played.info;
     Progress {
@@ -206,10 +208,11 @@ fn play_on(
     }
 }
 
-// Plays standard input to its end. A proved loop has to end, and nothing says that an input does:
+// Plays what is read to its end, and writes the lines. A proved loop has to end, and nothing says that an input does:
 // so this one also ends after 2^64 - 1 turns or 2^63 records, which no run reaches.
 fn play_all(
-    rt: &(impl Input + Print),
+    from: &mut impl Read,
+    to: &mut impl Write,
     info: Info,
     flags: &mut [u8],
     keys: &mut [u64],
@@ -235,7 +238,8 @@ fn play_all(
     while progress.on & (turns > 0) & (progress.records < 9223372036854775808) {
         let left = progress.info;
         progress = play_on(
-            rt,
+            from,
+            to,
             left,
             flags,
             keys,
@@ -254,10 +258,11 @@ fn play_all(
     progress
 }
 
-// Formats a card of N 16, R 1 and B 512 on the lent tables, and plays standard input on it.
+// Formats a card of N 16, R 1 and B 512 on the lent tables, and plays what is read on it.
 // The tables have to be blank and of the card's lengths; what record they had before FORMAT does not matter.
 fn play_fresh(
-    rt: &(impl Input + Print),
+    from: &mut impl Read,
+    to: &mut impl Write,
     flags: &mut [u8],
     keys: &mut [u64],
     counts: &mut [u32],
@@ -284,7 +289,8 @@ fn play_fresh(
     );
     let fresh = formatted.info;
     play_all(
-        rt,
+        from,
+        to,
         fresh,
         flags,
         keys,
@@ -318,16 +324,17 @@ fn put_end(output: &mut [u8], records: u64, stop: Stop) -> usize
 }
 
 // Writes the last line, unless the lines before it could not be written.
-fn write_end(rt: &impl Print, end: Progress) {
+fn write_end(to: &mut impl Write, end: Progress) {
     let stop = end.stop;
     if end.wrote {
         let mut output = [0u8; 2048];
         let last = put_end(&mut output, end.records, stop);
-        let _ = rt.write_all(&output[..last]);
+        let _ = to.write_all(&output[..last]);
     }
 }
 
 fn main(rt: HostRuntime) {
+    let mut to = rt.stdout();
     let mut flags = [0u8; 16];
     let mut keys = [0u64; 64];
     let mut counts = [0u32; 16];
@@ -336,7 +343,8 @@ fn main(rt: HostRuntime) {
     let mut windows = [0u64; 32];
     let mut contents = [0u8; 8192];
     let end = play_fresh(
-        &rt,
+        &mut rt.stdin(),
+        &mut to,
         &mut flags,
         &mut keys,
         &mut counts,
@@ -345,5 +353,5 @@ fn main(rt: HostRuntime) {
         &mut windows,
         &mut contents,
     );
-    write_end(&rt, end);
+    write_end(&mut to, end);
 }
