@@ -1,4 +1,6 @@
 // Audits good and damaged cards of N 16, B 512 and P 32. Writes a line for each: its name, then 0 if sound, 1 if misshapen, 2 if unsound.
+#![tactic(auto)]
+
 use card::{Info, Verdict};
 
 // The table that is lent without its elements.
@@ -31,22 +33,23 @@ enum Fault {
     Fourth(u32, u16, usize, u32),
 }
 
-fn write_verdict(name: &[u8], verdict: Verdict) {
-    io::write_all(1, name);
+fn write_verdict(rt: &impl Print, name: &[u8], verdict: Verdict) {
+    let _ = rt.write_all(name);
     match verdict {
         Verdict::Sound => {
-            io::write_all(1, b" 0\n");
+            let _ = rt.write_all(b" 0\n");
         }
         Verdict::Misshapen => {
-            io::write_all(1, b" 1\n");
+            let _ = rt.write_all(b" 1\n");
         }
         Verdict::Unsound => {
-            io::write_all(1, b" 2\n");
+            let _ = rt.write_all(b" 2\n");
         }
     }
 }
 
 fn show(
+    rt: &impl Print,
     name: &[u8],
     info: Info,
     flags: &[u8],
@@ -58,6 +61,7 @@ fn show(
     contents: &[u8],
 ) {
     write_verdict(
+        rt,
         name,
         audit::audit(
             info,
@@ -74,6 +78,7 @@ fn show(
 
 // Audits the tables with contents of zeros.
 fn lend(
+    rt: &impl Print,
     name: &[u8],
     info: Info,
     flags: &[u8; 16],
@@ -85,6 +90,7 @@ fn lend(
 ) {
     let contents = [0u8; 8192];
     show(
+        rt,
         name,
         info,
         flags,
@@ -100,6 +106,7 @@ fn lend(
 // The good card with one fault: root 0, block 1 with both keys, block 2 without, block 6 waiting, pointers
 // 0 to 1, 0 to 2, made twice, and 1 to 2, and block 0's read window at its latest end.
 fn judge(
+    rt: &impl Print,
     name: &[u8],
     blocks: usize,
     roots: usize,
@@ -175,6 +182,7 @@ fn judge(
         }
     }
     lend(
+        rt,
         name,
         info,
         &flags,
@@ -187,118 +195,146 @@ fn judge(
 }
 
 // The good card's own record and one store.
-fn damage(name: &[u8], fault: Fault) {
-    judge(name, 16, 1, 512, 3, 100, fault);
+fn damage(rt: &impl Print, name: &[u8], fault: Fault) {
+    judge(rt, name, 16, 1, 512, 3, 100, fault);
 }
 
 // Clauses of soundness on blocks.
-fn faults_of_blocks() {
-    damage(b"good", Fault::Nothing);
-    damage(b"zero-key", Fault::Key(4, 0));
-    damage(b"allocated-with-flag-8", Fault::Flag(0, 9));
-    damage(b"flags-above-8", Fault::Flag(0, 17));
-    damage(b"root-unallocated", Fault::Flag(0, 0));
-    damage(b"free-with-flags", Fault::Flag(5, 2));
-    damage(b"free-with-key", Fault::Key(20, 1));
-    damage(b"free-with-count", Fault::Count(5, 1));
-    damage(b"free-with-window", Fault::Window(11, 1));
-    damage(b"absent-read-high", Fault::Key(8, 1));
-    damage(b"absent-read-low", Fault::Key(9, 1));
-    damage(b"absent-write-high", Fault::Key(10, 1));
-    damage(b"absent-write-low", Fault::Key(11, 1));
+fn faults_of_blocks(rt: &impl Print) {
+    damage(rt, b"good", Fault::Nothing);
+    damage(rt, b"zero-key", Fault::Key(4, 0));
+    damage(rt, b"allocated-with-flag-8", Fault::Flag(0, 9));
+    damage(rt, b"flags-above-8", Fault::Flag(0, 17));
+    damage(rt, b"root-unallocated", Fault::Flag(0, 0));
+    damage(rt, b"free-with-flags", Fault::Flag(5, 2));
+    damage(rt, b"free-with-key", Fault::Key(20, 1));
+    damage(rt, b"free-with-count", Fault::Count(5, 1));
+    damage(rt, b"free-with-window", Fault::Window(11, 1));
+    damage(rt, b"absent-read-high", Fault::Key(8, 1));
+    damage(rt, b"absent-read-low", Fault::Key(9, 1));
+    damage(rt, b"absent-write-high", Fault::Key(10, 1));
+    damage(rt, b"absent-write-low", Fault::Key(11, 1));
 }
 
 // A waiting block has flag 8 alone and is no root.
-fn faults_of_waiting_flags() {
-    damage(b"none-waiting", Fault::Flag(6, 0));
-    damage(b"two-waiting", Fault::Flag(5, 8));
-    damage(b"last-waiting", Fault::Flag(15, 8));
-    damage(b"waiting-allocated", Fault::Flag(6, 9));
-    damage(b"waiting-read-flag", Fault::Flag(6, 10));
-    damage(b"waiting-write-flag", Fault::Flag(6, 12));
-    damage(b"waiting-both-flags", Fault::Flag(6, 14));
-    damage(b"waiting-flag-16", Fault::Flag(6, 16));
-    damage(b"waiting-flag-24", Fault::Flag(6, 24));
-    damage(b"waiting-root", Fault::Flag(0, 8));
+fn faults_of_waiting_flags(rt: &impl Print) {
+    damage(rt, b"none-waiting", Fault::Flag(6, 0));
+    damage(rt, b"two-waiting", Fault::Flag(5, 8));
+    damage(rt, b"last-waiting", Fault::Flag(15, 8));
+    damage(rt, b"waiting-allocated", Fault::Flag(6, 9));
+    damage(rt, b"waiting-read-flag", Fault::Flag(6, 10));
+    damage(rt, b"waiting-write-flag", Fault::Flag(6, 12));
+    damage(rt, b"waiting-both-flags", Fault::Flag(6, 14));
+    damage(rt, b"waiting-flag-16", Fault::Flag(6, 16));
+    damage(rt, b"waiting-flag-24", Fault::Flag(6, 24));
+    damage(rt, b"waiting-root", Fault::Flag(0, 8));
 }
 
 // A waiting block has neither keys nor windows nor pointers.
-fn faults_of_waiting_rows() {
-    damage(b"waiting-pointed-to", Fault::Flag(2, 8));
-    damage(b"waiting-read-high", Fault::Key(24, 1));
-    damage(b"waiting-read-low", Fault::Key(25, 1));
-    damage(b"waiting-write-high", Fault::Key(26, 1));
-    damage(b"waiting-write-low", Fault::Key(27, 1));
-    damage(b"waiting-with-count", Fault::Count(6, 1));
-    damage(b"waiting-read-window", Fault::Window(12, 1));
-    damage(b"waiting-write-window", Fault::Window(13, 1));
-    damage(b"source-waiting", Fault::Pointer(2, 393218));
-    damage(b"destination-waiting", Fault::Pointer(2, 65542));
-    lengthen(b"waiting-counted", 131078, 1, 6, 1);
+fn faults_of_waiting_rows(rt: &impl Print) {
+    damage(rt, b"waiting-pointed-to", Fault::Flag(2, 8));
+    damage(rt, b"waiting-read-high", Fault::Key(24, 1));
+    damage(rt, b"waiting-read-low", Fault::Key(25, 1));
+    damage(rt, b"waiting-write-high", Fault::Key(26, 1));
+    damage(rt, b"waiting-write-low", Fault::Key(27, 1));
+    damage(rt, b"waiting-with-count", Fault::Count(6, 1));
+    damage(rt, b"waiting-read-window", Fault::Window(12, 1));
+    damage(rt, b"waiting-write-window", Fault::Window(13, 1));
+    damage(rt, b"source-waiting", Fault::Pointer(2, 393218));
+    damage(rt, b"destination-waiting", Fault::Pointer(2, 65542));
+    lengthen(rt, b"waiting-counted", 131078, 1, 6, 1);
 }
 
 // Clauses of soundness on pointers, counts and windows.
-fn faults_of_pointers() {
-    damage(b"equal-pointers", Fault::Pointer(1, 1));
-    damage(b"falling-pointers", Fault::Pointer(0, 3));
-    damage(b"unused-not-zero", Fault::Pointer(3, 65539));
-    damage(b"last-unused-not-zero", Fault::Pointer(31, 1));
-    damage(b"source-unallocated", Fault::Pointer(2, 327682));
-    damage(b"source-above", Fault::Pointer(2, 1048578));
-    damage(b"destination-unallocated", Fault::Pointer(2, 65541));
-    damage(b"destination-above", Fault::Pointer(2, 65552));
-    damage(b"destination-root", Fault::Pointer(2, 65536));
-    damage(b"ends-equal", Fault::Pointer(2, 131074));
-    damage(b"count-low", Fault::Count(2, 1));
-    damage(b"unpointed", Fault::Flag(5, 1));
-    damage(b"read-window-late", Fault::Window(0, 86501));
-    damage(b"write-window-late", Fault::Window(5, 86501));
-    damage(b"write-window-latest", Fault::Window(5, 86500));
+fn faults_of_pointers(rt: &impl Print) {
+    damage(rt, b"equal-pointers", Fault::Pointer(1, 1));
+    damage(rt, b"falling-pointers", Fault::Pointer(0, 3));
+    damage(rt, b"unused-not-zero", Fault::Pointer(3, 65539));
+    damage(rt, b"last-unused-not-zero", Fault::Pointer(31, 1));
+    damage(rt, b"source-unallocated", Fault::Pointer(2, 327682));
+    damage(rt, b"source-above", Fault::Pointer(2, 1048578));
+    damage(rt, b"destination-unallocated", Fault::Pointer(2, 65541));
+    damage(rt, b"destination-above", Fault::Pointer(2, 65552));
+    damage(rt, b"destination-root", Fault::Pointer(2, 65536));
+    damage(rt, b"ends-equal", Fault::Pointer(2, 131074));
+    damage(rt, b"count-low", Fault::Count(2, 1));
+    damage(rt, b"unpointed", Fault::Flag(5, 1));
+    damage(rt, b"read-window-late", Fault::Window(0, 86501));
+    damage(rt, b"write-window-late", Fault::Window(5, 86501));
+    damage(rt, b"write-window-latest", Fault::Window(5, 86500));
 }
 
 // The good card with a fourth pointer and one count.
-fn lengthen(name: &[u8], w: u32, times: u16, b: usize, count: u32) {
-    judge(name, 16, 1, 512, 4, 100, Fault::Fourth(w, times, b, count));
+fn lengthen(rt: &impl Print, name: &[u8], w: u32, times: u16, b: usize, count: u32) {
+    judge(
+        rt,
+        name,
+        16,
+        1,
+        512,
+        4,
+        100,
+        Fault::Fourth(w, times, b, count),
+    );
 }
 
 // Multiplicities, counts that are their sums, and the pointers that a count alone gives away.
-fn faults_of_multiplicities() {
-    damage(b"multiplicity-low", Fault::Multiplicity(1, 1));
-    damage(b"multiplicity-behind", Fault::Multiplicity(3, 1));
-    damage(b"last-multiplicity-behind", Fault::Multiplicity(31, 1));
-    damage(b"count-of-places", Fault::Count(2, 2));
-    lengthen(b"fourth-pointer", 131073, 1, 1, 2);
-    lengthen(b"multiplicity-zero", 131073, 0, 1, 1);
-    lengthen(b"highest-multiplicity", 131073, 65535, 1, 65536);
-    lengthen(b"count-of-16-bits", 131073, 65535, 1, 0);
-    lengthen(b"root-counted", 131072, 1, 0, 1);
-    lengthen(b"free-counted", 131077, 1, 5, 1);
+fn faults_of_multiplicities(rt: &impl Print) {
+    damage(rt, b"multiplicity-low", Fault::Multiplicity(1, 1));
+    damage(rt, b"multiplicity-behind", Fault::Multiplicity(3, 1));
+    damage(rt, b"last-multiplicity-behind", Fault::Multiplicity(31, 1));
+    damage(rt, b"count-of-places", Fault::Count(2, 2));
+    lengthen(rt, b"fourth-pointer", 131073, 1, 1, 2);
+    lengthen(rt, b"multiplicity-zero", 131073, 0, 1, 1);
+    lengthen(rt, b"highest-multiplicity", 131073, 65535, 1, 65536);
+    lengthen(rt, b"count-of-16-bits", 131073, 65535, 1, 0);
+    lengthen(rt, b"root-counted", 131072, 1, 0, 1);
+    lengthen(rt, b"free-counted", 131077, 1, 5, 1);
 }
 
 // Ranges of the record, and its total: at most T × 4,096, whatever N is.
-fn faults_of_records() {
-    judge(b"blocks-15", 15, 1, 512, 3, 100, Fault::Nothing);
-    judge(b"blocks-17", 17, 1, 512, 3, 100, Fault::Nothing);
-    judge(b"blocks-4097", 4097, 1, 512, 3, 100, Fault::Nothing);
-    judge(b"roots-0", 16, 0, 512, 3, 100, Fault::Nothing);
-    judge(b"roots-9", 16, 9, 512, 3, 100, Fault::Nothing);
-    judge(b"bytes-0", 16, 1, 0, 3, 100, Fault::Nothing);
-    judge(b"bytes-256", 16, 1, 256, 3, 100, Fault::Nothing);
-    judge(b"bytes-768", 16, 1, 768, 3, 100, Fault::Nothing);
-    judge(b"bytes-131072", 16, 1, 131072, 3, 100, Fault::Nothing);
-    judge(b"contents-short", 16, 1, 1024, 3, 100, Fault::Nothing);
-    judge(b"used-33", 16, 1, 512, 33, 100, Fault::Nothing);
-    judge(b"time-end", 16, 1, 512, 3, 1099511627776, Fault::Nothing);
-    judge(b"last-second", 16, 1, 512, 3, 1099511627775, Fault::Nothing);
-    judge(b"pointer-forgotten", 16, 1, 512, 2, 100, Fault::Nothing);
-    damage(b"total-above-blocks", Fault::Total(1601));
-    damage(b"total-highest", Fault::Total(409600));
-    damage(b"total-high", Fault::Total(409601));
-    damage(b"total-of-64-bits", Fault::Total(18446744073709551615));
+fn faults_of_records(rt: &impl Print) {
+    judge(rt, b"blocks-15", 15, 1, 512, 3, 100, Fault::Nothing);
+    judge(rt, b"blocks-17", 17, 1, 512, 3, 100, Fault::Nothing);
+    judge(rt, b"blocks-4097", 4097, 1, 512, 3, 100, Fault::Nothing);
+    judge(rt, b"roots-0", 16, 0, 512, 3, 100, Fault::Nothing);
+    judge(rt, b"roots-9", 16, 9, 512, 3, 100, Fault::Nothing);
+    judge(rt, b"bytes-0", 16, 1, 0, 3, 100, Fault::Nothing);
+    judge(rt, b"bytes-256", 16, 1, 256, 3, 100, Fault::Nothing);
+    judge(rt, b"bytes-768", 16, 1, 768, 3, 100, Fault::Nothing);
+    judge(rt, b"bytes-131072", 16, 1, 131072, 3, 100, Fault::Nothing);
+    judge(rt, b"contents-short", 16, 1, 1024, 3, 100, Fault::Nothing);
+    judge(rt, b"used-33", 16, 1, 512, 33, 100, Fault::Nothing);
+    judge(
+        rt,
+        b"time-end",
+        16,
+        1,
+        512,
+        3,
+        1099511627776,
+        Fault::Nothing,
+    );
+    judge(
+        rt,
+        b"last-second",
+        16,
+        1,
+        512,
+        3,
+        1099511627775,
+        Fault::Nothing,
+    );
+    judge(rt, b"pointer-forgotten", 16, 1, 512, 2, 100, Fault::Nothing);
+    damage(rt, b"total-above-blocks", Fault::Total(1601));
+    damage(rt, b"total-highest", Fault::Total(409600));
+    damage(rt, b"total-high", Fault::Total(409601));
+    damage(rt, b"total-of-64-bits", Fault::Total(18446744073709551615));
 }
 
 // Audits the tables, one of them lent without its elements.
 fn lend_lacking(
+    rt: &impl Print,
     name: &[u8],
     lack: Lack,
     flags: &[u8],
@@ -312,6 +348,7 @@ fn lend_lacking(
     let info = tables::with_time(tables::fresh(16, 1, 512), 100, 0);
     match lack {
         Lack::Nothing => show(
+            rt,
             name,
             info,
             flags,
@@ -323,6 +360,7 @@ fn lend_lacking(
             contents,
         ),
         Lack::Flags => show(
+            rt,
             name,
             info,
             &flags[..0],
@@ -334,6 +372,7 @@ fn lend_lacking(
             contents,
         ),
         Lack::Keys => show(
+            rt,
             name,
             info,
             flags,
@@ -345,6 +384,7 @@ fn lend_lacking(
             contents,
         ),
         Lack::Counts => show(
+            rt,
             name,
             info,
             flags,
@@ -356,6 +396,7 @@ fn lend_lacking(
             contents,
         ),
         Lack::Pointers => show(
+            rt,
             name,
             info,
             flags,
@@ -367,6 +408,7 @@ fn lend_lacking(
             contents,
         ),
         Lack::Multiplicities => show(
+            rt,
             name,
             info,
             flags,
@@ -378,6 +420,7 @@ fn lend_lacking(
             contents,
         ),
         Lack::Windows => show(
+            rt,
             name,
             info,
             flags,
@@ -389,6 +432,7 @@ fn lend_lacking(
             contents,
         ),
         Lack::Contents => show(
+            rt,
             name,
             info,
             flags,
@@ -403,7 +447,7 @@ fn lend_lacking(
 }
 
 // A fresh card, one table lacking.
-fn judge_lacking(name: &[u8], lack: Lack) {
+fn judge_lacking(rt: &impl Print, name: &[u8], lack: Lack) {
     let mut flags = [0u8; 16];
     let keys = [0u64; 64];
     let counts = [0u32; 16];
@@ -413,6 +457,7 @@ fn judge_lacking(name: &[u8], lack: Lack) {
     let contents = [0u8; 8192];
     flags[0] = 1;
     lend_lacking(
+        rt,
         name,
         lack,
         &flags,
@@ -426,23 +471,23 @@ fn judge_lacking(name: &[u8], lack: Lack) {
 }
 
 // Table lengths.
-fn faults_of_lengths() {
-    judge_lacking(b"fresh", Lack::Nothing);
-    judge_lacking(b"no-flags", Lack::Flags);
-    judge_lacking(b"no-keys", Lack::Keys);
-    judge_lacking(b"no-counts", Lack::Counts);
-    judge_lacking(b"no-places", Lack::Pointers);
-    judge_lacking(b"no-multiplicities", Lack::Multiplicities);
-    judge_lacking(b"no-windows", Lack::Windows);
-    judge_lacking(b"no-contents", Lack::Contents);
+fn faults_of_lengths(rt: &impl Print) {
+    judge_lacking(rt, b"fresh", Lack::Nothing);
+    judge_lacking(rt, b"no-flags", Lack::Flags);
+    judge_lacking(rt, b"no-keys", Lack::Keys);
+    judge_lacking(rt, b"no-counts", Lack::Counts);
+    judge_lacking(rt, b"no-places", Lack::Pointers);
+    judge_lacking(rt, b"no-multiplicities", Lack::Multiplicities);
+    judge_lacking(rt, b"no-windows", Lack::Windows);
+    judge_lacking(rt, b"no-contents", Lack::Contents);
 }
 
-fn main() {
-    faults_of_blocks();
-    faults_of_waiting_flags();
-    faults_of_waiting_rows();
-    faults_of_pointers();
-    faults_of_multiplicities();
-    faults_of_records();
-    faults_of_lengths();
+fn main(rt: HostRuntime) {
+    faults_of_blocks(&rt);
+    faults_of_waiting_flags(&rt);
+    faults_of_waiting_rows(&rt);
+    faults_of_pointers(&rt);
+    faults_of_multiplicities(&rt);
+    faults_of_records(&rt);
+    faults_of_lengths(&rt);
 }

@@ -1,5 +1,7 @@
 // Plays the call records of standard input on a fresh card, and writes their lines to standard output.
 // Both pass through buffers, so that no record takes a system call of its own.
+#![tactic(auto)]
+
 ghost use Rattle.std.specs.Prelude.{◌-◌, ◌≤◌, ◌<◌, true, ◌≡◌, length, take, drop};
 ghost use Rattle.card.specs.Lent.{lent, at_entry, changed};
 ghost use Rattle.card.specs.Calls.{fresh_info};
@@ -13,6 +15,7 @@ ghost use Rattle.cardplay.specs.Pieces.{PlaysInPieces};
 
 use card::Info;
 use input::Stop;
+use std::io::{Read, Write};
 
 // Moves the bytes from a place to the end of a buffer's filled part to the front. Returns how many there are.
 fn keep(buffer: &mut [u8], from: usize, filled: usize) -> usize
@@ -29,14 +32,17 @@ fn keep(buffer: &mut [u8], from: usize, filled: usize) -> usize
     i
 }
 
-// Reads once into the buffer behind its filled part. Returns where that part then ends: where it did at the end of the input.
-fn fill(buffer: &mut [u8], filled: usize) -> usize
+// Reads once into the buffer behind its filled part. Returns where that part then ends: where it did at the end of the input,
+// and where nothing could be read.
+fn fill(from: &mut impl Read, buffer: &mut [u8], filled: usize) -> usize
     requires { filled < length buffer.old }
     ensures { GrownIs buffer.old filled buffer.new result }
 {
     let rest = &mut buffer[filled..];
-    let got = libc::read(0, rest);
-    filled + io::count(got, rest)
+    match from.read(rest) {
+        Ok(got) => filled + got,
+        Err(_) => filled,
+    }
 }
 
 // What a play of the buffer's filled part comes to.
@@ -123,12 +129,16 @@ fn needs_input(stop: Stop) -> bool
 }
 
 // Reads on if asked to.
-fn read_on(wanted: bool, buffer: &mut [u8], filled: usize) -> usize
+fn read_on(from: &mut impl Read, wanted: bool, buffer: &mut [u8], filled: usize) -> usize
     requires fact_1 { filled ≤ length buffer.old }
     requires fact_2 { (wanted ≡ true → filled < length buffer.old) }
     ensures { ReadIs wanted buffer.old filled buffer.new result }
 {
-    if wanted { fill(buffer, filled) } else { filled }
+    if wanted {
+        fill(from, buffer, filled)
+    } else {
+        filled
+    }
 }
 
 // How far the input is played.
@@ -147,6 +157,8 @@ struct Progress {
 
 // Plays the filled part of the buffer, writes the lines, and reads on where the play stopped for want of input.
 fn play_on(
+    from: &mut impl Read,
+    to: &mut impl Write,
     info: Info,
     flags: &mut [u8],
     keys: &mut [u64],
@@ -182,8 +194,8 @@ fn play_on(
     let stop = played.stop;
     let left = played.filled;
     let written = played.written;
-    let wrote = io::write_all(1, &output[..written]);
-    let end = read_on(wrote & needs_input(stop), buffer, left);
+    let wrote = to.write_all(&output[..written]).is_ok();
+    let end = read_on(from, wrote & needs_input(stop), buffer, left);
     let on = wrote & (is_full(stop) | (left < end));
     let after = played.info;
     Progress {
@@ -196,9 +208,11 @@ fn play_on(
     }
 }
 
-// Plays standard input to its end. A proved loop has to end, and nothing says that an input does:
+// Plays what is read to its end, and writes the lines. A proved loop has to end, and nothing says that an input does:
 // so this one also ends after 2^64 - 1 turns or 2^63 records, which no run reaches.
 fn play_all(
+    from: &mut impl Read,
+    to: &mut impl Write,
     info: Info,
     flags: &mut [u8],
     keys: &mut [u64],
@@ -224,6 +238,8 @@ fn play_all(
     while progress.on & (turns > 0) & (progress.records < 9223372036854775808) {
         let left = progress.info;
         progress = play_on(
+            from,
+            to,
             left,
             flags,
             keys,
@@ -242,9 +258,11 @@ fn play_all(
     progress
 }
 
-// Formats a card of N 16, R 1 and B 512 on the lent tables, and plays standard input on it.
+// Formats a card of N 16, R 1 and B 512 on the lent tables, and plays what is read on it.
 // The tables have to be blank and of the card's lengths; what record they had before FORMAT does not matter.
 fn play_fresh(
+    from: &mut impl Read,
+    to: &mut impl Write,
     flags: &mut [u8],
     keys: &mut [u64],
     counts: &mut [u32],
@@ -271,6 +289,8 @@ fn play_fresh(
     );
     let fresh = formatted.info;
     play_all(
+        from,
+        to,
         fresh,
         flags,
         keys,
@@ -304,16 +324,17 @@ fn put_end(output: &mut [u8], records: u64, stop: Stop) -> usize
 }
 
 // Writes the last line, unless the lines before it could not be written.
-fn write_end(end: Progress) {
+fn write_end(to: &mut impl Write, end: Progress) {
     let stop = end.stop;
     if end.wrote {
         let mut output = [0u8; 2048];
         let last = put_end(&mut output, end.records, stop);
-        io::write_all(1, &output[..last]);
+        let _ = to.write_all(&output[..last]);
     }
 }
 
-fn main() {
+fn main(rt: HostRuntime) {
+    let mut to = rt.stdout();
     let mut flags = [0u8; 16];
     let mut keys = [0u64; 64];
     let mut counts = [0u32; 16];
@@ -322,6 +343,8 @@ fn main() {
     let mut windows = [0u64; 32];
     let mut contents = [0u8; 8192];
     let end = play_fresh(
+        &mut rt.stdin(),
+        &mut to,
         &mut flags,
         &mut keys,
         &mut counts,
@@ -330,5 +353,5 @@ fn main() {
         &mut windows,
         &mut contents,
     );
-    write_end(end);
+    write_end(&mut to, end);
 }
