@@ -1,4 +1,3 @@
-use Prim.Native.Nat.{◌-◌}
 use Rattle.lines.proofs.WrittenPart.{spacing_none, spacing_room, spacing_more, spacing_done}
 use Rattle.lines.proofs.put_blocks.Goals as goal
 

@@ -1,4 +1,3 @@
-use Prim.Native.Nat.{◌-◌}
 use Rattle.lines.proofs.WrittenPart.{copying_none, copying_room, copying_more, copying_done}
 use Rattle.lines.proofs.put_text.Goals as goal
 
