@@ -14,7 +14,7 @@
  * Common to all functions
  * -----------------------
  *
- * `rt staticlib interface` makes the archive, for x86-64 Linux alone,
+ * `./archive` makes the archive, for x86-64 Linux alone,
  * since that is what it compiles for. Whoever links it supplies memcpy()
  * and memset(), as any C library does, and nothing else; `nm -u` of the
  * archive says so.

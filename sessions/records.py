@@ -319,13 +319,13 @@ REPOSITORY = Path(__file__).resolve().parent.parent
 
 
 def player() -> str:
-    return os.environ.get("CARDPLAY") or str(REPOSITORY / "target" / "bin" / "cardplay")
+    return os.environ.get("CARDPLAY") or str(REPOSITORY / "crates" / "cardplay" / "out" / "cardplay")
 
 
 def play(records: bytes) -> bytes:
     """What the player writes of these records; it always ends with exit status 0."""
     if not os.access(player(), os.X_OK):
-        raise FileNotFoundError(f"no player {player()} (make it with: rt check cardplay)")
+        raise FileNotFoundError(f"no player {player()} (make it with ./test)")
     return subprocess.run([player()], input=records, stdout=subprocess.PIPE, check=True).stdout
 
 
