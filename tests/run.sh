@@ -23,7 +23,7 @@ while [ $# -gt 0 ]; do
 	shift
 done
 if [ ! -f "$archive" ]; then
-	echo "tests: no archive $archive (make it with: rt staticlib interface)" >&2
+	echo "tests: no archive $archive (make it with ./archive)" >&2
 	exit 2
 fi
 

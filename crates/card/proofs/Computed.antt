@@ -18,3 +18,4 @@ pub mod Keys
 pub mod Windows
 pub mod Trials
 pub mod Rows
+pub mod TrialRows

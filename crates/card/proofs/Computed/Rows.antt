@@ -29,7 +29,6 @@ use Rattle.card.specs.Statements.Windows.{by_read, by_write, by_renew, WindowSet
 use Rattle.card.specs.Statements.Trees.{TreeLeast, TreeSpares, TreeCycle, TreeKeyed, TreeHides}
 use Rattle.card.specs.Statements.Secrecy.{SameHidden, Secrecy}
 use Rattle.card.specs.Statements.Rent.{RentSummed, RentUnchanged, RentNearest, RentAlike}
-use Rattle.card.specs.Statements.Trials.{Trials, RentTrials, WaitingTrials}
 use Rattle.card.specs.declared.Port.TheVariants.{Host, Service}
 use Rattle.card.specs.declared.Mode.{Mode}
 use Rattle.card.specs.declared.Mode.TheVariants.{Reading, Writing}
@@ -57,7 +56,7 @@ use Rattle.card.proofs.Computed.Runs.{none_hold, run_found_row, run_adjoins_row,
 use Rattle.card.proofs.Computed.Trees.{tree_least_row, tree_spares_row, tree_cycle_row, tree_keyed_row, tree_hides_row}
 use Rattle.card.proofs.Computed.Keys.{one_key_unsealed_row, other_key_kept_row, own_key_set_row, both_windows_closed_row, write_access_needed_row}
 use Rattle.card.proofs.Computed.Windows.{ends_sooner, window_set_by_row, window_later_row, interval_zero_kept_row, windows_kept_row}
-use Rattle.card.proofs.Computed.Trials.{all_lines, trials_row, rent_trials_row, waiting_trials_row}
+use Rattle.card.proofs.Computed.Trials.{all_lines}
 
 -- To compute a row, its proof unfolds this one name. A wrong rule makes use of `or_else`.
 unfoldable pub computing : Unit {0}
@@ -584,53 +583,6 @@ price_read_from_contents = rent_alike_row nested (below 6) at_most_one ticks (re
 
 abbrev seconds_read_from_contents : Row RentAlike
 seconds_read_from_contents = rent_alike_row nested (below 6) at_most_one ticks (record { price = 1000 })
-
--- ---- trials and rent_trials: a row of each table, by its place
-
-abbrev root_counted_as_free : Row Trials
-root_counted_as_free = trials_row 0
-
-abbrev window_open_at_its_end : Row Trials
-window_open_at_its_end = trials_row 7
-
-abbrev destination_tested_for_reading : Row Trials
-destination_tested_for_reading = trials_row 13
-
-abbrev write_window_serves_reading : Row Trials
-write_window_serves_reading = trials_row 15
-
-abbrev nine_judged_on_places : Row Trials
-nine_judged_on_places = trials_row 22
-
-abbrev eleven_on_an_existing_pointer : Row Trials
-eleven_on_an_existing_pointer = trials_row 24
-
-abbrev rent_for_the_roots : Row Trials
-rent_for_the_roots = trials_row 31
-
-abbrev free_counts_waiting_blocks : Row Trials
-free_counts_waiting_blocks = trials_row 12
-
-abbrev waiting_block_pays_rent : Row Trials
-waiting_block_pays_rent = trials_row 32
-
-abbrev waiting_block_goes_with_a_tree : Row Trials
-waiting_block_goes_with_a_tree = trials_row 35
-
-abbrev waiting_block_refused : Row WaitingTrials
-waiting_block_refused = waiting_trials_row 1
-
-abbrev window_of_a_waiting_block_allowed : Row WaitingTrials
-window_of_a_waiting_block_allowed = waiting_trials_row 4
-
-abbrev flag_9_taken_for_allocated : Row WaitingTrials
-flag_9_taken_for_allocated = waiting_trials_row 8
-
-abbrev highest_price_refused : Row RentTrials
-highest_price_refused = rent_trials_row 5
-
-abbrev total_compared_with_the_blocks_of_the_card : Row RentTrials
-total_compared_with_the_blocks_of_the_card = rent_trials_row 7
 
 -- ---- the row of an edit
 
