@@ -14,11 +14,7 @@
  * Common to all functions
  * -----------------------
  *
-<<<<<<< HEAD
  * `./archive` makes the archive, for x86-64 Linux alone,
-=======
- * `./archive` makes the archive, for x86-64 Linux alone,
->>>>>>> h2
  * since that is what it compiles for. Whoever links it supplies memcpy()
  * and memset(), as any C library does, and nothing else; `nm -u` of the
  * archive says so.

@@ -325,11 +325,7 @@ def player() -> str:
 def play(records: bytes) -> bytes:
     """What the player writes of these records; it always ends with exit status 0."""
     if not os.access(player(), os.X_OK):
-<<<<<<< HEAD
         raise FileNotFoundError(f"no player {player()} (make it with: cd crates/cardplay && rt run < stdin)")
-=======
-        raise FileNotFoundError(f"no player {player()} (make it with ./test)")
->>>>>>> h2
     return subprocess.run([player()], input=records, stdout=subprocess.PIPE, check=True).stdout
 
 
