@@ -1,4 +1,3 @@
-use Prim.Native.Nat.{◌-◌}
 use native.Mathlib.Omega.{arith}
 use Rattle.allocation.proofs.Listing.{listed_start, listed_more, listed_whole}
 use Rattle.allocation.proofs.list_run.Goals as goal

@@ -1,4 +1,3 @@
-use Prim.Native.Nat.{◌-◌}
 use native.Mathlib.Omega.{arith}
 use Rattle.allocation.proofs.Outward.{Moves, picked_start, picked_spread, next_narrow, moves_down, moves_up, picked_fewer, picked_passed, picked_taken, picked_whole}
 use Rattle.allocation.proofs.pick_all.Goals as goal

@@ -1,4 +1,3 @@
-use Prim.Native.Nat.{◌-◌}
 use mathlib.Core.Path.{sym}
 use native.Mathlib.Omega.{arith}
 use Rattle.allocation.proofs.Collecting.{collected_start, can_take, addable, collected_taken, mergeable, collected_whole}

@@ -1,4 +1,3 @@
-use Prim.Native.Nat.{◌-◌}
 use mathlib.Core.Logic.{inl, inr}
 use native.Mathlib.Omega.{arith}
 use Rattle.reach.proofs.Beginning.{beginning_none, beginning_low, beginning_room, beginning_more, beginning_whole}

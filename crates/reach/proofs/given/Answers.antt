@@ -1,4 +1,3 @@
-use Prim.Native.Nat.{◌-◌}
 use Rattle.reach.proofs.Giving.{passed_none, passed_found, passed_more, passed_whole}
 use Rattle.reach.proofs.given.Goals as goal
 

@@ -1,4 +1,3 @@
-use Prim.Native.Nat.{◌-◌}
 use mathlib.Core.Logic.{inl, inr}
 use native.Mathlib.Omega.{arith}
 use Rattle.reach.proofs.Listing.{listed_none, listed_few, listed_room, listed_more, listed_whole}

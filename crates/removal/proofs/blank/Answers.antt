@@ -1,4 +1,3 @@
-use Prim.Native.Nat.{◌-◌}
 use native.Mathlib.Omega.{arith}
 use Rattle.removal.proofs.Blanking.{blanking_none, blanking_more, blanking_whole}
 use Rattle.removal.proofs.blank.Goals as goal

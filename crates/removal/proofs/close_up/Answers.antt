@@ -1,4 +1,3 @@
-use Prim.Native.Nat.{◌-◌}
 use mathlib.Core.Logic.{inl, inr}
 use native.Mathlib.Omega.{arith}
 use Rattle.removal.proofs.Closing.{closing_none, closing_source, closing_destination, closing_enough, closing_more, closing_whole}

@@ -1,4 +1,3 @@
-use Prim.Native.Nat.{◌-◌}
 use Rattle.removal.proofs.Marked.{freeing_none, freeing_pass, freeing_more, freeing_same, freeing_whole}
 use Rattle.removal.proofs.free_marked.Goals as goal
 use Rattle.removal.proofs.free_marked.Goals.{else-marks-at-eq1, then-marks-at-eq1}

@@ -1,4 +1,3 @@
-use Prim.Native.Nat.{◌-◌}
 use Rattle.removal.proofs.Marked.{keyless_none, keyless_more, some_key_law, no_key}
 use Rattle.removal.proofs.some_write_key.Goals as goal
 

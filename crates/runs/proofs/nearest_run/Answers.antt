@@ -1,4 +1,3 @@
-use Prim.Native.Nat.{◌-◌}
 use native.Mathlib.Omega.{arith}
 use Rattle.runs.proofs.Meeting.{met_start, met_inside, met_run, met_none, met_whole}
 use Rattle.runs.proofs.nearest_run.Goals as goal

@@ -1,4 +1,3 @@
-use Prim.Native.Nat.{◌-◌}
 use native.Mathlib.Omega.{arith}
 use Rattle.sweeping.proofs.Swept.{walked_none, inside, wanting, can_sweep, walked_pass, walked_more, walked_same, walked_whole}
 use Rattle.sweeping.proofs.sweep_lowest.Goals as goal

@@ -1,4 +1,3 @@
-use Prim.Native.Nat.{◌-◌}
 use Rattle.trees.proofs.Starting.{copied_none, copied_more, copied_whole}
 use Rattle.trees.proofs.copy.Goals as goal
 

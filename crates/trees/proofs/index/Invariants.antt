@@ -1,5 +1,4 @@
 -- `trees::index` puts down the place of one pointer after the other, from the last on. The measure is the place.
-use Prim.Native.Nat.{◌-◌}
 use lib.ListN.{take}
 use Rattle.trees.specs.Release.{Indexed}
 use Rattle.trees.proofs.index.Given as goal

@@ -1,4 +1,3 @@
-use Prim.Native.Nat.{◌-◌}
 use native.Mathlib.Omega.{arith}
 use Rattle.walks.specs.WalkLaws.{walking_most, walking_low}
 use Rattle.trees.proofs.Dropping.{dropping_none, drop_ended, drop_stopped, drop_low, drop_room, drop_enough, drop_more}

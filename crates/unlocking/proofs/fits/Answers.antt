@@ -1,4 +1,3 @@
-use Prim.Native.Nat.{◌-◌}
 use native.Mathlib.Omega.{arith}
 use Rattle.unlocking.proofs.Fitting.{passed_none, passed_found, passed_more, passed_whole}
 use Rattle.unlocking.proofs.fits.Goals as goal

@@ -1,4 +1,3 @@
-use Prim.Native.Nat.{◌-◌}
 use native.Mathlib.Omega.{arith}
 use Rattle.unlocking.proofs.Keeping.{keeping_none, keeping_few, keeping_whole, keeping_open, keeping_fits, keeping_fails}
 use Rattle.unlocking.proofs.keep_fitting.Goals as goal

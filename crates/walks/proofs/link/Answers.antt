@@ -1,4 +1,3 @@
-use Prim.Native.Nat.{◌-◌}
 use Rattle.walks.proofs.Linking.{near_low, linking_none, linking_more, linking_whole}
 use Rattle.walks.proofs.link.Goals as goal
 

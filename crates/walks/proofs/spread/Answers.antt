@@ -1,4 +1,3 @@
-use Prim.Native.Nat.{◌-◌}
 use native.Mathlib.Omega.{arith}
 use Rattle.walks.specs.WalkLaws.{walking_most, grown_none, grown_on, walking_whole}
 use Rattle.walks.proofs.spread.Goals as goal
