@@ -14,8 +14,8 @@ use Rattle.lines.specs.Written.{Written}
 use Rattle.lines.specs.WrittenLaws.{written_none, written_join, written_length}
 use Rattle.input.specs.Play.{Turn, Play, output_before, go_on}
 use Rattle.input.specs.Played.{TurnIs, PlayedIs, is_went}
-use Rattle.input.specs.PlayLaws.{go_on_halts}
-use Rattle.input.specs.PlayedLaws.{is_went_law, not_went}
+use Rattle.input.proofs.PlayLaws.{go_on_halts}
+use Rattle.input.proofs.PlayedLaws.{is_went_law, not_went}
 use Rattle.input.proofs.SameTables.{SameTables}
 use Rattle.input.specs.declared.Stop.{Stop}
 use Rattle.input.specs.declared.Stop.TheVariants.{Went}

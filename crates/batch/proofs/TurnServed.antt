@@ -13,11 +13,11 @@ use Rattle.card.specs.Session.{reply}
 use Rattle.card.specs.declared.Port.{Port}
 use Rattle.card.specs.declared.Call.{Call}
 use Rattle.decoding.specs.Decode.{Next, ended, refused, sent, decode}
-use Rattle.decoding.specs.DecodeLaws.{decode_shorter}
+use Rattle.decoding.proofs.DecodeLaws.{decode_shorter}
 use Rattle.input.specs.Play.{Turn, halted, fault}
-use Rattle.input.specs.PlayLaws.{fault_stops}
+use Rattle.input.proofs.PlayLaws.{fault_stops}
 use Rattle.input.specs.Played.{WroteIs, TurnIs, is_went}
-use Rattle.input.specs.PlayedLaws.{turn_halted, turn_nothing, turn_whole}
+use Rattle.input.proofs.PlayedLaws.{turn_halted, turn_nothing, turn_whole}
 use Rattle.input.specs.Found.{WholeIs, FoundIs}
 use Rattle.input.specs.declared.Stop.{Stop}
 use Rattle.input.specs.declared.Stop.TheVariants.{Went, Ended, Full}

@@ -18,7 +18,7 @@ use Rattle.decoding.specs.declared.Decoding.{Decoding}
 use Rattle.decoding.specs.declared.Decoding.TheVariants.{Decoded, Bad}
 use Rattle.lines.specs.Lines.{line_room}
 use Rattle.input.specs.Play.{player_port, is_short, fault, Turn, turn_of, turn, Play, go_on, play_within, play}
-use Rattle.input.specs.PlayLaws.{tried}
+use Rattle.input.proofs.PlayLaws.{tried}
 use Rattle.input.specs.declared.Stop.{Stop}
 use Rattle.input.specs.declared.Stop.TheVariants.{Went, Ended, Short, Refused, Full}
 use Rattle.cardplay.specs.InputBuffer.{record_room}

@@ -14,10 +14,10 @@ use Rattle.card.specs.declared.Mode.TheVariants.{Reading, Writing}
 use Rattle.card.specs.declared.Call.{Call}
 use Rattle.fields.specs.Bytes.{number, zeroed}
 use Rattle.kinds.specs.Kinds.{row, length_of, kind_of}
-use Rattle.kinds.specs.KindsLaws.{parts}
+use Rattle.kinds.proofs.KindsLaws.{parts}
 use Rattle.fields.specs.Fields.{credential, new_key}
 use Rattle.decoding.specs.Decode.{decode_key, decode_call, decode_known, decode_body, body_of, operands_of, data_of, Next, ended, refused, sent, next_of, decode}
-use Rattle.decoding.specs.DecodeLaws.{OfKind, decoded_kind}
+use Rattle.decoding.proofs.DecodeLaws.{OfKind, decoded_kind}
 use Rattle.kinds.specs.declared.Name.{Name}
 use Rattle.kinds.specs.declared.Name.TheVariants.{Read as READ, Write as WRITE, Alloc as ALLOC, Create as CREATE, Delete as DELETE, KeyRead as KEY-READ, Renew as RENEW, Force as FORCE, Free as FREE, Tick as TICK, Audit as AUDIT, AllocContig as ALLOC-CONTIG, KeyWrite as KEY-WRITE, DeleteTree as DELETE-TREE}
 use Rattle.decoding.specs.declared.Decoding.{Decoding}

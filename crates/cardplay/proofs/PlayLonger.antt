@@ -11,11 +11,11 @@ use Rattle.card.specs.Card.{Card}
 use Rattle.decoding.specs.Decode.{Next, ended, refused, sent, decode}
 use Rattle.lines.specs.Lines.{line_room}
 use Rattle.input.specs.Play.{player_port, Turn, turn_of, turn, Play, output_before, stopped, go_on, play_within, play}
-use Rattle.input.specs.PlayLaws.{tried, play_went, play_stopped, fault_stops}
+use Rattle.input.proofs.PlayLaws.{tried, play_went, play_stopped, fault_stops}
 use Rattle.input.specs.declared.Stop.{Stop}
 use Rattle.input.specs.declared.Stop.TheVariants.{Went, Ended, Short, Refused, Full}
 use Rattle.input.specs.Played.{is_went}
-use Rattle.input.specs.PlayedLaws.{not_went}
+use Rattle.input.proofs.PlayedLaws.{not_went}
 use Rattle.cardplay.specs.Progress.{is_full}
 use Rattle.cardplay.proofs.DecodeLonger.{decode_longer}
 

@@ -18,7 +18,7 @@ use Rattle.kinds.specs.declared.Length.{Length}
 use Rattle.kinds.specs.declared.Length.TheVariants.{Bytes, Unknown}
 use Rattle.card.specs.declared.Port.{Port}
 use Rattle.decoding.specs.Decode.{Next, refused, with_credential, create_with, key_with, renew_with, decode_call, decode_known, decode_body, next_of, length_by, body_of, decode}
-use Rattle.decoding.specs.DecodeLaws.{unknown_kind, short_kind, decoded_kind}
+use Rattle.decoding.proofs.DecodeLaws.{unknown_kind, short_kind, decoded_kind}
 use Rattle.decoding.specs.Statements.{Leaves, is_call, DecodedBy, KindsDecoded}
 use Rattle.decoding.specs.declared.Decoding.{Decoding}
 use Rattle.decoding.specs.declared.Decoding.TheVariants.{Decoded, Bad}

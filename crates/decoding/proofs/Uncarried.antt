@@ -9,7 +9,7 @@ use Rattle.card.specs.declared.Call.{Call}
 use Rattle.card.specs.declared.Call.TheVariants.{Rent, Sweep}
 use Rattle.kinds.specs.declared.Name.{Name}
 use Rattle.decoding.specs.Decode.{sent, name_of, decode}
-use Rattle.decoding.specs.DecodeLaws.{sent_kind}
+use Rattle.decoding.proofs.DecodeLaws.{sent_kind}
 use Rattle.decoding.specs.Statements.{RentUncarried, SweepUncarried}
 
 nameless : {name : Name} → some name ≡ none → ⊥

@@ -1,7 +1,4 @@
 pub mod Decode
-pub mod DecodeLaws
 pub mod Parsed
 pub mod Encode
-pub mod RoundTrip
-pub mod Samples
 pub mod Statements

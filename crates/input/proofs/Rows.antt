@@ -24,7 +24,7 @@ use Rattle.lines.specs.Lines.{decimal_within, decimal, spaced, line}
 use Rattle.input.specs.Play.{player_port, played, is_short, fault, turn_of, turn, Play, go_on, play_within, play}
 use Rattle.input.specs.Arrivals.{Arrived, arrivals_of, arrivals_within, arrivals, sent_with}
 use Rattle.input.specs.Performed.{Manner, Ends, out_of_room, all_performed, PerformedBy}
-use Rattle.input.specs.PerformedLaws.{left_by_performed}
+use Rattle.input.proofs.PerformedLaws.{left_by_performed}
 use Rattle.input.specs.declared.Stop.{Stop}
 use Rattle.input.specs.declared.Stop.TheVariants.{Went, Ended, Short, Refused, Full}
 use Rattle.input.specs.Statements.{PlaySafe}

@@ -1,11 +1,6 @@
 pub mod Play
-pub mod PlayLaws
 pub mod Found
-pub mod FoundLaws
 pub mod Arrivals
-pub mod ArrivalsLaws
 pub mod Performed
-pub mod PerformedLaws
 pub mod Played
-pub mod PlayedLaws
 pub mod Statements

@@ -1,3 +1,5 @@
+pub mod KindsLaws
+pub mod ArithmeticLaws
 pub mod AllKinds
 pub mod AllKindsLaws
 pub mod Rows

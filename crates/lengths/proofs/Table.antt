@@ -8,7 +8,7 @@ use native.Mathlib.Omega.{arith}
 use borrow.Author.Tests.{ne_eqb, lt-ltb, le-ltb}
 use Rattle.kinds.specs.Kinds.{row, names, kind_number, length_of, lengths_of, among, kind_of, kind_length, body_length}
 use Rattle.kinds.specs.Arithmetic.{number_of, has_credential, part_of, behind_credential, without_credential, operands_at, lengths_at}
-use Rattle.kinds.specs.ArithmeticLaws.{kind_lengths}
+use Rattle.kinds.proofs.ArithmeticLaws.{kind_lengths}
 use Rattle.kinds.specs.declared.Name.{Name}
 use Rattle.kinds.specs.declared.Lengths.{Lengths}
 use Rattle.kinds.specs.declared.Kind.{Kind}

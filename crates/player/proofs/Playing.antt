@@ -12,9 +12,9 @@ use Rattle.lines.specs.Lines.{line_room}
 use Rattle.lines.specs.Written.{Written}
 use Rattle.lines.specs.WrittenLaws.{written_none, written_join, written_length}
 use Rattle.input.specs.Play.{player_port, Turn, turn_of, turn, Play, output_before, play}
-use Rattle.input.specs.PlayLaws.{play_full, play_went, play_stopped, turn_left}
+use Rattle.input.proofs.PlayLaws.{play_full, play_went, play_stopped, turn_left}
 use Rattle.input.specs.Played.{TurnIs, PlayedIs, is_went}
-use Rattle.input.specs.PlayedLaws.{is_went_law, not_went}
+use Rattle.input.proofs.PlayedLaws.{is_went_law, not_went}
 use Rattle.input.proofs.SameTables.{SameTables}
 use Rattle.input.specs.declared.Stop.{Stop}
 use Rattle.input.specs.declared.Stop.TheVariants.{Went, Full}

@@ -16,7 +16,7 @@ use Rattle.lines.proofs.AnswersWritten.{line_short}
 use Rattle.lines.specs.Written.{Written}
 use Rattle.input.specs.Play.{player_port, played, turn_of, turn}
 use Rattle.input.specs.Played.{WroteIs, TurnIs}
-use Rattle.input.specs.PlayedLaws.{turn_nothing, turn_whole}
+use Rattle.input.proofs.PlayedLaws.{turn_nothing, turn_whole}
 use Rattle.input.specs.Found.{WholeIs, FoundIs}
 use Rattle.input.specs.declared.Stop.{Stop}
 use Rattle.input.specs.declared.Stop.TheVariants.{Went}

@@ -15,7 +15,7 @@ use Rattle.card.specs.declared.Answer.{Answer}
 use Rattle.card.specs.declared.Answer.TheVariants.{Refused, Value}
 use Rattle.card.specs.declared.Refusal.TheVariants.{BadOperand}
 use Rattle.report.specs.Report.{given, bad_keys, within_reach, listing, reach_plan, lent_places}
-use Rattle.report.specs.ReportLaws.{listing_done}
+use Rattle.report.proofs.ReportLaws.{listing_done}
 use Rattle.walks.specs.Walk.{marked_below}
 use Rattle.reach.specs.Within.{Within}
 

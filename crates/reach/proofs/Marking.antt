@@ -15,7 +15,7 @@ use Rattle.card.specs.SoundCard.{SoundCard}
 use Rattle.card.specs.Reach.{key_presented, sealed}
 use Rattle.card.specs.declared.Info.{Info}
 use Rattle.report.specs.Report.{given, root_unsealed, some_key, some_window, within_by_itself, within_reach}
-use Rattle.report.specs.ReportLaws.{within_itself, within_step, within_in, within_own}
+use Rattle.report.proofs.ReportLaws.{within_itself, within_step, within_in, within_own}
 use Rattle.walks.specs.Walk.{Edge, mark, marked_below, Walking, Led, begins, leads, Spread}
 use Rattle.walks.specs.WalkLaws.{marked_below_law}
 use Rattle.walks.specs.declared.Direction.TheVariants.{Along}

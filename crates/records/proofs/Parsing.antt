@@ -13,7 +13,7 @@ use Rattle.kinds.specs.declared.Kind.{Kind}
 use Rattle.kinds.specs.declared.Kind.TheVariants.{Known}
 use Rattle.kinds.specs.declared.Lengths.{Lengths}
 use Rattle.decoding.specs.Decode.{decode_call, name_of, length_by, decode_body}
-use Rattle.decoding.specs.DecodeLaws.{whole, decoded_kind}
+use Rattle.decoding.proofs.DecodeLaws.{whole, decoded_kind}
 use Rattle.decoding.specs.Parsed.{parsed_bad, ParsedIs}
 use Rattle.decoding.specs.declared.Decoding.{Decoding}
 use Rattle.decoding.specs.declared.Decoding.TheVariants.{Decoded, Bad}

@@ -1,3 +1,6 @@
+pub mod ReportLaws
+pub mod LeadingLaws
+pub mod Examples
 pub mod Listed
 pub mod Reported
 pub mod Tests

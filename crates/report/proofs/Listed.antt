@@ -10,7 +10,7 @@ use Rattle.laws.specs.ListsLaws.{and_left, and_right, and_true, or_left, or_righ
 use Rattle.laws.specs.NearestLaws.{numbers_hold, hold_numbers}
 use Rattle.card.specs.Reach.{presented, sealed, Reach}
 use Rattle.report.specs.Report.{given, with_write_key, unlocks, unlocking}
-use Rattle.report.specs.ReportLaws.{within_ascends, listed_reached, reached_listed, unlocking_ascends}
+use Rattle.report.proofs.ReportLaws.{within_ascends, listed_reached, reached_listed, unlocking_ascends}
 use Rattle.report.specs.Statements.{ReachListed, UnlockingListed, Among, here, later, HiddenUnlisted}
 
 pub reach_listed : ReachListed

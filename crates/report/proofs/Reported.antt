@@ -21,7 +21,7 @@ use Rattle.card.specs.declared.Refusal.TheVariants.{NotAllocated}
 use Rattle.laws.proofs.Judged.{judge_cases, judged_iff}
 use Rattle.laws.specs.LeastLaws.{Some, any_member, member_any}
 use Rattle.report.specs.Report.{given, bad_keys, within_reach, unlocking, listing, reach_plan, unlocking_plan, lent_places, reach_report, unlocking_report}
-use Rattle.report.specs.ReportLaws.{missing_unlisted, unlocking_missing}
+use Rattle.report.proofs.ReportLaws.{missing_unlisted, unlocking_missing}
 use Rattle.report.specs.Statements.{within_reach_of, unlocking_of, UnchangedButFor, ReportUnchanged, up_to64, ReportRefused, UnknownChosen}
 
 -- ---- what is left

@@ -13,7 +13,7 @@ use Rattle.card.specs.Calls.{fresh_info}
 use Rattle.card.specs.declared.Mode.TheVariants.{Reading, Writing}
 use Rattle.card.proofs.Computed.Rows.{nested}
 use Rattle.card.proofs.Computed.Row.{Row, refutes, nothing}
-use Rattle.report.specs.Examples.{reporting}
+use Rattle.report.proofs.Examples.{reporting}
 use Rattle.report.specs.Statements.{ReachListed, UnlockingListed, HiddenUnlisted, within_reach_of, unlocking_of, ReportUnchanged, up_to64, ReportRefused, UnknownChosen}
 use Rattle.report.proofs.Tests.{by_way, reach_listed_row, unlocking_listed_row, key_reads, hidden_unlisted_row, report_unchanged_row, report_refused_row, unknown_chosen_row}
 

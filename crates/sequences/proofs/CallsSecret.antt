@@ -19,13 +19,13 @@ use Rattle.card.specs.Statements.Secrecy.{EqualBut, HiddenOrUnallocated, StillDi
 use Rattle.guarantees.proofs.Secrecy.Acts.{Act, held_by, made_by, answers_by, ActsSecret, acts_secret}
 use Rattle.fields.specs.declared.ParsedCredential.{ParsedCredential}
 use Rattle.fields.specs.declared.ParsedCredential.TheVariants.{Valid as ValidCredential, Invalid as InvalidCredential}
-use Rattle.kinds.specs.KindsLaws.{host_kinds}
+use Rattle.kinds.proofs.KindsLaws.{host_kinds}
 use Rattle.decoding.specs.Decode.{renew_with, decode_body}
-use Rattle.decoding.specs.DecodeLaws.{decoded_kind}
+use Rattle.decoding.proofs.DecodeLaws.{decoded_kind}
 use Rattle.decoding.specs.declared.Decoding.{Decoding}
 use Rattle.decoding.specs.declared.Decoding.TheVariants.{Decoded, Bad}
 use Rattle.input.specs.Arrivals.{arrivals, request_with, sent_with}
-use Rattle.input.specs.ArrivalsLaws.{host_arrivals}
+use Rattle.input.proofs.ArrivalsLaws.{host_arrivals}
 use Rattle.serving.specs.Serve.{lent_size, serve}
 use Rattle.serving.specs.Held.{requests_in}
 use Rattle.serving.proofs.BytesSecret.{Told, told, batch_act, take_hosts, only}

@@ -15,7 +15,7 @@ use Rattle.decoding.specs.Decode.{Next, ended, refused, sent, decode}
 use Rattle.input.specs.Play.{halted}
 use Rattle.input.specs.Arrivals.{arrivals, sent_with}
 use Rattle.input.specs.Performed.{TurnIn, no_room, at_end, at_fault, performs}
-use Rattle.input.specs.PerformedLaws.{left_by_performed}
+use Rattle.input.proofs.PerformedLaws.{left_by_performed}
 use Rattle.serving.proofs.LoopPerforms.{loop_performs}
 use Rattle.input.specs.declared.Stop.TheVariants.{Full}
 use Rattle.serving.specs.Serve.{lent_size, answer_room, served, answering, serve_turn_of, serve_turn, serve_within, serve}

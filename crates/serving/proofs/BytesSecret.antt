@@ -20,9 +20,9 @@ use Rattle.card.specs.declared.Port.TheVariants.{Host}
 use Rattle.card.specs.declared.Call.{Call}
 use Rattle.decoding.specs.Decode.{Next, ended, refused, sent, decode}
 use Rattle.input.specs.Play.{halted, Turn, Play, go_on, output_before, fault}
-use Rattle.input.specs.PlayLaws.{fault_stops, go_on_halts}
+use Rattle.input.proofs.PlayLaws.{fault_stops, go_on_halts}
 use Rattle.input.specs.Arrivals.{Arrivals, arrivals, request_with, sent_with}
-use Rattle.input.specs.ArrivalsLaws.{arrivals_sent, host_arrivals}
+use Rattle.input.proofs.ArrivalsLaws.{arrivals_sent, host_arrivals}
 use Rattle.input.specs.declared.Stop.{Stop}
 use Rattle.input.specs.declared.Stop.TheVariants.{Full}
 use Rattle.serving.specs.Serve.{answer_bytes, lent_size, lent_places, answer_room, served, answering, serve_turn_of, serve_turn, serve_within, serve}

@@ -1,3 +1,4 @@
+pub mod Batches
 pub mod LoopPerforms
 pub mod PlaySafe
 pub mod BytesSafe

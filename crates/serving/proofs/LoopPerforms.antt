@@ -11,11 +11,11 @@ use Rattle.laws.specs.SessionLaws.{perform_bytes}
 use Rattle.card.specs.Statements.Safe.{SafeCall}
 use Rattle.guarantees.proofs.Safe.{safe_call}
 use Rattle.card.specs.declared.Call.{Call}
-use Rattle.decoding.specs.DecodeLaws.{decode_shorter}
+use Rattle.decoding.proofs.DecodeLaws.{decode_shorter}
 use Rattle.input.specs.Play.{Turn, halted, fault, Play, output_before, stopped, go_on}
-use Rattle.input.specs.PlayLaws.{fault_stops, go_on_halts}
+use Rattle.input.proofs.PlayLaws.{fault_stops, go_on_halts}
 use Rattle.input.specs.Arrivals.{Arrived, Arrivals, held_before, arrivals, sent_with, written_of}
-use Rattle.input.specs.ArrivalsLaws.{arrivals_ended, arrivals_refused, arrivals_sent}
+use Rattle.input.proofs.ArrivalsLaws.{arrivals_ended, arrivals_refused, arrivals_sent}
 use Rattle.input.specs.Performed.{Manner, Ends, out_of_room, all_performed, PerformedBy, TurnIn, no_room, at_end, at_fault, performs}
 use Rattle.input.specs.declared.Stop.{Stop}
 use Rattle.input.specs.declared.Stop.TheVariants.{Ended, Full}

@@ -11,7 +11,7 @@ use Rattle.card.specs.Card.{Card}
 use Rattle.decoding.specs.Decode.{Next, ended, refused, sent, decode}
 use Rattle.lines.specs.Lines.{line_room}
 use Rattle.input.specs.Play.{player_port, played, turn_of, turn, play_within, play}
-use Rattle.input.specs.PlayLaws.{tried}
+use Rattle.input.proofs.PlayLaws.{tried}
 use Rattle.input.specs.Statements.{playing, PlaySafe}
 use Rattle.input.specs.Performed.{TurnIn, no_room, at_end, at_fault, performs}
 use Rattle.serving.proofs.LoopPerforms.{loop_performs}

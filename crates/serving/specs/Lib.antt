@@ -1,4 +1,3 @@
 pub mod Serve
-pub mod Batches
 pub mod Held
 pub mod Statements

@@ -17,7 +17,7 @@ use Rattle.card.specs.declared.Answer.{Answer}
 use Rattle.card.specs.declared.Answer.TheVariants.{Refused, Value}
 use Rattle.card.specs.declared.Refusal.TheVariants.{NotAllocated, BadOperand}
 use Rattle.report.specs.Report.{given, bad_keys, within_reach, unlocking, listing, unlocking_plan, lent_places}
-use Rattle.report.specs.ReportLaws.{missing_unlisted, unlocking_missing, listing_done}
+use Rattle.report.proofs.ReportLaws.{missing_unlisted, unlocking_missing, listing_done}
 use Rattle.walks.specs.Walk.{marked_below}
 use Rattle.unlocking.specs.declared.Found.{Found}
 use Rattle.unlocking.specs.declared.Found.TheVariants.{Within, Unlocked}

@@ -23,7 +23,7 @@ use Rattle.card.specs.declared.Mode.TheVariants.{Reading, Writing}
 use Rattle.laws.specs.LeastLaws.{Some, any_member, member_any}
 use Rattle.report.specs.Report.{given, some_key, within_reach, unlocking}
 use Rattle.report.specs.Leading.{leading, fits}
-use Rattle.report.specs.LeadingLaws.{leading_chosen, leading_step, leading_in, unlocking_walked}
+use Rattle.report.proofs.LeadingLaws.{leading_chosen, leading_step, leading_in, unlocking_walked}
 use Rattle.walks.specs.Walk.{Edge, mark, marked_below, Queued, Led, begins, leads, Spread}
 use Rattle.walks.specs.WalkLaws.{none_marked, walking_most, queued_among, among_queued}
 use Rattle.walks.specs.declared.Direction.TheVariants.{Against}

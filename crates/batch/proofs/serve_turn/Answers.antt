@@ -1,6 +1,6 @@
 -- `batch::serve_turn` meets its contract.
 use native.Mathlib.Omega.{arith}
-use Rattle.input.specs.FoundLaws.{whole_within}
+use Rattle.input.proofs.FoundLaws.{whole_within}
 use Rattle.batch.proofs.TurnServed.{nothing_served, full_served, whole_served}
 use Rattle.batch.proofs.serve_turn.Goals as goal
 

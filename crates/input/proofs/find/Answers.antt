@@ -1,6 +1,6 @@
 -- `input::find` meets its contract.
 use native.Mathlib.Omega.{arith}
-use Rattle.input.specs.FoundLaws.{found_ended, found_unknown, found_short, found_bad, found_whole}
+use Rattle.input.proofs.FoundLaws.{found_ended, found_unknown, found_short, found_bad, found_whole}
 use Rattle.input.proofs.find.Goals as goal
 
 pub returns-then-from-input : goal.returns-then-from-input

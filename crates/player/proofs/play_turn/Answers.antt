@@ -1,6 +1,6 @@
 -- `player::play_turn` meets its contract.
 use Rattle.input.specs.Play.{player_port}
-use Rattle.input.specs.FoundLaws.{whole_within}
+use Rattle.input.proofs.FoundLaws.{whole_within}
 use Rattle.player.proofs.TurnPlayed.{nothing_played, whole_played}
 use Rattle.player.proofs.play_turn.Goals as goal
 

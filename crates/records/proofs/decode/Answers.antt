@@ -1,6 +1,6 @@
 -- `records::decode` meets its contract: another kind, a body cut short, or the call.
-use Rattle.kinds.specs.ArithmeticLaws.{kind_lengths}
-use Rattle.decoding.specs.DecodeLaws.{cut_short, other_kind}
+use Rattle.kinds.proofs.ArithmeticLaws.{kind_lengths}
+use Rattle.decoding.proofs.DecodeLaws.{cut_short, other_kind}
 use Rattle.records.proofs.Parsing.{body_is, body_room, parsed_bad_law, parsed_call}
 use Rattle.records.proofs.decode.Goals as goal
 

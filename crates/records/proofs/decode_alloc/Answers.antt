@@ -1,6 +1,6 @@
 -- `records::decode_alloc` meets its contract.
 use mathlib.Core.Path.{refl, ◌∙◌}
-use Rattle.decoding.specs.DecodeLaws.{alloc}
+use Rattle.decoding.proofs.DecodeLaws.{alloc}
 use Rattle.records.proofs.decode_alloc.Goals as goal
 
 pub returns : goal.returns

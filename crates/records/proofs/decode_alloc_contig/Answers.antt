@@ -1,6 +1,6 @@
 -- `records::decode_alloc_contig` meets its contract.
 use mathlib.Core.Path.{refl, ◌∙◌}
-use Rattle.decoding.specs.DecodeLaws.{alloc_contig}
+use Rattle.decoding.proofs.DecodeLaws.{alloc_contig}
 use Rattle.records.proofs.decode_alloc_contig.Goals as goal
 
 pub returns : goal.returns

@@ -1,6 +1,6 @@
 -- `records::decode_call` meets its contract: an arm for each call.
 use mathlib.Core.Path.{◌∙◌}
-use Rattle.decoding.specs.DecodeLaws.{key_read, key_write, by_name, room, free, audit}
+use Rattle.decoding.proofs.DecodeLaws.{key_read, key_write, by_name, room, free, audit}
 use Rattle.lengths.proofs.Table.{table_rules}
 use Rattle.records.proofs.decode_call.Goals as goal
 

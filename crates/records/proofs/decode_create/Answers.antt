@@ -1,6 +1,6 @@
 -- `records::decode_create` meets its contract.
 use mathlib.Core.Path.{◌∙◌}
-use Rattle.decoding.specs.DecodeLaws.{create}
+use Rattle.decoding.proofs.DecodeLaws.{create}
 use Rattle.records.proofs.decode_create.Goals as goal
 
 pub returns : goal.returns

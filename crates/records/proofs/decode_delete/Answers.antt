@@ -1,6 +1,6 @@
 -- `records::decode_delete` meets its contract.
 use mathlib.Core.Path.{◌∙◌}
-use Rattle.decoding.specs.DecodeLaws.{delete}
+use Rattle.decoding.proofs.DecodeLaws.{delete}
 use Rattle.records.proofs.decode_delete.Goals as goal
 
 pub returns : goal.returns

@@ -1,6 +1,6 @@
 -- `records::decode_delete_tree` meets its contract.
 use mathlib.Core.Path.{◌∙◌}
-use Rattle.decoding.specs.DecodeLaws.{delete_tree}
+use Rattle.decoding.proofs.DecodeLaws.{delete_tree}
 use Rattle.records.proofs.decode_delete_tree.Goals as goal
 
 pub returns : goal.returns

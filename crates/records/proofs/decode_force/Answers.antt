@@ -1,5 +1,5 @@
 -- `records::decode_force` meets its contract.
-use Rattle.decoding.specs.DecodeLaws.{force}
+use Rattle.decoding.proofs.DecodeLaws.{force}
 use Rattle.records.proofs.decode_force.Goals as goal
 
 pub returns : goal.returns

@@ -1,6 +1,6 @@
 -- `records::decode_key` meets its contract.
 use mathlib.Core.Path.{◌∙◌}
-use Rattle.decoding.specs.DecodeLaws.{key}
+use Rattle.decoding.proofs.DecodeLaws.{key}
 use Rattle.records.proofs.decode_key.Goals as goal
 
 pub returns : goal.returns

@@ -1,6 +1,6 @@
 -- `records::decode_read` meets its contract.
 use mathlib.Core.Path.{◌∙◌}
-use Rattle.decoding.specs.DecodeLaws.{read}
+use Rattle.decoding.proofs.DecodeLaws.{read}
 use Rattle.records.proofs.decode_read.Goals as goal
 
 pub returns : goal.returns

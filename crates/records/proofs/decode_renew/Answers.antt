@@ -1,6 +1,6 @@
 -- `records::decode_renew` meets its contract: a bare key.
 use mathlib.Core.Path.{refl, ◌∙◌}
-use Rattle.decoding.specs.DecodeLaws.{renew}
+use Rattle.decoding.proofs.DecodeLaws.{renew}
 use Rattle.records.proofs.decode_renew.Goals as goal
 
 pub returns : goal.returns

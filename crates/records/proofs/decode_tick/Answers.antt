@@ -1,5 +1,5 @@
 -- `records::decode_tick` meets its contract.
-use Rattle.decoding.specs.DecodeLaws.{tick}
+use Rattle.decoding.proofs.DecodeLaws.{tick}
 use Rattle.records.proofs.decode_tick.Goals as goal
 
 pub returns : goal.returns

@@ -1,6 +1,6 @@
 -- `records::decode_write` meets its contract.
 use mathlib.Core.Path.{◌∙◌}
-use Rattle.decoding.specs.DecodeLaws.{write}
+use Rattle.decoding.proofs.DecodeLaws.{write}
 use Rattle.records.proofs.decode_write.Goals as goal
 
 pub returns : goal.returns

@@ -11,7 +11,7 @@ use Rattle.card.specs.declared.Port.{Port}
 use Rattle.card.specs.declared.Call.{Call}
 use Rattle.kinds.specs.Kinds.{kind_of, body_length}
 use Rattle.decoding.specs.Decode.{ended, sent, decode_body, body_of, operands_of, data_of, next_of, decode}
-use Rattle.decoding.specs.DecodeLaws.{unknown_kind, short_kind}
+use Rattle.decoding.proofs.DecodeLaws.{unknown_kind, short_kind}
 use Rattle.decoding.specs.Parsed.{ParsedIs}
 use Rattle.kinds.specs.declared.Length.{Length}
 use Rattle.kinds.specs.declared.Length.TheVariants.{Bytes, Unknown as UnknownLength}

@@ -19,7 +19,7 @@ use Rattle.card.specs.declared.Mode.TheVariants.{Reading, Writing}
 use Rattle.laws.proofs.PointerSteps.{pointer_right_law, block_narrow}
 use Rattle.laws.specs.LeastLaws.{Some, any_member, member_any, any_within, Monotone, least_in, least_closed}
 use Rattle.report.specs.Report.{given, some_key, within_reach, with_write_key, unlocks, unlocking}
-use Rattle.report.specs.ReportLaws.{some_key_law, listed_reached, reached_listed}
+use Rattle.report.proofs.ReportLaws.{some_key_law, listed_reached, reached_listed}
 use Rattle.report.specs.Leading.{leads_on, leading, fits}
 
 -- ---- the blocks that lead on

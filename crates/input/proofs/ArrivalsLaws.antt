@@ -10,7 +10,7 @@ use Rattle.card.specs.declared.Port.{Port}
 use Rattle.card.specs.declared.Port.TheVariants.{Host}
 use Rattle.card.specs.declared.Call.{Call}
 use Rattle.decoding.specs.Decode.{Next, ended, refused, sent, decode}
-use Rattle.decoding.specs.DecodeLaws.{decode_shorter, host_sent}
+use Rattle.decoding.proofs.DecodeLaws.{decode_shorter, host_sent}
 use Rattle.input.specs.Play.{fault}
 use Rattle.input.specs.Arrivals.{Arrivals, none_held, held_before, arrivals_of, arrivals_within, arrivals, request_with, sent_with}
 use Rattle.input.specs.declared.Stop.TheVariants.{Ended}

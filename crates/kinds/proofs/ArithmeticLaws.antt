@@ -4,7 +4,7 @@ use Rattle.std.proofs.Common.{sym, ap, ◌∙◌}
 use Rattle.card.specs.declared.Port.{Port}
 use Rattle.card.specs.declared.Port.TheVariants.{Host, Service}
 use Rattle.kinds.specs.Kinds.{row, kind_number, length_of, data_length, operands_length, lengths_of, kind_of}
-use Rattle.kinds.specs.KindsLaws.{kind_number_law}
+use Rattle.kinds.proofs.KindsLaws.{kind_number_law}
 use Rattle.kinds.specs.Arithmetic.{number_of, has_credential, part_of, behind_credential, without_credential, operands_at, lengths_numbered, lengths_at}
 use Rattle.kinds.specs.declared.Kind.{Kind}
 use Rattle.kinds.specs.declared.Kind.TheVariants.{Known}

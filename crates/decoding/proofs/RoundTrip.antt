@@ -25,10 +25,10 @@ use Rattle.card.specs.declared.Call.TheVariants.{Read, Write, Alloc, AllocContig
 use Rattle.fields.specs.Bytes.{number, bytes, zeroed}
 use Rattle.fields.specs.BytesLaws.{length_bytes, number_bytes}
 use Rattle.kinds.specs.Kinds.{row, names, kind_number, length_of, data_length, operands_length, takes, has_kind, among, kind_of}
-use Rattle.kinds.specs.KindsLaws.{parts}
+use Rattle.kinds.proofs.KindsLaws.{parts}
 use Rattle.fields.specs.Fields.{credential, new_key}
 use Rattle.decoding.specs.Decode.{with_credential, create_with, key_with, renew_with, decode_key, decode_call, name_of, operands_of, data_of, sent, next_of, decode}
-use Rattle.decoding.specs.DecodeLaws as laws
+use Rattle.decoding.proofs.DecodeLaws as laws
 use Rattle.decoding.specs.Encode.{credential_bytes, new_key_bytes, alloc_body, delete_body, key_body, body, behind_kind, encode, Fits, FitsCredential, FitsNewKey, FitsAlloc, FitsDelete, FitsKey, FitsCall}
 use Rattle.kinds.specs.declared.Name.{Name}
 use Rattle.kinds.specs.declared.Name.TheVariants.{Read as READ, Write as WRITE, Alloc as ALLOC, Create as CREATE, Delete as DELETE, KeyRead as KEY-READ, Renew as RENEW, Force as FORCE, Free as FREE, Tick as TICK, Audit as AUDIT, AllocContig as ALLOC-CONTIG, KeyWrite as KEY-WRITE, DeleteTree as DELETE-TREE}

@@ -17,7 +17,7 @@ use Rattle.card.specs.declared.Call.{Call}
 use Rattle.card.specs.declared.Call.TheVariants.{Force, Free, Tick, Audit}
 use Rattle.fields.specs.Bytes.{number}
 use Rattle.kinds.specs.Kinds.{length_of, kind_of, kind_length}
-use Rattle.kinds.specs.KindsLaws.{host_kinds}
+use Rattle.kinds.proofs.KindsLaws.{host_kinds}
 use Rattle.fields.specs.Fields.{credential, new_key}
 use Rattle.decoding.specs.Decode.{with_credential, read_with, write_with, alloc_with, alloc_contig_with, create_with, delete_with, delete_tree_with, key_with, renew_with, decode_key, decode_call, decode_known, decode_body, name_of, body_of, sent, next_of, decode}
 use Rattle.kinds.specs.declared.Length.TheVariants.{Bytes, Unknown as UnknownLength}

@@ -10,7 +10,7 @@ use Rattle.card.specs.Card.{Card}
 use Rattle.card.specs.declared.Port.{Port}
 use Rattle.decoding.specs.Decode.{Next, ended, refused, sent, decode}
 use Rattle.kinds.specs.Kinds.{body_length}
-use Rattle.decoding.specs.DecodeLaws.{decode_shorter}
+use Rattle.decoding.proofs.DecodeLaws.{decode_shorter}
 use Rattle.lines.specs.Lines.{line_room}
 use Rattle.input.specs.Play.{player_port, is_short, fault, Turn, halted, turn_of, turn, Play, output_before, stopped, go_on, play_within, play}
 use Rattle.input.specs.declared.Stop.{Stop}
