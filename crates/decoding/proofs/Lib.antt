@@ -4,3 +4,4 @@ pub mod Samples
 pub mod KindsDecoded
 pub mod Uncarried
 pub mod Rows
+pub mod Tested

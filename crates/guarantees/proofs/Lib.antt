@@ -14,3 +14,4 @@ pub mod Trees
 pub mod Rent
 pub mod Secrecy
 pub mod Trials
+pub mod Tested

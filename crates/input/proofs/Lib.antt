@@ -5,3 +5,4 @@ pub mod PerformedLaws
 pub mod PlayedLaws
 pub mod SameTables
 pub mod Rows
+pub mod Tested

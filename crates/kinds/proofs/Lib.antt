@@ -3,3 +3,4 @@ pub mod ArithmeticLaws
 pub mod AllKinds
 pub mod AllKindsLaws
 pub mod Rows
+pub mod Tested

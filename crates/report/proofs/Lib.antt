@@ -5,3 +5,4 @@ pub mod Listed
 pub mod Reported
 pub mod Tests
 pub mod Rows
+pub mod Tested

@@ -1,3 +1,4 @@
 pub mod CallsSafe
 pub mod CallsSecret
 pub mod Rows
+pub mod Tested

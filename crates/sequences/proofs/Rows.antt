@@ -64,7 +64,7 @@ all_at_host_true : (steps : List Step) → all_at_host steps ≡ true → AllAtH
 all_at_host_true [] h = tt
 all_at_host_true (s ∷ steps) h = (eqb-true _ _ (and_left _ _ h), all_at_host_true steps (and_right (eqb (port_number s) 0) _ h))
 
-abbrev with_bytes : Memory → List ℕ → Memory
+abbrev pub with_bytes : Memory → List ℕ → Memory
 with_bytes m contents = record { info = m.info; flags = m.flags; keys = m.keys; counts = m.counts; pointers = m.pointers; multiplicities = m.multiplicities; windows = m.windows; contents = contents }
 
 -- At the host port, on two memories that the keys of the sequence cannot tell apart, the same is returned.
@@ -73,7 +73,7 @@ calls_secret_test m contents named steps rs ss =
     implies (all_at_host steps && comparable (keys_by (card_of m) steps) (card_of m) contents named) (same_lists (returned_numbers rs) (returned_numbers ss))
 
 module _ {m m' n' : Memory} (contents : List ℕ) (named : ℕ → Bool) {steps : List Step} {rs ss : List Returned} (runs : Called m steps rs m') (runsOther : Called (with_bytes m contents) steps ss n') where
-  calls_secret_tests : CallsSecret → calls_secret_test m contents named steps rs ss ≡ true
+  pub calls_secret_tests : CallsSecret → calls_secret_test m contents named steps rs ss ≡ true
   calls_secret_tests statement =
       let K = keys_by (card_of m) steps in
       true_implies (all_at_host steps && comparable K (card_of m) contents named) _

@@ -5,3 +5,4 @@ pub mod BytesSafe
 pub mod BytesSecret
 pub mod BytesExample
 pub mod Rows
+pub mod Tested
