@@ -8,7 +8,7 @@ ghost use Rattle.card.specs.Lent.{lent, kept, changed};
 ghost use Rattle.card.specs.SoundCard.{SoundCard};
 ghost use Rattle.card.specs.Reach.{key_presented};
 ghost use Rattle.report.specs.Report.{given, bad_keys, reach_report};
-ghost use Rattle.report.specs.Contracts.{reach_sound, Reports};
+ghost use Rattle.report.specs.Reporting.{reach_sound, Reports};
 ghost use Rattle.walks.specs.Walk.{marked_below};
 ghost use Rattle.reach.specs.Within.{StandingOf, Sized, Begun, Within, Fresh};
 

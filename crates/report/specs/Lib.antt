@@ -1,4 +1,4 @@
 pub mod Report
-pub mod Contracts
+pub mod Reporting
 pub mod Leading
 pub mod Statements

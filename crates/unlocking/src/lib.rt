@@ -7,7 +7,7 @@ ghost use Rattle.card.specs.Lent.{lent, kept, changed};
 ghost use Rattle.card.specs.SoundCard.{SoundCard};
 ghost use Rattle.card.specs.Calls.{missing};
 ghost use Rattle.report.specs.Report.{unlocking_report};
-ghost use Rattle.report.specs.Contracts.{unlocking_sound, Reports};
+ghost use Rattle.report.specs.Reporting.{unlocking_sound, Reports};
 ghost use Rattle.walks.specs.Walk.{Walkable, Edge, Spread};
 ghost use Rattle.walks.specs.declared.Direction.TheVariants.{Against};
 ghost use Rattle.unlocking.specs.Unlocking.{Keyed, QueuedBelow, has_this_key, fits_queued, leads_or_fits, Kept, FoundOf};

@@ -2,7 +2,6 @@ use mathlib.Core.Path.{refl, sym, ◌∙◌}
 use native.Mathlib.Omega.{arith}
 use Rattle.input.proofs.SameTables.{same_tables}
 use Rattle.batch.proofs.Serving.{serving_none, serving_at, serving_stopped, serving_further, serving_more}
-use Prim.Native.Nat.{◌-◌}
 use Rattle.batch.proofs.serve.Goals as goal
 
 pub loop-stop-init : goal.loop-stop-init
