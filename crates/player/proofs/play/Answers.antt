@@ -1,6 +1,5 @@
 use mathlib.Core.Path.{refl, sym, ◌∙◌}
 use native.Mathlib.Omega.{arith}
-use Prim.Native.Nat.{◌-◌}
 use Rattle.input.proofs.SameTables.{same_tables}
 use Rattle.player.proofs.Playing.{playing_none, playing_at, playing_full, playing_stopped, playing_further, playing_more}
 use Rattle.player.proofs.play.Goals as goal
