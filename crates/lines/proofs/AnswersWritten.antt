@@ -72,7 +72,7 @@ reported_refused call NoRun out places = refl
 reported_refused call HasWriteKey out places = refl
 reported_refused call PriceTooHigh out places = refl
 
-values_filled : (call : Call) (r : Reply) → shown_values call r ≡ values_of (filled_by call) r.out r.places
+pub values_filled : (call : Call) (r : Reply) → shown_values call r ≡ values_of (filled_by call) r.out r.places
 unfolding traits
 values_filled (Read o) r = refl
 values_filled (Write o) r = refl
