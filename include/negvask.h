@@ -18,9 +18,9 @@
  * since that is what it compiles for. Whoever links it supplies memcpy()
  * and memset(), as any C library does, and nothing else; `nm -u` of the
  * archive says so.
- * The deepest call, negvask_unlocking(), takes 98,976 bytes of stack below
- * its caller, as `tests/run.sh --benchmark` prints; what a host's bytes
- * lead to takes 39,024.
+ * The deepest call, negvask_unlocking(), takes 58,144 bytes of stack below
+ * its caller, as `tests/run.sh --benchmark` prints; the deepest of a host
+ * takes 38,768.
  *
  * All state is in memory provided by the caller: a record of six
  * numbers and seven tables. The functions keep nothing between calls,

@@ -18,12 +18,8 @@ use Rattle.card.specs.declared.Port.{Port}
 use Rattle.card.specs.declared.Port.TheVariants.{Host, Service}
 use Rattle.card.specs.declared.Mode.{Mode}
 use Rattle.card.specs.declared.Credential.{Credential}
-use Rattle.access.specs.Accessible.{Accessible, bare}
-use Rattle.access.specs.AccessibleLaws.{sound_accessible, admits_bare}
-
--- The public part by its record and flags alone.
-abbrev pub flagged : Public → Public
-flagged p = (card p.info p.flags [] [] [] [] [] []).public
+use Rattle.access.specs.Accessible.{Accessible}
+use Rattle.access.specs.AccessibleLaws.{sound_accessible}
 
 pub missing_above : (p : Public) (b : ℕ) → p.info.blocks ≤ b → true ≡ not (allocated p b)
 unfolding allocated
@@ -33,7 +29,7 @@ pub missing_below : (p : Public) (b : ℕ) {t : Bool} → b < p.info.blocks → 
 unfolding allocated
 missing_below p b h told = rw (lt-ltb b p.info.blocks h, told)
 
-module _ (p : Public) (b : ℕ) {t : Bool} (told : t ≡ not (allocated (flagged p) b)) where
+module _ (p : Public) (b : ℕ) {t : Bool} (told : t ≡ not (allocated p b)) where
   -- The test on the card, whichever way it came out.
   pub missing_told : {s : Bool} → t ≡ s → not (allocated p b) ≡ s
   unfolding allocated
@@ -43,19 +39,19 @@ module _ (p : Public) (b : ℕ) {t : Bool} (told : t ≡ not (allocated (flagged
   there e = allocated_below p b (not-false (allocated p b) (missing_told e))
 
 -- A block that is there has both windows.
-pub windows_there : {c : Card} (b : ℕ) {t : Bool} → SoundCard c → t ≡ not (allocated (flagged c.public) b) → t ≡ false
+pub windows_there : {c : Card} (b : ℕ) {t : Bool} → SoundCard c → t ≡ not (allocated c.public b) → t ≡ false
     → 2 * b + 2 ≤ length c.public.windows
 windows_there {c} b s told e = omega (arith, s.shaped.has_lengths.windows, there c.public b told e)
 
 -- A block that is there has a flags byte and four key words.
-pub flag_there : {c : Card} (b : ℕ) {t : Bool} → SoundCard c → t ≡ not (allocated (flagged c.public) b) → t ≡ false → b < length c.public.flags
+pub flag_there : {c : Card} (b : ℕ) {t : Bool} → SoundCard c → t ≡ not (allocated c.public b) → t ≡ false → b < length c.public.flags
 flag_there {c} b s told e = omega (arith, s.shaped.has_lengths.flags, there c.public b told e)
 
-pub keys_there : {c : Card} (b : ℕ) {t : Bool} → SoundCard c → t ≡ not (allocated (flagged c.public) b) → t ≡ false → 4 * b + 4 ≤ length c.keys
+pub keys_there : {c : Card} (b : ℕ) {t : Bool} → SoundCard c → t ≡ not (allocated c.public b) → t ≡ false → 4 * b + 4 ≤ length c.keys
 keys_there {c} b s told e = omega (arith, s.shaped.has_lengths.keys, there c.public b told e)
 
 -- What a window of a block that is there is set by.
-pub windows_low : {c : Card} (b : ℕ) {t : Bool} → SoundCard c → t ≡ not (allocated (flagged c.public) b) → t ≡ false
+pub windows_low : {c : Card} (b : ℕ) {t : Bool} → SoundCard c → t ≡ not (allocated c.public b) → t ≡ false
     → (c.public.info.time < time_limit) × ((b < 65536) × (2 * b + 2 ≤ length c.public.windows))
 windows_low {c} b s told e =
     let below : b < c.public.info.blocks = there c.public b told e in
@@ -64,12 +60,12 @@ windows_low {c} b s told e =
 
 -- ---- the access test
 
-pub access_there : {c : Card} (b : ℕ) {t : Bool} → SoundCard c → t ≡ not (allocated (flagged c.public) b) → t ≡ false → Accessible (bare c) b
+pub access_there : {c : Card} (b : ℕ) {t : Bool} → SoundCard c → t ≡ not (allocated c.public b) → t ≡ false → Accessible c b
 access_there {c} b s told e = sound_accessible s (there c.public b told e)
 
-module _ (port : Port) (c : Card) (mode : Mode) (b : ℕ) (credential : Credential) {a : Bool} (told : a ≡ admits port (bare c) mode b credential) where
+module _ (port : Port) (c : Card) (mode : Mode) (b : ℕ) (credential : Credential) {a : Bool} (told : a ≡ admits port c mode b credential) where
   pub closed_told : {s : Bool} → not a ≡ s → not (admits port c mode b credential) ≡ s
-  closed_told e = sym (ap not (told ∙ admits_bare port c mode b credential)) ∙ e
+  closed_told e = sym (ap not told) ∙ e
 
 -- ---- roots
 

@@ -7,14 +7,15 @@ ghost use Rattle.card.specs.declared.Credential.TheVariants.{Reference};
 ghost use Rattle.card.specs.Card.{Card, card, window_open};
 ghost use Rattle.card.specs.Access.{key_is, key_opens, opens_pointed, opens, admits};
 ghost use Rattle.card.specs.Calls.{missing, root_at_host};
+ghost use Rattle.card.specs.Lent.{lent_card};
 ghost use Rattle.access.specs.Accessible.{Referable, Accessible};
 
-use card::{Credential, Info, Mode, Port};
+use card::{Credential, Info, LentCard, Mode, Port};
 
 // ---- refusals 3 and 6
 
-// "3": the block is not below N or not allocated.
-pub fn missing(info: Info, flags: &[u8], block: usize) -> bool
+// "3": the block is not below N or not allocated, told by the record and the flags.
+pub fn missing_in(info: Info, flags: &[u8], block: usize) -> bool
     requires { length flags.now ≡ info.blocks }
     ensures { result ≡ missing (card info flags.now [] [] [] [] [] []).public block }
 {
@@ -22,6 +23,13 @@ pub fn missing(info: Info, flags: &[u8], block: usize) -> bool
         return true;
     }
     !flags::allocated(flags[block])
+}
+
+pub fn missing(card: &LentCard, block: usize) -> bool
+    requires { length card.now.flags.now ≡ card.now.info.blocks }
+    ensures { result ≡ missing (lent_card card.now).public block }
+{
+    missing_in(card.info, card.flags, block)
 }
 
 // "6": the block is a root and the call is a host's.
@@ -89,59 +97,43 @@ pub fn window_open(info: Info, windows: &[u64], mode: Mode, block: usize) -> boo
 }
 
 // The reference opens a block that has no key for the mode and is no root.
-fn reference_opens(
-    info: Info,
-    flags: &[u8],
-    pointers: &[u32],
-    windows: &[u64],
-    mode: Mode,
-    block: usize,
-    reference: u16,
-) -> bool
-    requires { Referable (card info flags.now [] [] pointers.now [] windows.now []).public block }
-    ensures { result ≡ opens_pointed (card info flags.now [] [] pointers.now [] windows.now []).public mode block (Reference reference) }
+fn reference_opens(card: &LentCard, mode: Mode, block: usize, reference: u16) -> bool
+    requires { Referable (lent_card card.now).public block }
+    ensures { result ≡ opens_pointed (lent_card card.now).public mode block (Reference reference) }
 {
     let source = reference as usize;
-    if info.blocks <= source {
+    if card.info.blocks <= source {
         return false;
     }
-    if !flags::allocated(flags[source]) {
+    if !flags::allocated(card.flags[source]) {
         return false;
     }
     let pointer = (reference as u32) * 65536 + (block as u32);
-    tables::holds(pointers, info.used, pointer) & window_open(info, windows, mode, source)
+    tables::holds(card.pointers, card.info.used, pointer)
+        & window_open(card.info, card.windows, mode, source)
 }
 
 // ---- the test
 
 // The credential opens the block for the mode.
-pub fn opens(
-    info: Info,
-    flags: &[u8],
-    keys: &[u64],
-    pointers: &[u32],
-    windows: &[u64],
-    mode: Mode,
-    block: usize,
-    credential: Credential,
-) -> bool
-    requires { Accessible (card info flags.now keys.now [] pointers.now [] windows.now []) block }
-    ensures { result ≡ opens (card info flags.now keys.now [] pointers.now [] windows.now []) mode block credential }
+pub fn opens(card: &LentCard, mode: Mode, block: usize, credential: Credential) -> bool
+    requires { Accessible (lent_card card.now) block }
+    ensures { result ≡ opens (lent_card card.now) mode block credential }
 {
-    let flag = flags[block];
+    let flag = card.flags[block];
     let keyed = flags::has_key(flag, mode);
-    let root = block < info.roots;
+    let root = block < card.info.roots;
     match credential {
         Credential::Nothing => !keyed & root,
         Credential::Reference(reference) => {
             if keyed | root {
                 return false;
             }
-            reference_opens(info, flags, pointers, windows, mode, block, reference)
+            reference_opens(card, mode, block, reference)
         }
         Credential::Key(high, low) => {
             if keyed {
-                return key_opens(flag, keys, mode, block, high, low);
+                return key_opens(flag, card.keys, mode, block, high, low);
             }
             false
         }
@@ -149,24 +141,12 @@ pub fn opens(
 }
 
 // The call may go on: at the service port always, at the host's where the credential opens the block.
-pub fn admits(
-    port: Port,
-    info: Info,
-    flags: &[u8],
-    keys: &[u64],
-    pointers: &[u32],
-    windows: &[u64],
-    mode: Mode,
-    block: usize,
-    credential: Credential,
-) -> bool
-    requires { Accessible (card info flags.now keys.now [] pointers.now [] windows.now []) block }
-    ensures { result ≡ admits port (card info flags.now keys.now [] pointers.now [] windows.now []) mode block credential }
+pub fn admits(port: Port, card: &LentCard, mode: Mode, block: usize, credential: Credential) -> bool
+    requires { Accessible (lent_card card.now) block }
+    ensures { result ≡ admits port (lent_card card.now) mode block credential }
 {
     match port {
-        Port::Host => opens(
-            info, flags, keys, pointers, windows, mode, block, credential,
-        ),
+        Port::Host => opens(card, mode, block, credential),
         Port::Service => true,
     }
 }

@@ -1,16 +1,13 @@
 -- What a function that C calls leaves: the number it returns, its result, the record as numbers, the card and the buffers.
-use Rattle.std.specs.Prelude.{ℕ, ◌≡◌, cond, List, [], eqb, length}
+use Rattle.std.specs.Prelude.{ℕ, ◌≡◌, cond, List, [], eqb, length, Some, None, Ok, Err}
 use Rattle.card.specs.Card.{Card}
 use Rattle.card.specs.Lent.{Lent, LentNumber, at_entry, at_exit}
 use Rattle.card.specs.Plan.{Result}
 use Rattle.card.specs.Calls.{answer_number, format}
 use Rattle.card.specs.Session.{request, perform}
-use Rattle.card.specs.declared.Answer.{Answer}
-use Rattle.card.specs.declared.Answer.TheVariants.{Refused, Done, Value}
+use Rattle.card.specs.Answers.{Answer}
 use Rattle.report.specs.Report.{reach_report, unlocking_report}
-use Rattle.decoding.specs.Decode.{data_of}
-use Rattle.decoding.specs.declared.Decoding.{Decoding}
-use Rattle.decoding.specs.declared.Decoding.TheVariants.{Decoded, Bad}
+use Rattle.decoding.specs.Decode.{Decoding, data_of}
 use Rattle.parameters.specs.Numbers.{record_length, record_of, numbers_of}
 
 pub record Effect : Type 0 where
@@ -23,9 +20,9 @@ pub record Effect : Type 0 where
 
 -- A call with a result puts it in the place that the caller lends for it.
 abbrev pub value_after : Answer → ℕ → ℕ
-value_after (Refused r) value = value
-value_after Done value = value
-value_after (Value v) value = v
+value_after (Err r) value = value
+value_after (Ok None) value = value
+value_after (Ok (Some v)) value = v
 
 -- What the result of a rule comes to.
 abbrev pub effect_of : Result → ℕ → Effect
@@ -44,9 +41,9 @@ refused_effect number out places value info c = record { number = number; value 
 
 -- A call, if the operands or the bytes hold one, else 13; and 1 where the record has not its numbers.
 unfoldable pub effect : Decoding → List ℕ → List ℕ → List ℕ → ℕ → List ℕ → Card → Effect
-effect (Decoded port call) input out places value info c =
+effect (Ok (port, call)) input out places value info c =
     cond (eqb (length info) record_length) (effect_of (perform port c (request call input out places)) value) (refused_effect 1 out places value info c)
-effect Bad input out places value info c = refused_effect 13 out places value info c
+effect (Err bad) input out places value info c = refused_effect 13 out places value info c
 
 -- ---- what no record carries
 
@@ -69,8 +66,8 @@ unlocking_effect words chosen places value info c = rule_effect (unlocking_repor
 
 -- The bytes that a record has beside its operands.
 unfoldable pub data_in : Decoding → List ℕ → List ℕ
-data_in (Decoded port call) body = data_of call body
-data_in Bad body = []
+data_in (Ok (port, call)) body = data_of call body
+data_in (Err bad) body = []
 
 -- ---- what the contracts cite
 

@@ -1,5 +1,5 @@
 -- Laws of what a function that C calls leaves.
-use Rattle.std.specs.Prelude.{ℕ, ◌-◌, ◌≤◌, ◌≡◌, length, take, drop}
+use Rattle.std.specs.Prelude.{ℕ, ◌-◌, ◌≤◌, ◌≡◌, length, take, drop, Ok, Err}
 use Rattle.std.proofs.Math.Path.{refl, subst}
 use Rattle.std.proofs.Common.{sym, ap, ap₂, ◌∙◌, arith}
 use mathlib.Core.List.{List, [], ◌∷◌}
@@ -12,17 +12,16 @@ use Rattle.card.specs.Session.{request, perform}
 use Rattle.card.specs.declared.Info.{Info}
 use Rattle.card.specs.declared.Port.{Port}
 use Rattle.card.specs.declared.Call.{Call}
-use Rattle.card.specs.declared.Answer.{Answer}
+use Rattle.card.specs.Answers.{Answer}
 use Rattle.card.specs.declared.Refusal.{Refusal}
 use Rattle.card.specs.declared.Refusal.TheVariants.{Misshapen, Unsound, NotAllocated, BadOperand, NotOpened, IsRoot, CannotPoint, NoPointer, HasPointers, TooFewBlocks, TooFewPlaces, TimeEnds, BadRecord, NoRun, HasWriteKey, PriceTooHigh}
-use Rattle.decoding.specs.Decode.{data_of}
+use Rattle.decoding.specs.Decode.{Decoding, data_of}
 use Rattle.decoding.specs.Parsed.{ParsedIs}
-use Rattle.decoding.specs.declared.Decoding.{Decoding}
-use Rattle.decoding.specs.declared.Decoding.TheVariants.{Decoded, Bad}
 use Rattle.decoding.specs.declared.Parsed.{Parsed}
 use Rattle.parameters.specs.Numbers.{record_length, record_of, numbers_of}
 use Rattle.parameters.specs.NumbersLaws.{numbers_record}
 use Rattle.adapter.specs.Effects.{Effect, value_after, effect_of, effect, rule_effect, data_in, Gives}
+use Rattle.fields.specs.Fields.{bad_record}
 
 -- The number of a refusal fits 32 bits.
 pub refusal_small : (r : Refusal) → refusal_number r ≤ 16
@@ -47,12 +46,12 @@ refusal_small PriceTooHigh = omega arith
 
 module _ (input out places : List ℕ) (value : ℕ) (info : List ℕ) (c : Card) {d : Decoding} where
   -- There is no call.
-  pub effect_bad : d ≡ Bad → Gives (effect d input out places value info c) 13 value info c out places
+  pub effect_bad : d ≡ Err bad_record → Gives (effect d input out places value info c) 13 value info c out places
   unfolding effect
   effect_bad e = rw e (record { does = record { answers = refl; records = refl; leaves = refl; fills_out = refl; fills_places = refl }; gives = refl })
 
   -- The record has not its numbers.
-  pub effect_record : {port : Port} {call : Call} → d ≡ Decoded port call → (length info ≡ record_length → ⊥) → Gives (effect d input out places value info c) 1 value info c out places
+  pub effect_record : {port : Port} {call : Call} → d ≡ Ok (port, call) → (length info ≡ record_length → ⊥) → Gives (effect d input out places value info c) 1 value info c out places
   unfolding effect
   effect_record e n =
       rw (e, ne_eqb (length info) record_length n)
@@ -78,7 +77,7 @@ reported value left flags keys counts pointers multiplicities windows contents i
 -- The call was performed on the record that was loaded, and its answer reported.
 module _ (input out places : List ℕ) (value : ℕ) (info flags keys counts pointers multiplicities windows contents : List ℕ) {d : Decoding} {port : Port} {call : Call} where
   pub effect_called : {loaded : Info} (left : Info) (flags' keys' counts' pointers' multiplicities' windows' contents' : List ℕ) {answer : Answer} {number given : ℕ} {numbers out' places' : List ℕ}
-      → d ≡ Decoded port call → length info ≡ record_length → loaded ≡ record_of info
+      → d ≡ Ok (port, call) → length info ≡ record_length → loaded ≡ record_of info
       → Is (perform port (card loaded flags keys counts pointers multiplicities windows contents) (request call input out places)) answer (card left flags' keys' counts' pointers' multiplicities' windows' contents') out' places'
       → numbers ≡ numbers_of left → number ≡ answer_number answer → given ≡ value_after answer value
       → Gives (effect d input out places value info (card (record_of info) flags keys counts pointers multiplicities windows contents)) number given numbers (card (record_of numbers) flags' keys' counts' pointers' multiplicities' windows' contents') out' places'
@@ -136,14 +135,14 @@ module _ (rule : Card → Result) (places : List ℕ) (value : ℕ) (info : List
 -- ---- a call record
 
 -- The bytes that a call does not look at may be any.
-same_input : (d : Decoding) {xs ys : List ℕ} (out places : List ℕ) (value : ℕ) (info : List ℕ) (c : Card) → ((port : Port) (call : Call) → d ≡ Decoded port call → xs ≡ ys)
+same_input : (d : Decoding) {xs ys : List ℕ} (out places : List ℕ) (value : ℕ) (info : List ℕ) (c : Card) → ((port : Port) (call : Call) → d ≡ Ok (port, call) → xs ≡ ys)
     → effect d xs out places value info c ≡ effect d ys out places value info c
 unfolding effect
-same_input (Decoded port call) out places value info c h = rw (h port call refl)
-same_input Bad out places value info c h = refl
+same_input (Ok (port, call)) out places value info c h = rw (h port call refl)
+same_input (Err bad) out places value info c h = refl
 
 -- What the decoder gives as a record's data is what the record has beside its operands.
-data_part : {want : Decoding} (body : List ℕ) {r : Parsed} → ParsedIs want body r → (port : Port) (call : Call) → r.decoding ≡ Decoded port call
+data_part : {want : Decoding} (body : List ℕ) {r : Parsed} → ParsedIs want body r → (port : Port) (call : Call) → r.decoding ≡ Ok (port, call)
     → take (r.end - r.payload) (drop r.payload body) ≡ data_in r.decoding body
 unfolding data_in data_of
 data_part body p port call e =

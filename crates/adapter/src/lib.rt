@@ -7,8 +7,8 @@ ghost use Rattle.card.specs.Calls.{answer_number};
 ghost use Rattle.parameters.specs.Numbers.{record_length, numbers_of};
 ghost use Rattle.adapter.specs.Effects.{value_after, effect, EffectsGiving, EffectsLent};
 
-use card::{Answer, Outcome};
-use decoding::Decoding;
+use card::{Answer, Call, Info, LentCard, Port};
+use fields::BadRecord;
 
 // The number of an answer; a result is put where the caller asks for it.
 pub fn report(answer: Answer, value: &mut u64) -> u32
@@ -16,9 +16,9 @@ pub fn report(answer: Answer, value: &mut u64) -> u32
     ensures result { value.new ≡ value_after answer value.old }
 {
     match answer {
-        Answer::Refused(refusal) => lines::refusal_number(refusal) as u32,
-        Answer::Done => 0,
-        Answer::Value(v) => {
+        Err(refusal) => lines::refusal_number(refusal) as u32,
+        Ok(None) => 0,
+        Ok(Some(v)) => {
             *value = v;
             0
         }
@@ -26,14 +26,12 @@ pub fn report(answer: Answer, value: &mut u64) -> u32
 }
 
 // What a call leaves of the record is stored, and its answer reported.
-pub fn settle(info: &mut [u64], outcome: Outcome, value: &mut u64) -> u32
+pub fn settle(info: &mut [u64], left: Info, answer: Answer, value: &mut u64) -> u32
     requires { length info.old ≡ record_length }
-    ensures stored { info.new ≡ numbers_of outcome.info }
-    ensures number { result ≡ answer_number outcome.answer }
-    ensures result { value.new ≡ value_after outcome.answer value.old }
+    ensures stored { info.new ≡ numbers_of left }
+    ensures number { result ≡ answer_number answer }
+    ensures result { value.new ≡ value_after answer value.old }
 {
-    let left = outcome.info;
-    let answer = outcome.answer;
     parameters::store(info, left);
     report(answer, value)
 }
@@ -48,7 +46,7 @@ pub fn perform(
     multiplicities: &mut [u16],
     windows: &mut [u64],
     contents: &mut [u8],
-    decoding: Decoding,
+    decoding: Result<(Port, Call), BadRecord>,
     input: &[u8],
     out: &mut [u8],
     places: &mut [u16],
@@ -56,14 +54,14 @@ pub fn perform(
 ) -> u32
     ensures { EffectsLent (effect decoding input.now) (changed info.old info.new) (changed flags.old flags.new) (changed keys.old keys.new) (changed counts.old counts.new) (changed pointers.old pointers.new) (changed multiplicities.old multiplicities.new) (changed windows.old windows.new) (changed contents.old contents.new) (changed out.old out.new) (changed places.old places.new) (changed value.old value.new) result }
 {
-    let Decoding::Decoded(port, call) = decoding else {
+    let Ok((port, call)) = decoding else {
         return 13;
     };
     if info.len() != parameters::RECORD_LENGTH {
         return 1;
     }
-    let outcome = controller::perform(
-        parameters::load(info),
+    let mut card = LentCard {
+        info: parameters::load(info),
         flags,
         keys,
         counts,
@@ -71,13 +69,9 @@ pub fn perform(
         multiplicities,
         windows,
         contents,
-        port,
-        call,
-        input,
-        out,
-        places,
-    );
-    settle(info, outcome, value)
+    };
+    let answer = controller::perform(&mut card, port, call, input, out, places);
+    settle(info, card.info, answer, value)
 }
 
 // The same of a call that fills no buffer.
@@ -90,7 +84,7 @@ pub fn perform_without_buffers(
     multiplicities: &mut [u16],
     windows: &mut [u64],
     contents: &mut [u8],
-    decoding: Decoding,
+    decoding: Result<(Port, Call), BadRecord>,
     input: &[u8],
     value: &mut u64,
 ) -> u32

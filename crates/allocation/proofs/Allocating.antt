@@ -7,26 +7,23 @@ use lib.Dec.{ltb}
 use lib.ListN.{length, take}
 use borrow.Author.Tests.{lt-ltb, le-ltb, ltb-false}
 use Rattle.card.specs.Contents.{overwrite}
-use Rattle.card.specs.Card.{Card, card, free_blocks}
+use Rattle.card.specs.Card.{Card, free_blocks}
 use Rattle.card.specs.SoundCard.{SoundCard}
 use Rattle.card.specs.Plan.{◌⇒◌, FirstHolds, here, NoneHolds, changes, out_after, places_after}
 use Rattle.laws.specs.PlanLaws.{holds_front, holds_behind, none_append}
 use Rattle.card.specs.Calls.{wanted, picks, take_all, alloc_plan}
 use Rattle.laws.specs.PicksLaws.{picks_takeable, picks_length}
 use Rattle.card.specs.Promises.{Is}
+use Rattle.laws.specs.PromisesLaws.{is_done}
 use Rattle.card.specs.Session.{Request, request, plan, perform_sound}
-use Rattle.card.specs.declared.Info.{Info}
-use Rattle.card.specs.declared.Outcome.{Outcome}
 use Rattle.card.specs.declared.Port.{Port}
 use Rattle.card.specs.declared.Call.TheVariants.{Alloc}
 use Rattle.card.specs.declared.AllocOperands.{AllocOperands}
 use Rattle.card.specs.declared.Refusal.{Refusal}
 use Rattle.card.specs.declared.Refusal.TheVariants.{TooFewPlaces}
-use Rattle.card.specs.declared.Answer.TheVariants.{Done}
+use Rattle.card.specs.Answers.{Done}
 use Rattle.tables.specs.Free.{free_below}
 use Rattle.tables.specs.FreeLaws.{flags_free}
-use Rattle.outcomes.specs.Outcomes.{outcome}
-use Rattle.outcomes.proofs.Returned.{finishes}
 use Rattle.checks.specs.Checked.{Refuses, Passes}
 use Rattle.allocation.specs.Walk.{CanPick}
 use Rattle.allocation.specs.Taking.{CanTakeAll}
@@ -85,10 +82,8 @@ module _ (port : Port) (c : Card) (o : AllocOperands) (places : List ℕ) where
         pub can_take_picked : CanTakeAll c o.reference (take o.count left)
         can_take_picked = can_take_all picked port s shared_passed room
 
-        pub alloc_done : {r : Outcome} {info : Info} {flags counts pointers multiplicities contents : List ℕ} → r ≡ outcome Done info
-            → card info flags c.keys counts pointers multiplicities c.public.windows contents ≡ changes c (take_all o.reference (take o.count left))
-            → Is (perform_sound port c alloc_request) r.answer (card r.info flags c.keys counts pointers multiplicities c.public.windows contents) [] left
+        pub alloc_done : {after : Card} → after ≡ changes c (take_all o.reference (take o.count left)) → Is (perform_sound port c alloc_request) Done after [] left
         unfolding perform_sound plan alloc_plan out_after places_after
-        alloc_done f t =
-            finishes c alloc_request.lent (plan port c alloc_request.call alloc_request.lent) f h
+        alloc_done t =
+            is_done c alloc_request.lent (plan port c alloc_request.call alloc_request.lent) h
             (t ∙ ap (λ (xs : List ℕ). changes c (take_all o.reference xs)) (first_places picked)) refl picked.shown

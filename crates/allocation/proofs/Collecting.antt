@@ -13,6 +13,8 @@ use Rattle.card.specs.Pointers.{pointer, ascending, contains, insert, insert_bes
 use Rattle.laws.specs.PointersLaws.{insert_ascending, all_insert}
 use Rattle.laws.specs.BesideLaws.{InStep, in_step}
 use Rattle.laws.specs.ChangesLaws.{inserted_take, inserted_length}
+use Rattle.card.specs.Lent.{lent_card, SameTables}
+use Rattle.card.specs.declared.LentCard.{LentCard}
 use Rattle.card.specs.Card.{Card, card, free, in_use, points_to}
 use Rattle.laws.specs.SoundnessLaws.{free_unallocated}
 use Rattle.card.specs.Plan.{with_used, change_public, change_keys, change_contents, change, changes}
@@ -92,6 +94,19 @@ pub record Collected (c₀ : Card) (reference : ℕ) (numbers flags counts conte
   pub sorted : Sorted added taken
   pub absent : all (λ v. not (contains v (in_use c₀.public))) (take taken added) ≡ true
   pub size : length added ≡ 64
+
+-- What the loop leaves alone of the lent card.
+pub record Spares (before now : LentCard) : Type 0 where
+  pub same : SameTables before now
+  pub info : now.info ≡ before.info
+  pub keys : now.keys.now ≡ before.keys.now
+  pub pointers : now.pointers.now ≡ before.pointers.now
+  pub multiplicities : now.multiplicities.now ≡ before.multiplicities.now
+  pub windows : now.windows.now ≡ before.windows.now
+
+pub record Collects (before now : LentCard) (reference : ℕ) (numbers added : List ℕ) (taken : ℕ) : Type 0 where
+  pub collected : Collected (lent_card before) reference numbers now.flags.now now.counts.now now.contents.now added taken
+  pub spares : Spares before now
 
 pub collected_start : {c₀ : Card} {reference : ℕ} {numbers added : List ℕ} → CanTakeAll c₀ reference numbers → length added ≡ 64
     → Collected c₀ reference numbers c₀.public.flags c₀.public.counts c₀.contents added 0

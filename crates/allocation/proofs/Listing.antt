@@ -1,6 +1,6 @@
 -- Numbers in a row put into the first places, one after the other, over plain values.
 use Prim.Native.Nat.{ℕ, suc, ◌+◌, ◌-◌, ◌≤◌, ◌<◌}
-use mathlib.Core.Path.{◌≡◌, refl, sym, ap, ◌∙◌}
+use mathlib.Core.Path.{◌≡◌, sym, ap, ◌∙◌}
 use mathlib.Core.List.{List}
 use native.Mathlib.Omega.{arith}
 use lib.ListN.{length, set, length-set}
@@ -15,12 +15,6 @@ pub record Listed (first count : ℕ) (places₀ places : List ℕ) (listed : �
   pub most : listed ≤ count
   pub whole : overwrite places listed (numbers_from (first + listed) (count - listed)) ≡ overwrite places₀ 0 (numbers_from first count)
   pub same_places : length places ≡ length places₀
-
-pub listed_start : (first count : ℕ) (places₀ : List ℕ) → first + count ≤ 65536 → count ≤ length places₀ → Listed first count places₀ places₀ 0
-listed_start first count places₀ narrow fits =
-    let here : first + 0 ≡ first = omega arith in
-    let all : count - 0 ≡ count = omega arith in
-    record { narrow = narrow; fits = fits; most = omega arith; whole = rw (here, all); same_places = refl }
 
 module _ {first count : ℕ} {places₀ places : List ℕ} {listed : ℕ} (w : Listed first count places₀ places listed) where
   pub listed_more : listed < count → Listed first count places₀ (set places listed (first + listed)) (listed + 1)

@@ -25,40 +25,6 @@ use Rattle.allocation.proofs.Nearest.{picks_nearest, remove_numbers}
 
 -- ---- the next block
 
-module _ {want blocks low high : ℕ} (s : Spread want blocks low high) where
-  pub next_up : low ≡ 0 → NextBlock want blocks low high high
-  next_up e = record {
-    below = s.unpassed e;
-    beside = inr refl;
-    nearest = λ y l o. ⊎_elim (λ (b : y < low). absurd (omega arith)) (λ (b : high ≤ y). (omega arith, λ (f : y < high). absurd (omega arith))) o;
-  }
-
-  pub next_down : (b : ℕ) → b + 1 ≡ low → (high ≡ blocks) ⊎ (want - low + 1 ≤ high - want) → NextBlock want blocks low high b
-  next_down b e c = record {
-    below = omega arith;
-    beside = inl e;
-    nearest = λ y l o.
-        ⊎_elim
-        (λ (f : y < low). (omega arith, λ (g : y < b). omega arith))
-        (λ (f : high ≤ y).
-        ⊎_elim
-        (λ (h : high ≡ blocks). absurd (omega arith))
-        (λ (h : want - low + 1 ≤ high - want). (omega arith, λ (g : y < b). absurd (omega arith)))
-        c)
-        o;
-  }
-
-  pub next_nearer : (high ≡ blocks → ⊥) → high - want < want - low + 1 → NextBlock want blocks low high high
-  next_nearer f c = record {
-    below = omega arith;
-    beside = inr refl;
-    nearest = λ y l o.
-        ⊎_elim
-        (λ (b : y < low). (omega arith, λ (g : y < high). omega arith))
-        (λ (b : high ≤ y). (omega arith, λ (g : y < high). absurd (omega arith)))
-        o;
-  }
-
 -- One end moves, to pass the next block.
 pub data Moves (low high b l h : ℕ) : Type 0 where
   down : b + 1 ≡ low → l ≡ b → h ≡ high → Moves low high b l h
@@ -184,9 +150,6 @@ module _ {flags : List ℕ} {want count : ℕ} {places₀ places : List ℕ} {lo
       }
 
   module _ {b : ℕ} (n : NextBlock want (length flags) low high b) where
-    pub next_narrow : b < 4096
-    next_narrow = omega (arith, n.below, w.ready.blocks_high)
-
     ordered : low ≤ high
     ordered = omega (arith, w.lowest, w.highest)
 
@@ -197,14 +160,6 @@ module _ {flags : List ℕ} {want count : ℕ} {places₀ places : List ℕ} {lo
     moves_up o d e = ⊎_elim (λ (q : b + 1 ≡ low). absurd (omega arith)) (λ q. up q d e) n.beside
 
     module _ {l h : ℕ} (moved : Moves low high b l h) where
-      -- One block fewer is left to pass.
-      pub picked_fewer : l + (length flags - h) < low + (length flags - high)
-      picked_fewer = go moved
-        where
-          go : Moves low high b l h → l + (length flags - h) < low + (length flags - high)
-          go (down q d e) = omega (arith, w.lowest, w.highest, w.within)
-          go (up q d e) = omega (arith, w.lowest, w.highest, n.below)
-
       around : (l ≤ want) × ((want ≤ h) × (h ≤ length flags))
       around = go moved
         where

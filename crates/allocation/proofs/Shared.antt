@@ -25,8 +25,7 @@ use Rattle.tables.specs.Free.{free_below}
 use Rattle.tables.specs.FreeLaws.{flags_free}
 use Rattle.allocation.specs.Taking.{CanTakeAll}
 use Rattle.allocation.specs.SharedChecks.{bad_operands, shared_checks}
-use Rattle.access.specs.Accessible.{bare}
-use Rattle.access.proofs.Blocks.{flagged, missing_told, root_told, closed_told}
+use Rattle.access.proofs.Blocks.{missing_told, root_told, closed_told}
 
 -- ---- the wanted block
 
@@ -63,7 +62,7 @@ module _ (port : Port) (c : Card) (o : AllocOperands) (places : List ℕ) where
     unfolding shared_checks alloc_plan
     bad_operand h = here (sym e1 ∙ h)
 
-    module _ (h1 : t1 ≡ false) {t2 : Bool} (e2 : t2 ≡ missing (flagged c.public) o.reference) where
+    module _ (h1 : t1 ≡ false) {t2 : Bool} (e2 : t2 ≡ missing c.public o.reference) where
       pub reference_missing : t2 ≡ true → FirstHolds shared NotAllocated
       unfolding shared_checks alloc_plan
       reference_missing h = later (sym e1 ∙ h1) (here (missing_told c.public _ e2 h))
@@ -73,7 +72,7 @@ module _ (port : Port) (c : Card) (o : AllocOperands) (places : List ℕ) where
         unfolding shared_checks alloc_plan
         root_reference h = later (sym e1 ∙ h1) (later (missing_told c.public _ e2 h2) (here (root_told port c.public _ e3 h)))
 
-        module _ (h3 : t3 ≡ false) {t4 : Bool} (e4 : t4 ≡ admits port (bare c) Writing o.reference o.credential) where
+        module _ (h3 : t3 ≡ false) {t4 : Bool} (e4 : t4 ≡ admits port c Writing o.reference o.credential) where
           pub reference_shut : not t4 ≡ true → FirstHolds shared NotOpened
           unfolding shared_checks alloc_plan
           reference_shut h =

@@ -1,14 +1,15 @@
 -- What the checks of ALLOC_CONTIG find.
-use Rattle.checks.specs.declared.Checked.{Checked}
-use Rattle.checks.specs.declared.Checked.TheVariants.{Passed, Refused}
+use Rattle.std.specs.Prelude.{ℕ, Option, None, Some, Result, Ok, Err}
+use Rattle.checks.specs.Checked.{Checked}
+use Rattle.card.specs.declared.Refusal.{Refusal}
 use Rattle.card.specs.declared.Refusal.TheVariants.{NoRun}
-use Rattle.runs.specs.declared.NearestRun.{NearestRun}
-use Rattle.runs.specs.declared.NearestRun.TheVariants.{Absent, From}
-use Rattle.allocation.specs.declared.RunChecked.{RunChecked}
-use Rattle.allocation.specs.declared.RunChecked.TheVariants.{Refused as RunRefused, From as RunFrom}
+
+-- The refusal, or the first block of the run.
+abbrev pub RunChecked : Type 0
+RunChecked = Result ℕ Refusal
 
 -- The call's refusal, or the first block of the nearest run; where there is no run, the checks do not pass.
-unfoldable pub run_checked : Checked → NearestRun → RunChecked
-run_checked (Refused why) run = RunRefused why
-run_checked Passed Absent = RunRefused NoRun
-run_checked Passed (From first) = RunFrom first
+unfoldable pub run_checked : Checked → Option ℕ → RunChecked
+run_checked (Err why) run = Err why
+run_checked (Ok tt) None = Err NoRun
+run_checked (Ok tt) (Some first) = Ok first

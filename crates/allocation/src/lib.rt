@@ -4,7 +4,7 @@
 ghost use Rattle.std.specs.Prelude.{◌≡◌, [], length, ◌+◌, ◌≤◌};
 ghost use Rattle.card.specs.Lists.{numbers_from};
 ghost use Rattle.card.specs.Contents.{overwrite};
-ghost use Rattle.card.specs.Lent.{Performs, lent, at_entry, at_exit, kept, changed};
+ghost use Rattle.card.specs.Lent.{Performs, SameTables, lent_card};
 ghost use Rattle.card.specs.SoundCard.{SoundCard};
 ghost use Rattle.card.specs.Plan.{first, changes};
 ghost use Rattle.card.specs.Calls.{wanted, picks, take_all};
@@ -18,17 +18,7 @@ ghost use Rattle.allocation.specs.Taking.{CanTake, BlockTaken, CanTakeAll};
 ghost use Rattle.allocation.specs.SharedChecks.{bad_operands, shared_checks};
 ghost use Rattle.allocation.specs.RunChecked.{run_checked};
 
-use card::{AllocOperands, Info, MOST_BLOCKS, Mode, NO_HINT, Outcome, Port, Refusal};
-use checks::Checked;
-use runs::NearestRun;
-
-// What the checks of ALLOC_CONTIG find: the refusal, or the first block of the run.
-#[derive(Drop)]
-#[derive(Clone, Copy)]
-pub enum RunChecked {
-    Refused(Refusal),
-    From(usize),
-}
+use card::{AllocOperands, Answer, Info, LentCard, MOST_BLOCKS, Mode, NO_HINT, Port, Refusal};
 
 // ---- the walk
 
@@ -58,6 +48,7 @@ fn pick_all(flags: &[u8], want: usize, count: usize, places: &mut [u16])
     let mut low = want;
     let mut high = want;
     let mut taken = 0;
+    // How many blocks are passed until enough are taken is not known at the start.
     while taken < count {
         let block = next(want, blocks, low, high);
         if block < low {
@@ -78,10 +69,8 @@ fn list_run(first: usize, count: usize, places: &mut [u16])
     requires count_in_bounds { count ≤ length places.old }
     ensures { places.new ≡ overwrite places.old 0 (numbers_from first count) }
 {
-    let mut listed = 0;
-    while listed < count {
+    for listed in 0..count {
         places[listed] = (first + listed) as u16;
-        listed += 1;
     }
 }
 
@@ -96,39 +85,33 @@ fn take(bytes: usize, flags: &mut [u8], counts: &mut [u32], contents: &mut [u8],
     let end = at + bytes;
     tables::clear(&mut contents[at..end]);
     flags[block] = 1;
-    counts[block] = counts[block] + 1;
+    counts[block] += 1;
 }
 
 // Each of the blocks is taken, and then the reference points to each.
-fn take_all(
-    info: Info,
-    flags: &mut [u8],
-    keys: &[u64],
-    counts: &mut [u32],
-    pointers: &mut [u32],
-    multiplicities: &mut [u16],
-    windows: &[u64],
-    contents: &mut [u8],
-    reference: u16,
-    numbers: &[u16],
-) -> Info
-    requires { CanTakeAll (lent info flags.old keys.now counts.old pointers.old multiplicities.old windows.now contents.old) reference numbers.now }
-    ensures { at_exit result (changed flags.old flags.new) (kept keys.now) (changed counts.old counts.new) (changed pointers.old pointers.new) (changed multiplicities.old multiplicities.new) (kept windows.now) (changed contents.old contents.new) ≡ changes (at_entry info (changed flags.old flags.new) (kept keys.now) (changed counts.old counts.new) (changed pointers.old pointers.new) (changed multiplicities.old multiplicities.new) (kept windows.now) (changed contents.old contents.new)) (take_all reference numbers.now) }
+fn take_all(card: &mut LentCard, reference: u16, numbers: &[u16])
+    requires { CanTakeAll (lent_card card.old) reference numbers.now }
+    ensures same { SameTables card.old card.new }
+    ensures takes { lent_card card.new ≡ changes (lent_card card.old) (take_all reference numbers.now) }
 {
-    let bytes = info.bytes;
+    let bytes = card.info.bytes;
+    let used = card.info.used;
     let count = numbers.len();
     // The pointers to the blocks taken, ascending.
     let mut added = [0u32; MOST_BLOCKS as usize];
-    let mut taken = 0;
-    while taken < count {
-        let number = numbers[taken];
+    for (taken, &number) in numbers.iter().enumerate() {
         let pointer = (reference as u32) * 65536 + (number as u32);
-        take(bytes, flags, counts, contents, number as usize);
+        take(
+            bytes,
+            card.flags,
+            card.counts,
+            card.contents,
+            number as usize,
+        );
         tables::insert(&mut added, taken, pointer);
-        taken += 1;
     }
-    tables::merge(pointers, multiplicities, info.used, &added, count);
-    tables::with_used(info, info.used + count)
+    tables::merge(card.pointers, card.multiplicities, used, &added, count);
+    card.info = tables::with_used(card.info, used + count);
 }
 
 // ---- the call
@@ -154,233 +137,95 @@ fn wanted(hint: u16) -> usize
 
 // The checks that ALLOC and ALLOC_CONTIG share: those of ALLOC before the last, which looks at the places for pointers.
 fn shared_check(
-    info: Info,
-    flags: &[u8],
-    keys: &[u64],
-    counts: &[u32],
-    pointers: &[u32],
-    multiplicities: &[u16],
-    windows: &[u64],
-    contents: &[u8],
+    card: &LentCard,
     port: Port,
     o: AllocOperands,
     places: &[u16],
-) -> Checked
-    requires { SoundCard (lent info flags.now keys.now counts.now pointers.now multiplicities.now windows.now contents.now) }
-    ensures { result ≡ by_refusal (first (shared_checks port (lent info flags.now keys.now counts.now pointers.now multiplicities.now windows.now contents.now) o (length places.now))) }
+) -> Result<(), Refusal>
+    requires { SoundCard (lent_card card.now) }
+    ensures { result ≡ by_refusal (first (shared_checks port (lent_card card.now) o (length places.now))) }
 {
     let credential = o.credential;
     let from = o.reference as usize;
     let count = o.count as usize;
-    if bad_operands(info, o.hint, o.count, places.len()) {
-        return Checked::Refused(Refusal::BadOperand);
+    if bad_operands(card.info, o.hint, o.count, places.len()) {
+        return Err(Refusal::BadOperand);
     }
-    if access::missing(info, flags, from) {
-        return Checked::Refused(Refusal::NotAllocated);
+    if access::missing(card, from) {
+        return Err(Refusal::NotAllocated);
     }
-    if access::root_at_host(port, info, from) {
-        return Checked::Refused(Refusal::IsRoot);
+    if access::root_at_host(port, card.info, from) {
+        return Err(Refusal::IsRoot);
     }
-    if !access::admits(
-        port,
-        info,
-        flags,
-        keys,
-        pointers,
-        windows,
-        Mode::Writing,
-        from,
-        credential,
-    ) {
-        return Checked::Refused(Refusal::NotOpened);
+    if !access::admits(port, card, Mode::Writing, from, credential) {
+        return Err(Refusal::NotOpened);
     }
-    if tables::count_free(flags) < count {
-        return Checked::Refused(Refusal::TooFewBlocks);
+    if tables::count_free(card.flags) < count {
+        return Err(Refusal::TooFewBlocks);
     }
-    Checked::Passed
+    Ok(())
 }
 
 // The checks of ALLOC.
-fn alloc_check(
-    info: Info,
-    flags: &[u8],
-    keys: &[u64],
-    counts: &[u32],
-    pointers: &[u32],
-    multiplicities: &[u16],
-    windows: &[u64],
-    contents: &[u8],
-    port: Port,
-    o: AllocOperands,
-    places: &[u16],
-) -> Checked
-    requires { SoundCard (lent info flags.now keys.now counts.now pointers.now multiplicities.now windows.now contents.now) }
-    ensures { result ≡ checked port (lent info flags.now keys.now counts.now pointers.now multiplicities.now windows.now contents.now) (request (Alloc o) [] [] places.now) }
+fn alloc_check(card: &LentCard, port: Port, o: AllocOperands, places: &[u16]) -> Result<(), Refusal>
+    requires { SoundCard (lent_card card.now) }
+    ensures { result ≡ checked port (lent_card card.now) (request (Alloc o) [] [] places.now) }
 {
-    match shared_check(
-        info,
-        flags,
-        keys,
-        counts,
-        pointers,
-        multiplicities,
-        windows,
-        contents,
-        port,
-        o,
-        places,
-    ) {
-        Checked::Refused(why) => Checked::Refused(why),
-        Checked::Passed => {
-            if pointers.len() < info.used + (o.count as usize) {
-                return Checked::Refused(Refusal::TooFewPlaces);
-            }
-            Checked::Passed
-        }
+    shared_check(card, port, o, places)?;
+    if card.pointers.len() < card.info.used + (o.count as usize) {
+        return Err(Refusal::TooFewPlaces);
     }
+    Ok(())
 }
 
 // ALLOC on a card that has been audited.
-pub fn alloc_sound(
-    info: Info,
-    flags: &mut [u8],
-    keys: &[u64],
-    counts: &mut [u32],
-    pointers: &mut [u32],
-    multiplicities: &mut [u16],
-    windows: &[u64],
-    contents: &mut [u8],
-    port: Port,
-    o: AllocOperands,
-    places: &mut [u16],
-) -> Outcome
-    requires { SoundCard (lent info flags.old keys.now counts.old pointers.old multiplicities.old windows.now contents.old) }
-    ensures { Performs (λ c. perform_sound port c (request (Alloc o) [] [] places.old)) info (changed flags.old flags.new) (kept keys.now) (changed counts.old counts.new) (changed pointers.old pointers.new) (changed multiplicities.old multiplicities.new) (kept windows.now) (changed contents.old contents.new) result [] places.new }
+pub fn alloc_sound(card: &mut LentCard, port: Port, o: AllocOperands, places: &mut [u16]) -> Answer
+    requires { SoundCard (lent_card card.old) }
+    ensures same { SameTables card.old card.new }
+    ensures performs { Performs (λ c. perform_sound port c (request (Alloc o) [] [] places.old)) card.old card.new result [] places.new }
 {
-    match alloc_check(
-        info,
-        flags,
-        keys,
-        counts,
-        pointers,
-        multiplicities,
-        windows,
-        contents,
-        port,
-        o,
-        places,
-    ) {
-        Checked::Refused(why) => outcomes::refused(info, why),
-        Checked::Passed => {
-            let count = o.count as usize;
-            pick_all(flags, wanted(o.hint), count, places);
-            let left = take_all(
-                info,
-                flags,
-                keys,
-                counts,
-                pointers,
-                multiplicities,
-                windows,
-                contents,
-                o.reference,
-                &places[..count],
-            );
-            outcomes::done(left)
-        }
-    }
+    alloc_check(card, port, o, places)?;
+    let count = o.count as usize;
+    pick_all(card.shared().flags, wanted(o.hint), count, places);
+    take_all(card, o.reference, &places[..count]);
+    Ok(None)
 }
 
-// The checks of ALLOC_CONTIG, and the run that they find.
+// The checks of ALLOC_CONTIG, and the first block of the run that they find.
 fn alloc_contig_check(
-    info: Info,
-    flags: &[u8],
-    keys: &[u64],
-    counts: &[u32],
-    pointers: &[u32],
-    multiplicities: &[u16],
-    windows: &[u64],
-    contents: &[u8],
+    card: &LentCard,
     port: Port,
     o: AllocOperands,
     places: &[u16],
-) -> RunChecked
-    requires { SoundCard (lent info flags.now keys.now counts.now pointers.now multiplicities.now windows.now contents.now) }
-    ensures { result ≡ run_checked (checked port (lent info flags.now keys.now counts.now pointers.now multiplicities.now windows.now contents.now) (request (AllocContig o) [] [] places.now)) (nearest_of (wanted o.hint) (starts_in flags.now o.count)) }
+) -> Result<usize, Refusal>
+    requires { SoundCard (lent_card card.now) }
+    ensures { result ≡ run_checked (checked port (lent_card card.now) (request (AllocContig o) [] [] places.now)) (nearest_of (wanted o.hint) (starts_in card.now.flags.now o.count)) }
 {
-    let shared = shared_check(
-        info,
-        flags,
-        keys,
-        counts,
-        pointers,
-        multiplicities,
-        windows,
-        contents,
-        port,
-        o,
-        places,
-    );
-    if let Checked::Refused(why) = shared {
-        return RunChecked::Refused(why);
-    }
+    shared_check(card, port, o, places)?;
     let count = o.count as usize;
-    let NearestRun::From(first) = runs::nearest_run(flags, wanted(o.hint), count) else {
-        return RunChecked::Refused(Refusal::NoRun);
+    let Some(first) = runs::nearest_run(card.flags, wanted(o.hint), count) else {
+        return Err(Refusal::NoRun);
     };
-    if pointers.len() < info.used + count {
-        return RunChecked::Refused(Refusal::TooFewPlaces);
+    if card.pointers.len() < card.info.used + count {
+        return Err(Refusal::TooFewPlaces);
     }
-    RunChecked::From(first)
+    Ok(first)
 }
 
 // ALLOC_CONTIG on a card that has been audited.
 pub fn alloc_contig_sound(
-    info: Info,
-    flags: &mut [u8],
-    keys: &[u64],
-    counts: &mut [u32],
-    pointers: &mut [u32],
-    multiplicities: &mut [u16],
-    windows: &[u64],
-    contents: &mut [u8],
+    card: &mut LentCard,
     port: Port,
     o: AllocOperands,
     places: &mut [u16],
-) -> Outcome
-    requires { SoundCard (lent info flags.old keys.now counts.old pointers.old multiplicities.old windows.now contents.old) }
-    ensures { Performs (λ c. perform_sound port c (request (AllocContig o) [] [] places.old)) info (changed flags.old flags.new) (kept keys.now) (changed counts.old counts.new) (changed pointers.old pointers.new) (changed multiplicities.old multiplicities.new) (kept windows.now) (changed contents.old contents.new) result [] places.new }
+) -> Answer
+    requires { SoundCard (lent_card card.old) }
+    ensures same { SameTables card.old card.new }
+    ensures performs { Performs (λ c. perform_sound port c (request (AllocContig o) [] [] places.old)) card.old card.new result [] places.new }
 {
-    match alloc_contig_check(
-        info,
-        flags,
-        keys,
-        counts,
-        pointers,
-        multiplicities,
-        windows,
-        contents,
-        port,
-        o,
-        places,
-    ) {
-        RunChecked::Refused(why) => outcomes::refused(info, why),
-        RunChecked::From(first) => {
-            let count = o.count as usize;
-            list_run(first, count, places);
-            let left = take_all(
-                info,
-                flags,
-                keys,
-                counts,
-                pointers,
-                multiplicities,
-                windows,
-                contents,
-                o.reference,
-                &places[..count],
-            );
-            outcomes::done(left)
-        }
-    }
+    let first = alloc_contig_check(card, port, o, places)?;
+    let count = o.count as usize;
+    list_run(first, count, places);
+    take_all(card, o.reference, &places[..count]);
+    Ok(None)
 }

@@ -19,7 +19,7 @@ use Rattle.laws.specs.SoundnessLaws.{shape_true, sound_true, unallocated_empty_t
 use Rattle.card.specs.declared.Verdict.{Verdict}
 use Rattle.card.specs.declared.Verdict.TheVariants.{Misshapen, Unsound}
 use Rattle.audit.proofs.Ends.{right_link, root_untallied, links_right}
-use Rattle.audit.specs.Walks.{judged, PointersFit, link_right, passes, PointersWalked, rowed, RowsFit, block_clauses, block_sound}
+use Rattle.audit.specs.Walks.{judged, PointersFit, link_right, passes, PointersWalked, RowsFit, block_clauses, block_sound}
 
 -- ---- the walk of the pointers: strict order, and each pointer right
 
@@ -57,9 +57,6 @@ module _ (right : ℕ → Bool) where
 -- ---- the walks of a card
 
 module _ (c : Card) where
-  abbrev rows : Card
-  rows = rowed c.public.info c.public.flags c.keys c.public.counts c.public.windows
-
   abbrev passed : Bool
   passed = passes (λ w. link_right c.public.info c.public.flags w) 0 (in_use c.public)
 
@@ -67,18 +64,12 @@ module _ (c : Card) where
   sound_pointers h =
       and_true passed _ (ascending_passes _ _ h.ascends (all_map _ _ (right_link c.public) (in_use c.public) h.pointers_right)) h.times_right
 
-  -- The test of a block does not look at pointers, multiplicities and contents.
-  same_rows : (tallied b : ℕ) → block_sound rows tallied b ≡ block_sound c tallied b
-  unfolding block_sound flags_low root_allocated unallocated_empty absent_key_zero key_zero pointed_to window_in_time
-  same_rows tallied b = refl
-
-  sound_block : sound c ≡ true → (tallied b : ℕ) → tallied ≡ pointers_to b (in_use c.public) (times_in_use c.public) → b < c.public.info.blocks → block_sound rows tallied b ≡ true
+  sound_block : sound c ≡ true → (tallied b : ℕ) → tallied ≡ pointers_to b (in_use c.public) (times_in_use c.public) → b < c.public.info.blocks → block_sound c tallied b ≡ true
   unfolding sound block_sound count_right
   sound_block e tallied b t l =
       let h = every_true (sound_clauses c) e in
       let n = c.public.info.blocks in
-      same_rows tallied b
-      ∙ true_every (block_clauses c tallied b) (
+      true_every (block_clauses c tallied b) (
         all_below_true _ n h.0 b l,
         (
           all_below_true _ n h.1.0 b l,
@@ -117,7 +108,7 @@ module _ (c : Card) where
         → passed && all (λ n. multiplicity_right n) (times_in_use c.public) ≡ true
         → all (λ w. eqb w 0) (drop c.public.info.used c.public.pointers) ≡ true
         → all (λ n. eqb n 0) (drop c.public.info.used c.public.multiplicities) ≡ true
-        → all_below (λ b. block_sound rows (get_or tally b 0) b) c.public.info.blocks ≡ true
+        → all_below (λ b. block_sound c (get_or tally b 0) b) c.public.info.blocks ≡ true
         → sound c ≡ true
     unfolding sound block_sound count_right total_in_time
     blocks_sound low s p u v e =
@@ -125,7 +116,7 @@ module _ (c : Card) where
         let links = and_left passed _ p in
         let often = and_right passed _ p in
         let h : (b : ℕ) → b < n → Holds (block_clauses c (get_or tally b 0) b) =
-        λ b l. every_true (block_clauses c (get_or tally b 0) b) (sym (same_rows (get_or tally b 0) b) ∙ all_below_true _ n e b l) in
+        λ b l. every_true (block_clauses c (get_or tally b 0) b) (all_below_true _ n e b l) in
         let free : (b : ℕ) → b < n → allocated_flag (flag c.public b) ≡ false → pointers_to b (in_use c.public) (times_in_use c.public) ≡ 0 =
         λ b l f. sym (tallied b l) ∙ sym (eqb-true _ _ (h b l).1.1.1.1.1.0) ∙ (unallocated_empty_true c b (h b l).1.1.0 f).count_zero in
         let root : (b : ℕ) → b < n → b < c.public.info.roots → pointers_to b (in_use c.public) (times_in_use c.public) ≡ 0 =
@@ -198,7 +189,7 @@ module _ (c : Card) where
         → PointersFit c.public.info c.public.flags c.public.pointers c.public.multiplicities
         → c.public.info.total ≤ c.public.info.time * most_blocks
         → Walked r tally → r ≡ true → u ≡ true
-        → verdict ≡ judged (all_below (λ b. block_sound rows (get_or tally b 0) b) c.public.info.blocks)
+        → verdict ≡ judged (all_below (λ b. block_sound c (get_or tally b 0) b) c.public.info.blocks)
         → verdict ≡ judged (sound c)
     whole r tally verdict fit low h e f g =
         let step = used_in_step 0 0 c.public.info.used c.public.pointers c.public.multiplicities fit.used_high fit.has_multiplicities in
@@ -235,9 +226,8 @@ module _ (c : Card) (t : Bool) (e : t ≡ shape c) where
         },
       )
 
-  -- Soundness does not look at the contents.
-  pub shaped_verdict : (v : Verdict) → t ≡ true → v ≡ judged (sound (record { public = c.public; keys = c.keys; contents = [] })) → v ≡ verdict c
-  unfolding verdict sound flags_low root_allocated key_zero unallocated_empty absent_key_zero count_right pointed_to window_in_time
+  pub shaped_verdict : (v : Verdict) → t ≡ true → v ≡ judged (sound c) → v ≡ verdict c
+  unfolding verdict
   shaped_verdict v f h = rw (← e, f) h
 
   pub fault_shape : t ≡ false → Misshapen ≡ verdict c

@@ -50,10 +50,6 @@ pub record PointersWalked (info : Info) (flags ws ns : List ℕ) (r : Bool) (tal
 
 -- ---- blocks
 
--- What the walk of the blocks looks at of a card.
-abbrev pub rowed : Info → List ℕ → List ℕ → List ℕ → List ℕ → Card
-rowed info flags keys counts windows = card info flags keys counts [] [] windows []
-
 pub record RowsFit (info : Info) (flags keys counts windows : List ℕ) : Type 0 where
   pub blocks_high : info.blocks ≤ 4096
   pub time_high : info.time < time_limit

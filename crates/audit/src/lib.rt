@@ -2,13 +2,13 @@
 #![tactic(auto)]
 
 ghost use Rattle.std.specs.Prelude.{◌≡◌, ◌&&◌, [], ◌+◌, ◌<◌, ◌≤◌, length, take, drop, get_or, replicate, eqb};
-ghost use Rattle.card.specs.Lent.{lent};
+ghost use Rattle.card.specs.Lent.{shared_card};
 ghost use Rattle.card.specs.Lists.{all, all_below};
-ghost use Rattle.card.specs.Card.{card, allocated};
+ghost use Rattle.card.specs.Card.{allocated};
 ghost use Rattle.card.specs.Soundness.{sound, verdict};
-ghost use Rattle.audit.specs.Walks.{flagged, link_right, rowed, block_sound, PointersFit, RowsFit, PointersWalked, judged};
+ghost use Rattle.audit.specs.Walks.{flagged, link_right, block_sound, PointersFit, RowsFit, PointersWalked, judged};
 
-use card::{BLOCK_LIMIT, Info, LONGEST_INTERVAL, Mode, Verdict, WAITING_FLAGS};
+use card::{BLOCK_LIMIT, Info, LONGEST_INTERVAL, Mode, SharedCard, Verdict, WAITING_FLAGS};
 
 // ---- pointers
 
@@ -51,6 +51,7 @@ fn walk_pointers(
     let used = info.used;
     let mut least: u64 = 0;
     let mut i: usize = 0;
+    // Document 01 asks for a walk that a label leaves at the first fault; how far it came is the verdict.
     'walk: while i < used {
         let w = pointers[i];
         let times = multiplicities[i];
@@ -74,6 +75,7 @@ fn walk_unused(pointers: &[u32], multiplicities: &[u16], used: usize) -> bool
 {
     let places = pointers.len();
     let mut i = used;
+    // Left by a label, as the walk of the pointers is.
     'walk: while i < places {
         if (pointers[i] == 0) & (multiplicities[i] == 0) {
             i += 1;
@@ -94,37 +96,29 @@ fn zero_words(keys: &[u64], at: usize) -> bool
     (keys[at] == 0) & (keys[at + 1] == 0)
 }
 
-fn block_sound(
-    info: Info,
-    flags: &[u8],
-    keys: &[u64],
-    counts: &[u32],
-    windows: &[u64],
-    tallied: u32,
-    b: usize,
-) -> bool
-    requires fact_1 { RowsFit info flags.now keys.now counts.now windows.now }
-    requires fact_2 { b < info.blocks }
-    ensures { result ≡ block_sound (rowed info flags.now keys.now counts.now windows.now) tallied b }
+fn block_sound(card: SharedCard, tallied: u32, b: usize) -> bool
+    requires fact_1 { RowsFit card.info card.flags.now card.keys.now card.counts.now card.windows.now }
+    requires fact_2 { b < card.info.blocks }
+    ensures { result ≡ block_sound (shared_card card.entry) tallied b }
 {
-    let flag = flags[b];
-    let count = counts[b];
+    let flag = card.flags[b];
+    let count = card.counts[b];
     let window = 2 * b;
-    let reading = windows[window];
-    let writing = windows[window + 1];
-    let root = b < info.roots;
+    let reading = card.windows[window];
+    let writing = card.windows[window + 1];
+    let root = b < card.info.roots;
     let held = flags::allocated(flag);
     let read_key = flags::has_key(flag, Mode::Reading);
     let write_key = flags::has_key(flag, Mode::Writing);
-    let zero_read = zero_words(keys, 4 * b);
-    let zero_write = zero_words(keys, 4 * b + 2);
+    let zero_read = zero_words(card.keys, 4 * b);
+    let zero_write = zero_words(card.keys, 4 * b + 2);
     let empty = (flags::free(flag) | flags::waiting(flag))
         & zero_read
         & zero_write
         & (count == 0)
         & (reading == 0)
         & (writing == 0);
-    let latest = info.time + LONGEST_INTERVAL as u64;
+    let latest = card.info.time + LONGEST_INTERVAL as u64;
     (flag <= WAITING_FLAGS)
         & (!root | held)
         & (held | empty)
@@ -137,24 +131,18 @@ fn block_sound(
         & (writing <= latest)
 }
 
-fn walk_blocks(
-    info: Info,
-    flags: &[u8],
-    keys: &[u64],
-    counts: &[u32],
-    windows: &[u64],
-    tally: &[u32; BLOCK_LIMIT],
-) -> Verdict
-    requires { RowsFit info flags.now keys.now counts.now windows.now }
-    ensures { result ≡ judged (all_below (λ b. block_sound (rowed info flags.now keys.now counts.now windows.now) (get_or tally.now b 0) b) info.blocks) }
+fn walk_blocks(card: SharedCard, tally: &[u32; BLOCK_LIMIT]) -> Verdict
+    requires { RowsFit card.info card.flags.now card.keys.now card.counts.now card.windows.now }
+    ensures { result ≡ judged (all_below (λ b. block_sound (shared_card card.entry) (get_or tally.now b 0) b) card.entry.info.blocks) }
 {
-    let blocks = info.blocks;
+    let blocks = card.info.blocks;
     let mut b: usize = 0;
+    // Document 01 asks for a loop that yields the verdict by break.
     loop {
         if b == blocks {
             break Verdict::Sound;
         }
-        if block_sound(info, flags, keys, counts, windows, tally[b], b) {
+        if block_sound(card, tally[b], b) {
             b += 1;
         } else {
             break Verdict::Unsound;
@@ -165,27 +153,25 @@ fn walk_blocks(
 // ---- the whole
 
 // The total, and the walks of a card of the right shape, each only after those before it found no fault.
-fn walk(
-    info: Info,
-    flags: &[u8],
-    keys: &[u64],
-    counts: &[u32],
-    pointers: &[u32],
-    multiplicities: &[u16],
-    windows: &[u64],
-) -> Verdict
-    requires fact_1 { PointersFit info flags.now pointers.now multiplicities.now }
-    requires fact_2 { RowsFit info flags.now keys.now counts.now windows.now }
-    ensures { result ≡ judged (sound (card info flags.now keys.now counts.now pointers.now multiplicities.now windows.now [])) }
+fn walk(card: SharedCard) -> Verdict
+    requires fact_1 { PointersFit card.info card.flags.now card.pointers.now card.multiplicities.now }
+    requires fact_2 { RowsFit card.info card.flags.now card.keys.now card.counts.now card.windows.now }
+    ensures { result ≡ judged (sound (shared_card card.entry)) }
 {
     // The time is below 2^40: the product does not wrap.
-    if info.time * (BLOCK_LIMIT as u64) < info.total {
+    if card.info.time * (BLOCK_LIMIT as u64) < card.info.total {
         return Verdict::Unsound;
     }
     let mut tally = [0u32; BLOCK_LIMIT];
-    if walk_pointers(info, flags, pointers, multiplicities, &mut tally) {
-        if walk_unused(pointers, multiplicities, info.used) {
-            walk_blocks(info, flags, keys, counts, windows, &tally)
+    if walk_pointers(
+        card.info,
+        card.flags,
+        card.pointers,
+        card.multiplicities,
+        &mut tally,
+    ) {
+        if walk_unused(card.pointers, card.multiplicities, card.info.used) {
+            walk_blocks(card, &tally)
         } else {
             Verdict::Unsound
         }
@@ -195,29 +181,11 @@ fn walk(
 }
 
 // The verdict on a record and tables of any lengths and contents.
-pub fn audit(
-    info: Info,
-    flags: &[u8],
-    keys: &[u64],
-    counts: &[u32],
-    pointers: &[u32],
-    multiplicities: &[u16],
-    windows: &[u64],
-    contents: &[u8],
-) -> Verdict
-    ensures { result ≡ verdict (lent info flags.now keys.now counts.now pointers.now multiplicities.now windows.now contents.now) }
+pub fn audit(card: SharedCard) -> Verdict
+    ensures { result ≡ verdict (shared_card card.entry) }
 {
-    if shape::shaped(
-        info,
-        flags,
-        keys,
-        counts,
-        pointers,
-        multiplicities,
-        windows,
-        contents,
-    ) {
-        walk(info, flags, keys, counts, pointers, multiplicities, windows)
+    if shape::shaped(card) {
+        walk(card)
     } else {
         Verdict::Misshapen
     }

@@ -1,7 +1,7 @@
 // Audits good and damaged cards of N 16, B 512 and P 32. Writes a line for each: its name, then 0 if sound, 1 if misshapen, 2 if unsound.
 #![tactic(auto)]
 
-use card::{Info, Verdict};
+use card::{Info, SharedCard, Verdict};
 
 // The table that is lent without its elements.
 #[derive(Drop)]
@@ -17,106 +17,51 @@ enum Lack {
     Contents,
 }
 
-// One store into a table of the good card, or into its record's total; or a fourth pointer, its
+// One store into the good card's record or into one of its tables; or a fourth pointer, its
 // multiplicity, a block and that block's count.
 #[derive(Drop)]
 #[derive(Clone, Copy)]
 enum Fault {
     Nothing,
+    Blocks(usize),
+    Roots(usize),
+    Bytes(usize),
+    Used(usize),
+    Time(u64),
+    Total(u64),
     Flag(usize, u8),
     Key(usize, u64),
     Count(usize, u32),
     Pointer(usize, u32),
     Multiplicity(usize, u16),
     Window(usize, u64),
-    Total(u64),
     Fourth(u32, u16, usize, u32),
 }
 
-fn write_verdict(rt: &impl Print, name: &[u8], verdict: Verdict) {
+// The good card's record: three pointers are in use.
+const GOOD: Info = Info {
+    blocks: 16,
+    roots: 1,
+    bytes: 512,
+    used: 3,
+    time: 100,
+    total: 0,
+};
+
+// Audits the card and writes its line.
+fn show(rt: &impl Print, name: &[u8], card: SharedCard) {
     let _ = rt.write_all(name);
-    match verdict {
-        Verdict::Sound => {
-            let _ = rt.write_all(b" 0\n");
-        }
-        Verdict::Misshapen => {
-            let _ = rt.write_all(b" 1\n");
-        }
-        Verdict::Unsound => {
-            let _ = rt.write_all(b" 2\n");
-        }
-    }
-}
-
-fn show(
-    rt: &impl Print,
-    name: &[u8],
-    info: Info,
-    flags: &[u8],
-    keys: &[u64],
-    counts: &[u32],
-    pointers: &[u32],
-    multiplicities: &[u16],
-    windows: &[u64],
-    contents: &[u8],
-) {
-    write_verdict(
-        rt,
-        name,
-        audit::audit(
-            info,
-            flags,
-            keys,
-            counts,
-            pointers,
-            multiplicities,
-            windows,
-            contents,
-        ),
-    );
-}
-
-// Audits the tables with contents of zeros.
-fn lend(
-    rt: &impl Print,
-    name: &[u8],
-    info: Info,
-    flags: &[u8; 16],
-    keys: &[u64; 64],
-    counts: &[u32; 16],
-    pointers: &[u32; 32],
-    multiplicities: &[u16; 32],
-    windows: &[u64; 32],
-) {
-    let contents = [0u8; 8192];
-    show(
-        rt,
-        name,
-        info,
-        flags,
-        keys,
-        counts,
-        pointers,
-        multiplicities,
-        windows,
-        &contents,
-    );
+    let _ = rt.write_all(match audit::audit(card) {
+        Verdict::Sound => b" 0\n",
+        Verdict::Misshapen => b" 1\n",
+        Verdict::Unsound => b" 2\n",
+    });
 }
 
 // The good card with one fault: root 0, block 1 with both keys, block 2 without, block 6 waiting, pointers
 // 0 to 1, 0 to 2, made twice, and 1 to 2, and block 0's read window at its latest end.
-fn judge(
-    rt: &impl Print,
-    name: &[u8],
-    blocks: usize,
-    roots: usize,
-    bytes: usize,
-    used: usize,
-    time: u64,
-    fault: Fault,
-) {
-    let fresh = tables::fresh(blocks, roots, bytes);
-    let mut info = tables::with_time(tables::with_used(fresh, used), time, 0);
+fn damage(rt: &impl Print, name: &[u8], fault: Fault) {
+    let mut info = GOOD;
     let mut flags = [0u8; 16];
     let mut keys = [0u64; 64];
     let mut counts = [0u32; 16];
@@ -140,6 +85,12 @@ fn judge(
     windows[0] = 86500;
     match fault {
         Fault::Nothing => {}
+        Fault::Blocks(to) => info.blocks = to,
+        Fault::Roots(to) => info.roots = to,
+        Fault::Bytes(to) => info.bytes = to,
+        Fault::Used(to) => info.used = to,
+        Fault::Time(to) => info.time = to,
+        Fault::Total(to) => info.total = to,
         Fault::Flag(at, to) => {
             if at < 16 {
                 flags[at] = to;
@@ -170,10 +121,8 @@ fn judge(
                 windows[at] = to;
             }
         }
-        Fault::Total(to) => {
-            info = tables::with_time(info, time, to);
-        }
         Fault::Fourth(w, times, b, count) => {
+            info.used = 4;
             pointers[3] = w;
             multiplicities[3] = times;
             if b < 16 {
@@ -181,22 +130,20 @@ fn judge(
             }
         }
     }
-    lend(
+    show(
         rt,
         name,
-        info,
-        &flags,
-        &keys,
-        &counts,
-        &pointers,
-        &multiplicities,
-        &windows,
+        SharedCard {
+            info,
+            flags: &flags,
+            keys: &keys,
+            counts: &counts,
+            pointers: &pointers,
+            multiplicities: &multiplicities,
+            windows: &windows,
+            contents: &[0u8; 8192],
+        },
     );
-}
-
-// The good card's own record and one store.
-fn damage(rt: &impl Print, name: &[u8], fault: Fault) {
-    judge(rt, name, 16, 1, 512, 3, 100, fault);
 }
 
 // Clauses of soundness on blocks.
@@ -266,16 +213,7 @@ fn faults_of_pointers(rt: &impl Print) {
 
 // The good card with a fourth pointer and one count.
 fn lengthen(rt: &impl Print, name: &[u8], w: u32, times: u16, b: usize, count: u32) {
-    judge(
-        rt,
-        name,
-        16,
-        1,
-        512,
-        4,
-        100,
-        Fault::Fourth(w, times, b, count),
-    );
+    damage(rt, name, Fault::Fourth(w, times, b, count));
 }
 
 // Multiplicities, counts that are their sums, and the pointers that a count alone gives away.
@@ -294,180 +232,66 @@ fn faults_of_multiplicities(rt: &impl Print) {
 
 // Ranges of the record, and its total: at most T × 4,096, whatever N is.
 fn faults_of_records(rt: &impl Print) {
-    judge(rt, b"blocks-15", 15, 1, 512, 3, 100, Fault::Nothing);
-    judge(rt, b"blocks-17", 17, 1, 512, 3, 100, Fault::Nothing);
-    judge(rt, b"blocks-4097", 4097, 1, 512, 3, 100, Fault::Nothing);
-    judge(rt, b"roots-0", 16, 0, 512, 3, 100, Fault::Nothing);
-    judge(rt, b"roots-9", 16, 9, 512, 3, 100, Fault::Nothing);
-    judge(rt, b"bytes-0", 16, 1, 0, 3, 100, Fault::Nothing);
-    judge(rt, b"bytes-256", 16, 1, 256, 3, 100, Fault::Nothing);
-    judge(rt, b"bytes-768", 16, 1, 768, 3, 100, Fault::Nothing);
-    judge(rt, b"bytes-131072", 16, 1, 131072, 3, 100, Fault::Nothing);
-    judge(rt, b"contents-short", 16, 1, 1024, 3, 100, Fault::Nothing);
-    judge(rt, b"used-33", 16, 1, 512, 33, 100, Fault::Nothing);
-    judge(
-        rt,
-        b"time-end",
-        16,
-        1,
-        512,
-        3,
-        1099511627776,
-        Fault::Nothing,
-    );
-    judge(
-        rt,
-        b"last-second",
-        16,
-        1,
-        512,
-        3,
-        1099511627775,
-        Fault::Nothing,
-    );
-    judge(rt, b"pointer-forgotten", 16, 1, 512, 2, 100, Fault::Nothing);
+    damage(rt, b"blocks-15", Fault::Blocks(15));
+    damage(rt, b"blocks-17", Fault::Blocks(17));
+    damage(rt, b"blocks-4097", Fault::Blocks(4097));
+    damage(rt, b"roots-0", Fault::Roots(0));
+    damage(rt, b"roots-9", Fault::Roots(9));
+    damage(rt, b"bytes-0", Fault::Bytes(0));
+    damage(rt, b"bytes-256", Fault::Bytes(256));
+    damage(rt, b"bytes-768", Fault::Bytes(768));
+    damage(rt, b"bytes-131072", Fault::Bytes(131072));
+    damage(rt, b"contents-short", Fault::Bytes(1024));
+    damage(rt, b"used-33", Fault::Used(33));
+    damage(rt, b"time-end", Fault::Time(1099511627776));
+    damage(rt, b"last-second", Fault::Time(1099511627775));
+    damage(rt, b"pointer-forgotten", Fault::Used(2));
     damage(rt, b"total-above-blocks", Fault::Total(1601));
     damage(rt, b"total-highest", Fault::Total(409600));
     damage(rt, b"total-high", Fault::Total(409601));
     damage(rt, b"total-of-64-bits", Fault::Total(18446744073709551615));
 }
 
-// Audits the tables, one of them lent without its elements.
-fn lend_lacking(
-    rt: &impl Print,
-    name: &[u8],
-    lack: Lack,
-    flags: &[u8],
-    keys: &[u64],
-    counts: &[u32],
-    pointers: &[u32],
-    multiplicities: &[u16],
-    windows: &[u64],
-    contents: &[u8],
-) {
-    let info = tables::with_time(tables::fresh(16, 1, 512), 100, 0);
-    match lack {
-        Lack::Nothing => show(
-            rt,
-            name,
-            info,
-            flags,
-            keys,
-            counts,
-            pointers,
-            multiplicities,
-            windows,
-            contents,
-        ),
-        Lack::Flags => show(
-            rt,
-            name,
-            info,
-            &flags[..0],
-            keys,
-            counts,
-            pointers,
-            multiplicities,
-            windows,
-            contents,
-        ),
-        Lack::Keys => show(
-            rt,
-            name,
-            info,
-            flags,
-            &keys[..0],
-            counts,
-            pointers,
-            multiplicities,
-            windows,
-            contents,
-        ),
-        Lack::Counts => show(
-            rt,
-            name,
-            info,
-            flags,
-            keys,
-            &counts[..0],
-            pointers,
-            multiplicities,
-            windows,
-            contents,
-        ),
-        Lack::Pointers => show(
-            rt,
-            name,
-            info,
-            flags,
-            keys,
-            counts,
-            &pointers[..0],
-            multiplicities,
-            windows,
-            contents,
-        ),
-        Lack::Multiplicities => show(
-            rt,
-            name,
-            info,
-            flags,
-            keys,
-            counts,
-            pointers,
-            &multiplicities[..0],
-            windows,
-            contents,
-        ),
-        Lack::Windows => show(
-            rt,
-            name,
-            info,
-            flags,
-            keys,
-            counts,
-            pointers,
-            multiplicities,
-            &windows[..0],
-            contents,
-        ),
-        Lack::Contents => show(
-            rt,
-            name,
-            info,
-            flags,
-            keys,
-            counts,
-            pointers,
-            multiplicities,
-            windows,
-            &contents[..0],
-        ),
-    }
-}
-
-// A fresh card, one table lacking.
+// A fresh card, one table lent without its elements.
 fn judge_lacking(rt: &impl Print, name: &[u8], lack: Lack) {
     let mut flags = [0u8; 16];
-    let keys = [0u64; 64];
-    let counts = [0u32; 16];
-    let pointers = [0u32; 32];
-    let multiplicities = [0u16; 32];
-    let windows = [0u64; 32];
-    let contents = [0u8; 8192];
     flags[0] = 1;
-    lend_lacking(
-        rt,
-        name,
-        lack,
-        &flags,
-        &keys,
-        &counts,
-        &pointers,
-        &multiplicities,
-        &windows,
-        &contents,
-    );
+    let card = SharedCard {
+        info: Info { used: 0, ..GOOD },
+        flags: &flags,
+        keys: &[0u64; 64],
+        counts: &[0u32; 16],
+        pointers: &[0u32; 32],
+        multiplicities: &[0u16; 32],
+        windows: &[0u64; 32],
+        contents: &[0u8; 8192],
+    };
+    let lacking = match lack {
+        Lack::Nothing => card,
+        Lack::Flags => SharedCard { flags: &[], ..card },
+        Lack::Keys => SharedCard { keys: &[], ..card },
+        Lack::Counts => SharedCard {
+            counts: &[],
+            ..card
+        },
+        Lack::Pointers => SharedCard {
+            pointers: &[],
+            ..card
+        },
+        Lack::Multiplicities => SharedCard {
+            multiplicities: &[],
+            ..card
+        },
+        Lack::Windows => SharedCard {
+            windows: &[],
+            ..card
+        },
+        Lack::Contents => SharedCard {
+            contents: &[],
+            ..card
+        },
+    };
+    show(rt, name, lacking);
 }
 
 // Table lengths.

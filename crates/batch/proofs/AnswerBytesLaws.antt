@@ -14,9 +14,9 @@ use Rattle.laws.specs.ListsLaws.{not_cases}
 use Rattle.card.specs.Contents.{overwrite}
 use Rattle.card.specs.Calls.{refusal_number}
 use Rattle.card.specs.declared.Refusal.{Refusal}
-use Rattle.card.specs.declared.Answer.{Answer}
-use Rattle.card.specs.declared.Answer.TheVariants.{Refused, Done, Value}
-use Rattle.card.specs.declared.ReadOperands.{ReadOperands}
+use Rattle.card.specs.Answers.{Answer}
+use Rattle.card.specs.Answers.{Refused, Done, Value}
+use Rattle.card.specs.declared.TransferOperands.{TransferOperands}
 use Rattle.card.specs.declared.Call.{Call}
 use Rattle.card.specs.declared.Call.TheVariants.{Read}
 use Rattle.fields.specs.Bytes.{bytes}
@@ -57,7 +57,7 @@ pub lent_most : (size : ℕ) (call : Call) → lent_size size call ≤ 65536
 unfolding lent_size
 lent_most size call = lent_filled size (filled_by call)
 
-pub room_read : (size : ℕ) {call : Call} {o : ReadOperands} {n : ℕ} → call ≡ Read o → n ≡ lent_size size call → 1 + n ≡ answer_room size call
+pub room_read : (size : ℕ) {call : Call} {o : TransferOperands} {n : ℕ} → call ≡ Read o → n ≡ lent_size size call → 1 + n ≡ answer_room size call
 unfolding answer_room
 room_read size {call} {o} {n} e h = rw (h, e)
 

@@ -1,9 +1,9 @@
 -- One call of a batch: the verdict that it leaves, how long its answer is, and what READ's buffer held before.
+use Rattle.std.specs.Prelude.{Option, None, Some}
 use Prim.Native.Nat.{ℕ, ◌+◌, ◌-◌, ◌≤◌}
 use mathlib.Core.Path.{◌≡◌, refl, sym, ap, ap₂, ◌∙◌, subst}
 use mathlib.Core.Logic.{◌⊎◌, inl, inr, ⊎_elim}
 use mathlib.Core.List.{List, ◌++◌}
-use mathlib.Core.Option.{Option, none, some}
 use native.Mathlib.Omega.{arith}
 use lib.ListN.{length, take, drop, length-take, length-drop, length-replicate}
 use lib.Seq.{take_at, drop_at, take-take, drop-drop, length-take-le}
@@ -21,8 +21,8 @@ use Rattle.card.specs.declared.Port.{Port}
 use Rattle.card.specs.declared.Verdict.{Verdict}
 use Rattle.card.specs.declared.Verdict.TheVariants.{Misshapen, Unsound, Sound}
 use Rattle.card.specs.declared.Refusal.{Refusal}
-use Rattle.card.specs.declared.Answer.{Answer}
-use Rattle.card.specs.declared.Answer.TheVariants.{Refused}
+use Rattle.card.specs.Answers.{Answer}
+use Rattle.card.specs.Answers.{Refused}
 use Rattle.card.specs.declared.Call.{Call}
 use Rattle.card.specs.declared.Call.TheVariants.{Read, Write, Alloc, AllocContig, Create, Delete, DeleteTree, KeyRead, KeyWrite, Renew, Force, Free, Tick, Audit, Rent, Sweep}
 use Rattle.laws.proofs.KeepsSound.{perform_sound}
@@ -103,8 +103,8 @@ module _ (port : Port) (c : Card) (call : Call) (input places out other : List �
   settle_alike : (lent : Buffers) (o : Option Refusal)
       → ToldAlike call (settle c (request call input out places).lent (plan port c call lent) o) (settle c (request call input other places).lent (plan port c call lent) o)
   unfolding settle answer_bytes
-  settle_alike lent none = record { leaves = refl; tells = done_alike port c call lent out other (places_after (plan port c call lent).shown places) (plan port c call lent).answer }
-  settle_alike lent (some r) = record { leaves = refl; tells = refl }
+  settle_alike lent None = record { leaves = refl; tells = done_alike port c call lent out other (places_after (plan port c call lent).shown places) (plan port c call lent).answer }
+  settle_alike lent (Some r) = record { leaves = refl; tells = refl }
 
   pub perform_alike : length out ≡ length other → ToldAlike call (perform port c (request call input out places)) (perform port c (request call input other places))
   unfolding perform judge
@@ -189,8 +189,8 @@ module _ (port : Port) (c : Card) (size : ℕ) where
   settle_short : (call : Call) (lent : Buffers) (o : Option Refusal) (r : Result) → r ≡ settle c lent (plan port c call lent) o → length r.out ≡ lent_size size call → length r.places ≡ lent_places
       → length (answer_bytes call (reply r)) ≤ answer_room size call
   unfolding settle
-  settle_short call lent none r e h p = rw e (done_short call lent _ _ (rw e at h) (rw e at p))
-  settle_short call lent (some x) r e h p = rw e (refused_short call x lent.out lent.places)
+  settle_short call lent None r e h p = rw e (done_short call lent _ _ (rw e at h) (rw e at p))
+  settle_short call lent (Some x) r e h p = rw e (refused_short call x lent.out lent.places)
 
   -- No answer is longer than the room that is kept for it.
   pub perform_short : (call : Call) (input out places : List ℕ) → length (perform port c (request call input out places)).out ≡ lent_size size call → length (perform port c (request call input out places)).places ≡ lent_places
@@ -207,23 +207,23 @@ module _ (port : Port) (c : Card) where
 
   settle_covers : (call : Call) (lent : Buffers) (o : Option Refusal) → Covers call lent.out (settle c lent (plan port c call lent) o)
   unfolding settle plan read_plan write_plan alloc_plan alloc_contig_plan create_plan delete_plan delete_tree_plan key_plan renew_plan force_plan free_plan tick_plan audit_plan rent_plan sweep_plan out_after answer_bytes bytes
-  settle_covers (Read o) lent none = inr (omega arith)
-  settle_covers (Write o) lent none = inl refl
-  settle_covers (Alloc o) lent none = inl refl
-  settle_covers (AllocContig o) lent none = inl refl
-  settle_covers (Create o) lent none = inl refl
-  settle_covers (Delete o) lent none = inl refl
-  settle_covers (DeleteTree o) lent none = inl refl
-  settle_covers (KeyRead o) lent none = inl refl
-  settle_covers (KeyWrite o) lent none = inl refl
-  settle_covers (Renew o) lent none = inl refl
-  settle_covers (Force o) lent none = inl refl
-  settle_covers Free lent none = inl refl
-  settle_covers (Tick o) lent none = inl refl
-  settle_covers Audit lent none = inl refl
-  settle_covers (Rent o) lent none = inl refl
-  settle_covers (Sweep o) lent none = inl refl
-  settle_covers call lent (some r) = inl refl
+  settle_covers (Read o) lent None = inr (omega arith)
+  settle_covers (Write o) lent None = inl refl
+  settle_covers (Alloc o) lent None = inl refl
+  settle_covers (AllocContig o) lent None = inl refl
+  settle_covers (Create o) lent None = inl refl
+  settle_covers (Delete o) lent None = inl refl
+  settle_covers (DeleteTree o) lent None = inl refl
+  settle_covers (KeyRead o) lent None = inl refl
+  settle_covers (KeyWrite o) lent None = inl refl
+  settle_covers (Renew o) lent None = inl refl
+  settle_covers (Force o) lent None = inl refl
+  settle_covers Free lent None = inl refl
+  settle_covers (Tick o) lent None = inl refl
+  settle_covers Audit lent None = inl refl
+  settle_covers (Rent o) lent None = inl refl
+  settle_covers (Sweep o) lent None = inl refl
+  settle_covers call lent (Some r) = inl refl
 
   perform_covers : (call : Call) (input out places : List ℕ) → Covers call out (perform port c (request call input out places))
   unfolding perform judge

@@ -1,24 +1,21 @@
 -- The loop of a batch: what it has reached, and what one turn more makes of it.
+use Rattle.std.specs.Prelude.{Option, Some, None}
 use Prim.Native.Nat.{ℕ, suc, ◌+◌, ◌-◌, ◌≤◌, ◌<◌}
 use mathlib.Core.Path.{◌≡◌, refl, sym, ap, ap₂, ◌∙◌, subst}
-use mathlib.Core.Bool.{true, false}
 use mathlib.Core.List.{List, [], ◌++◌, append_assoc}
 use native.Mathlib.Omega.{arith}
 use native.Mathlib.Nat.{sub-zero, zero-add}
 use lib.ListN.{length, drop, length-append, length-drop}
-use Rattle.card.specs.Card.{Card, card}
+use Rattle.card.specs.Card.{Card}
 use Rattle.card.specs.Soundness.{verdict}
-use Rattle.card.specs.declared.Info.{Info}
+use Rattle.card.specs.Lent.{SameTables, lent_card}
+use Rattle.card.specs.declared.LentCard.{LentCard}
 use Rattle.card.specs.declared.Port.{Port}
 use Rattle.lines.specs.Written.{Written}
 use Rattle.lines.specs.WrittenLaws.{written_none, written_join, written_length}
-use Rattle.input.specs.Play.{Turn, Play, output_before, go_on}
-use Rattle.input.specs.Played.{TurnIs, PlayedIs, is_went}
-use Rattle.input.proofs.PlayLaws.{go_on_halts}
-use Rattle.input.proofs.PlayedLaws.{is_went_law, not_went}
-use Rattle.input.proofs.SameTables.{SameTables}
+use Rattle.input.specs.Play.{Turn, Play, output_before, stopped, go_on}
+use Rattle.input.specs.Played.{TurnIs, PlayedIs}
 use Rattle.input.specs.declared.Stop.{Stop}
-use Rattle.input.specs.declared.Stop.TheVariants.{Went}
 use Rattle.serving.specs.Serve.{serve_turn, room_from, serve_within, serve}
 use Rattle.batch.proofs.TurnServed.{serve_turn_left, serve_turn_halts, serve_turn_verdict}
 
@@ -69,16 +66,20 @@ module _ (wire : Port) (c₀ : Card) (xs out₀ : List ℕ) where
         let same : length out₀ - length p.done ≡ room_from out at = omega (arith, reached, kept) in
         p.total ∙ ap (λ (n : ℕ). output_before p.done (serve_within wire (suc p.most) count c (drop from xs) n)) same
 
-    module _ {stop : Stop} {after : Card} {next next-at : ℕ} {to : List ℕ} (t : TurnIs next_turn (room_from out at) stop after xs next out at to next-at) where
-      -- The turn did not go: so the batch ends.
-      pub serving_stopped : is_went stop ≡ false → PlayedIs (serve wire c₀ xs (length out₀)) stop count after xs next out₀ to next-at
-      serving_stopped n =
-          let halts : is_went next_turn.stop ≡ false = ap is_went (sym t.stops) ∙ n in
-          let e = next_turn_law ∙ ap (output_before p.done) (go_on_halts next_turn.stop next_turn count (room_from out at) (serve_within wire p.most) (not_went next_turn.stop halts)) in
+    stops_here : {stop : Stop} → next_turn.stop ≡ Some stop → go_on next_turn.stop next_turn count (serve_within wire p.most) (room_from out at) ≡ stopped stop count next_turn.after next_turn.left
+    unfolding go_on
+    stops_here e = ap (λ (s : Option Stop). go_on s next_turn count (serve_within wire p.most) (room_from out at)) e
+
+    module _ {told : Option Stop} {after : Card} {next next-at : ℕ} {to : List ℕ} (t : TurnIs next_turn (room_from out at) told after xs next out at to next-at) where
+      -- The turn stops the batch.
+      pub serving_stopped : {stop : Stop} → told ≡ Some stop → PlayedIs (serve wire c₀ xs (length out₀)) stop count after xs next out₀ to next-at
+      serving_stopped {stop} n =
+          let halts : next_turn.stop ≡ Some stop = sym t.stops ∙ n in
+          let e = next_turn_law ∙ ap (output_before p.done) (stops_here halts) in
           let nothing : Written out at [] to next-at = subst (λ (bs : List ℕ). Written out at bs to next-at) (serve_turn_halts wire (room_from out at) c (drop from xs) halts) t.writes in
           rw e
           (record {
-            stops = t.stops;
+            stops = refl;
             counts = refl;
             leaves = t.leaves;
             rests = t.rests;
@@ -86,14 +87,14 @@ module _ (wire : Port) (c₀ : Card) (xs out₀ : List ℕ) where
             writes = written_join p.written nothing (omega (arith, p.fits));
           })
 
-      module _ (w : is_went stop ≡ true) where
-        went : next_turn.stop ≡ Went
-        went = sym t.stops ∙ is_went_law stop w
+      module _ (w : told ≡ None) where
+        served_next : next_turn.stop ≡ None
+        served_next = sym t.stops ∙ w
 
         -- Each record takes a byte at least.
         pub serving_further : from < next
         serving_further =
-            let shorter = serve_turn_left wire (room_from out at) c (drop from xs) went in
+            let shorter = serve_turn_left wire (room_from out at) c (drop from xs) served_next in
             omega (arith, shorter, ap length t.rests, length-drop next xs, length-drop from xs, t.within, p.within)
 
         abbrev turns_left : ℕ
@@ -114,9 +115,9 @@ module _ (wire : Port) (c₀ : Card) (xs out₀ : List ℕ) where
 
         goes_on : go_on next_turn.stop next_turn count (serve_within wire p.most) (room_from out at) ≡ output_before next_turn.output rest_of_batch
         unfolding go_on
-        goes_on = ap₂ (λ (s : Stop) (m : ℕ). go_on s next_turn count (serve_within wire m) (room_from out at)) went most_is
+        goes_on = ap₂ (λ (s : Option Stop) (m : ℕ). go_on s next_turn count (serve_within wire m) (room_from out at)) served_next most_is
 
-        -- The turn went: its answer stands behind the others.
+        -- The turn serves its record: the answer stands behind the others.
         pub serving_more : Serving wire c₀ xs out₀ (count + 1) after next next-at to
         serving_more =
             let long : length (p.done ++ next_turn.output) ≡ length p.done + length next_turn.output = length-append p.done next_turn.output in
@@ -138,9 +139,8 @@ module _ (wire : Port) (c₀ : Card) (xs out₀ : List ℕ) where
 
 -- ---- the loop's invariant
 
--- The tables and the answers keep their lengths, and the batch has come so far.
-pub record ServeLoop (wire : Port) (info₀ : Info) (flags₀ keys₀ counts₀ pointers₀ multiplicities₀ windows₀ contents₀ input answers₀ : List ℕ)
-    (info : Info) (flags keys counts pointers multiplicities windows contents answers : List ℕ) (count from at : ℕ) : Type 0 where
-  pub tables : SameTables flags₀ keys₀ counts₀ pointers₀ multiplicities₀ windows₀ contents₀ flags keys counts pointers multiplicities windows contents
+-- The tables are those that were lent, the answers keep their length, and the batch has come so far.
+pub record ServeLoop (wire : Port) (before now : LentCard) (input answers₀ answers : List ℕ) (count from at : ℕ) : Type 0 where
+  pub same : SameTables before now
   pub same_answers : length answers ≡ length answers₀
-  pub serving : Serving wire (card info₀ flags₀ keys₀ counts₀ pointers₀ multiplicities₀ windows₀ contents₀) input answers₀ count (card info flags keys counts pointers multiplicities windows contents) from at answers
+  pub serving : Serving wire (lent_card before) input answers₀ count (lent_card now) from at answers

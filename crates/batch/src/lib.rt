@@ -3,7 +3,7 @@
 #![tactic(auto)]
 
 ghost use Rattle.std.specs.Prelude.{◌+◌, ◌*◌, ◌≤◌, length, take, drop, ◌≡◌};
-ghost use Rattle.card.specs.Lent.{lent, kept, changed};
+ghost use Rattle.card.specs.Lent.{SameTables, lent_card};
 ghost use Rattle.card.specs.Soundness.{verdict};
 ghost use Rattle.fields.specs.Bytes.{bytes};
 ghost use Rattle.lines.specs.Replied.{replied};
@@ -11,8 +11,8 @@ ghost use Rattle.lines.specs.Written.{Written};
 ghost use Rattle.input.specs.Played.{Writes, Turns, Plays};
 ghost use Rattle.serving.specs.Serve.{pairs, filled_bytes, answer_bytes, lent_size, answer_room, served, serve_turn, room_from, serve};
 
-use card::{Answer, Call, Info, MOST_BLOCKS, Port, Verdict};
-use input::{Found, Part, Stop, Turned, Wrote};
+use card::{Answer, Call, Info, LentCard, MOST_BLOCKS, Port, Verdict};
+use input::{Part, Stop, Turned};
 use lines::Filled;
 
 // ---- the room for an answer
@@ -48,7 +48,7 @@ fn room_of(info: Info, call: Call) -> usize
 
 // ---- the bytes of an answer
 
-// A number in so many bytes, big-endian.
+// A number in so many bytes, big-endian. No `to_be_bytes`: the width is 1, 2 or 8, by the caller.
 fn put_big_endian(to: &mut [u8], at: usize, width: usize, n: u64) -> usize
     requires { at + width ≤ length to.old }
     ensures { Written to.old at (bytes width n) to.new result }
@@ -67,15 +67,13 @@ fn put_pairs(to: &mut [u8], at: usize, values: &[u16]) -> usize
     ensures { Written to.old at (pairs values.now) to.new result }
 {
     let mut next = at;
-    let mut i = 0;
-    while i < values.len() {
-        next = put_big_endian(to, next, 2, lines::of_block(values[i]));
-        i += 1;
+    for block in values {
+        next = put_big_endian(to, next, 2, u64::from(*block));
     }
     next
 }
 
-// The first so many numbers of a table, or all.
+// The first so many numbers of a table, or all. `lines` has the same of numbers behind spaces: a closure for what is written is no plainer.
 fn put_first_pairs(to: &mut [u8], at: usize, values: &[u16], count: usize) -> usize
     requires { at + length (pairs (take count values.now)) ≤ length to.old }
     ensures { Written to.old at (pairs (take count values.now)) to.new result }
@@ -114,12 +112,12 @@ fn put_answer_bytes(
     ensures { Written to.old at (answer_bytes call (replied answer (take size (drop (at + 1) to.old)) places.now)) to.new result }
 {
     match answer {
-        Answer::Refused(r) => put_big_endian(to, at, 1, lines::refusal_number(r)),
-        Answer::Done => {
+        Err(r) => put_big_endian(to, at, 1, lines::refusal_number(r)),
+        Ok(None) => {
             let next = put_big_endian(to, at, 1, 0);
             put_filled_bytes(to, next, lines::filled_by(call), size, places)
         }
-        Answer::Value(v) => {
+        Ok(Some(v)) => {
             let next = put_big_endian(to, at, 1, 0);
             put_big_endian(to, next, 8, v)
         }
@@ -131,119 +129,71 @@ fn put_answer_bytes(
 // One call on a card of which the verdict is known, and its answer. READ is lent the part of the buffer where its bytes belong.
 fn answer_call(
     found: Verdict,
-    info: Info,
-    flags: &mut [u8],
-    keys: &mut [u64],
-    counts: &mut [u32],
-    pointers: &mut [u32],
-    multiplicities: &mut [u16],
-    windows: &mut [u64],
-    contents: &mut [u8],
+    card: &mut LentCard,
     port: Port,
     call: Call,
     payload: &[u8],
     to: &mut [u8],
     at: usize,
-) -> Wrote
-    requires fact_1 { found ≡ verdict (lent info flags.old keys.old counts.old pointers.old multiplicities.old windows.old contents.old) }
-    requires fact_2 { at + answer_room info.bytes call ≤ length to.old }
-    ensures { Writes (λ c. served port c call payload.now) (answer_bytes call) (answer_room info.bytes call) info (changed flags.old flags.new) (changed keys.old keys.new) (changed counts.old counts.new) (changed pointers.old pointers.new) (changed multiplicities.old multiplicities.new) (changed windows.old windows.new) (changed contents.old contents.new) (changed to.old to.new) at result }
+) -> usize
+    requires judged { found ≡ verdict (lent_card card.old) }
+    requires has_room { at + answer_room card.old.info.bytes call ≤ length to.old }
+    ensures same { SameTables card.old card.new }
+    ensures writes { Writes (λ c. served port c call payload.now) (answer_bytes call) (answer_room card.old.info.bytes call) card.old card.new to.old at to.new result }
 {
     let mut places = [0u16; MOST_BLOCKS as usize];
-    let size = lent_size(info, call);
+    let size = lent_size(card.info, call);
     let start = at + 1;
     let end = start + size;
-    let outcome = controller::perform_judged(
+    let answer = controller::perform_judged(
         found,
-        info,
-        flags,
-        keys,
-        counts,
-        pointers,
-        multiplicities,
-        windows,
-        contents,
+        card,
         port,
         call,
         payload,
         &mut to[start..end],
         &mut places,
     );
-    let answer = outcome.answer;
-    let next = put_answer_bytes(to, at, call, answer, size, &places);
-    let left = outcome.info;
-    Wrote {
-        info: left,
-        at: next,
-    }
+    put_answer_bytes(to, at, call, answer, size, &places)
 }
 
 // The record of an input that starts at a place, served; or why it is not.
 fn serve_turn(
     wire: Port,
     found: Verdict,
-    info: Info,
-    flags: &mut [u8],
-    keys: &mut [u64],
-    counts: &mut [u32],
-    pointers: &mut [u32],
-    multiplicities: &mut [u16],
-    windows: &mut [u64],
-    contents: &mut [u8],
+    card: &mut LentCard,
     input: &[u8],
     from: usize,
     to: &mut [u8],
     at: usize,
 ) -> Turned
-    requires fact_1 { found ≡ verdict (lent info flags.old keys.old counts.old pointers.old multiplicities.old windows.old contents.old) }
-    requires fact_2 { from ≤ length input.now }
-    requires fact_3 { at ≤ length to.old }
-    ensures { Turns (serve_turn wire (room_from to.old at)) (room_from to.old at) info (changed flags.old flags.new) (changed keys.old keys.new) (changed counts.old counts.new) (changed pointers.old pointers.new) (changed multiplicities.old multiplicities.new) (changed windows.old windows.new) (changed contents.old contents.new) (kept input.now) from (changed to.old to.new) at result }
+    requires judged { found ≡ verdict (lent_card card.old) }
+    requires in_input { from ≤ length input.now }
+    requires in_output { at ≤ length to.old }
+    ensures same { SameTables card.old card.new }
+    ensures turns { Turns (serve_turn wire (room_from to.old at)) (room_from to.old at) card.old card.new input.now from to.old at to.new result }
 {
-    let sent = input::find(wire, input, from);
-    match sent {
-        Found::Nothing(stop) => Turned {
-            stop,
-            info,
+    match input::find(wire, input, from) {
+        Err(stop) => Turned {
+            stop: Some(stop),
             from,
             at,
         },
-        Found::Whole(r) => {
-            let start = r.payload;
-            let next = r.next;
-            let port = r.port;
-            let call = r.call;
-            let room = room_of(info, call);
+        Ok(r) => {
+            let room = room_of(card.info, r.call);
             if to.len() - at < room {
                 return Turned {
-                    stop: Stop::Full,
-                    info,
+                    stop: Some(Stop::Full),
                     from,
                     at,
                 };
             }
-            let wrote = answer_call(
-                found,
-                info,
-                flags,
-                keys,
-                counts,
-                pointers,
-                multiplicities,
-                windows,
-                contents,
-                port,
-                call,
-                &input[start..next],
-                to,
-                at,
-            );
-            let left = wrote.info;
+            let payload = &input[r.payload..r.next];
+            let behind = answer_call(found, card, r.port, r.call, payload, to, at);
             Turned {
-                stop: Stop::Went,
-                info: left,
-                from: next,
-                at: wrote.at,
+                stop: None,
+                from: r.next,
+                at: behind,
             }
         }
     }
@@ -252,66 +202,27 @@ fn serve_turn(
 // ---- an input
 
 // Serves an input that arrives at a port, record after record, as long as there is room for the answer. The card is audited once.
-pub fn serve(
-    wire: Port,
-    info: Info,
-    flags: &mut [u8],
-    keys: &mut [u64],
-    counts: &mut [u32],
-    pointers: &mut [u32],
-    multiplicities: &mut [u16],
-    windows: &mut [u64],
-    contents: &mut [u8],
-    input: &[u8],
-    answers: &mut [u8],
-) -> Part
-    ensures { Plays (serve wire) info (changed flags.old flags.new) (changed keys.old keys.new) (changed counts.old counts.new) (changed pointers.old pointers.new) (changed multiplicities.old multiplicities.new) (changed windows.old windows.new) (changed contents.old contents.new) (kept input.now) (changed answers.old answers.new) result }
+pub fn serve(wire: Port, card: &mut LentCard, input: &[u8], answers: &mut [u8]) -> Part
+    ensures same { SameTables card.old card.new }
+    ensures plays { Plays (serve wire) card.old card.new input.now answers.old answers.new result }
 {
-    let found = audit::audit(
-        info,
-        flags,
-        keys,
-        counts,
-        pointers,
-        multiplicities,
-        windows,
-        contents,
-    );
-    let mut left = info;
+    let found = audit::audit(card.shared());
     let mut count = 0;
     let mut from = 0;
     let mut at = 0;
+    // How many records the input holds is not known at the start.
     loop {
-        let turned = serve_turn(
-            wire,
-            found,
-            left,
-            flags,
-            keys,
-            counts,
-            pointers,
-            multiplicities,
-            windows,
-            contents,
-            input,
-            from,
-            answers,
-            at,
-        );
-        let stop = turned.stop;
-        left = turned.info;
+        let turned = serve_turn(wire, found, card, input, from, answers, at);
         from = turned.from;
         at = turned.at;
-        if input::went(stop) {
-            count += 1;
-        } else {
+        if let Some(stop) = turned.stop {
             return Part {
                 stop,
-                info: left,
                 records: count,
                 read: from,
                 written: at,
             };
         }
+        count += 1;
     }
 }

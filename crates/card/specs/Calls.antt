@@ -1,5 +1,5 @@
 -- Document 01, "Calls", and the requests of document 02: each paragraph as its refusals in order, then what is answered, shown and changed.
-use Rattle.std.specs.Prelude.{ℕ, zero, suc, ◌+◌, ◌-◌, ◌*◌, max, Bool, true, false, ◌&&◌, ◌||◌, not, cond, List, [], ◌∷◌, ◌++◌, eqb, ltb, leb, length, take, replicate}
+use Rattle.std.specs.Prelude.{ℕ, zero, suc, ◌+◌, ◌-◌, ◌*◌, max, Bool, true, false, ◌&&◌, ◌||◌, not, cond, List, [], ◌∷◌, ◌++◌, eqb, ltb, leb, length, Some, None, Ok, Err, take, replicate}
 use Rattle.card.specs.Lists.{any, all_below, numbers_below, numbers_from}
 use Rattle.card.specs.Pointers.{remove}
 use Rattle.card.specs.Contents.{zeros, overwrite}
@@ -13,8 +13,7 @@ use Rattle.card.specs.declared.Port.{Port}
 use Rattle.card.specs.declared.Port.TheVariants.{Host, Service}
 use Rattle.card.specs.declared.Mode.{Mode}
 use Rattle.card.specs.declared.Mode.TheVariants.{Reading, Writing}
-use Rattle.card.specs.declared.ReadOperands.{ReadOperands}
-use Rattle.card.specs.declared.WriteOperands.{WriteOperands}
+use Rattle.card.specs.declared.TransferOperands.{TransferOperands}
 use Rattle.card.specs.declared.AllocOperands.{AllocOperands}
 use Rattle.card.specs.declared.CreateOperands.{CreateOperands}
 use Rattle.card.specs.declared.DeleteOperands.{DeleteOperands}
@@ -26,8 +25,8 @@ use Rattle.card.specs.declared.RentOperands.{RentOperands}
 use Rattle.card.specs.declared.SweepOperands.{SweepOperands}
 use Rattle.card.specs.declared.Refusal.{Refusal}
 use Rattle.card.specs.declared.Refusal.TheVariants.{Misshapen, Unsound, NotAllocated, BadOperand, NotOpened, IsRoot, CannotPoint, NoPointer, HasPointers, TooFewBlocks, TooFewPlaces, TimeEnds, BadRecord, NoRun, HasWriteKey, PriceTooHigh}
-use Rattle.card.specs.declared.Answer.{Answer}
-use Rattle.card.specs.declared.Answer.TheVariants.{Refused, Done, Value}
+use Rattle.card.specs.Answers.{Answer}
+use Rattle.card.specs.Answers.{Refused, Done, Value}
 
 -- ---- the numbers of refusals and answers
 
@@ -52,21 +51,21 @@ refusal_number PriceTooHigh = 16
 
 -- An answer's number, 0 for done.
 abbrev pub answer_number : Answer → ℕ
-answer_number (Refused r) = refusal_number r
-answer_number Done = 0
-answer_number (Value v) = 0
+answer_number (Err r) = refusal_number r
+answer_number (Ok None) = 0
+answer_number (Ok (Some v)) = 0
 
 -- The answer is no refusal.
 abbrev pub is_done : Answer → Bool
-is_done (Refused r) = false
-is_done Done = true
-is_done (Value v) = true
+is_done (Err r) = false
+is_done (Ok None) = true
+is_done (Ok (Some v)) = true
 
 -- The values that an answer carries by itself.
 abbrev pub answer_values : Answer → List ℕ
-answer_values (Refused r) = []
-answer_values Done = []
-answer_values (Value v) = v ∷ []
+answer_values (Err r) = []
+answer_values (Ok None) = []
+answer_values (Ok (Some v)) = v ∷ []
 
 -- ---- conditions that several calls share
 
@@ -119,7 +118,7 @@ format blocks roots bytes c = format_result (ranges blocks roots bytes && length
 -- ---- READ and WRITE
 
 -- "READ(b, credential, interval, out)", where `opened` says that b is opened for reading and `size` is out's length.
-unfoldable pub read_plan : Port → Public → Bool → ReadOperands → ℕ → Plan
+unfoldable pub read_plan : Port → Public → Bool → TransferOperands → ℕ → Plan
 read_plan port p opened o size = record {
   checks =
       (not (eqb size p.info.bytes) || ltb longest_interval o.interval ⇒ BadOperand)
@@ -132,7 +131,7 @@ read_plan port p opened o size = record {
 }
 
 -- "WRITE(b, credential, interval, data)": "The same with writing, data and the write window."
-unfoldable pub write_plan : Port → Public → Bool → WriteOperands → List ℕ → Plan
+unfoldable pub write_plan : Port → Public → Bool → TransferOperands → List ℕ → Plan
 write_plan port p opened o input = record {
   checks =
       (not (eqb (length input) p.info.bytes) || ltb longest_interval o.interval ⇒ BadOperand)

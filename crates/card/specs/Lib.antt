@@ -9,6 +9,7 @@ pub mod Soundness
 pub mod SoundCard
 pub mod Access
 pub mod Plan
+pub mod Answers
 pub mod Calls
 pub mod Lowest
 pub mod Session

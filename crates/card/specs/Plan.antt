@@ -1,7 +1,6 @@
 -- A call as checks in order and then changes in order: the two parts of each paragraph of document 01, "Calls".
 -- The checks and the changes are made from the public part of the card and from the answers of the access test alone.
-use Rattle.std.specs.Prelude.{ℕ, ◌+◌, ◌-◌, ◌≡◌, Bool, true, false, not, cond, List, [], ◌∷◌, ◌++◌, length, drop, set}
-use Rattle.std.proofs.Math.Option.{Option, none, some}
+use Rattle.std.specs.Prelude.{ℕ, ◌+◌, ◌-◌, ◌≡◌, Bool, true, false, not, cond, List, [], ◌∷◌, ◌++◌, length, drop, set, Option, None, Some, is_some, unwrap_or}
 use Rattle.card.specs.Lists.{tabulate}
 use Rattle.card.specs.Pointers.{pointer, pointers_to, insert, remove, insert_beside, remove_beside, set_beside, keep, keep_beside, not_from}
 use Rattle.card.specs.Contents.{overwrite, fill, zeros}
@@ -10,12 +9,10 @@ use Rattle.card.specs.Soundness.{shape, sound}
 use Rattle.card.specs.declared.Info.{Info}
 use Rattle.card.specs.declared.Mode.{Mode}
 use Rattle.card.specs.declared.Mode.TheVariants.{Reading, Writing}
-use Rattle.card.specs.declared.NewKey.{NewKey}
-use Rattle.card.specs.declared.NewKey.TheVariants.{Absent, Present}
 use Rattle.card.specs.declared.Refusal.{Refusal}
 use Rattle.card.specs.declared.Refusal.TheVariants.{Misshapen, Unsound}
-use Rattle.card.specs.declared.Answer.{Answer}
-use Rattle.card.specs.declared.Answer.TheVariants.{Refused}
+use Rattle.card.specs.Answers.{Answer}
+use Rattle.card.specs.Answers.{Refused}
 
 -- ---- checks
 
@@ -26,8 +23,8 @@ pub data Check : Type 0 where
 
 -- The refusal of the first condition that holds.
 unfoldable pub first : List Check → Option Refusal
-first [] = none
-first ((test ⇒ r) ∷ checks) = cond test (some r) (first checks)
+first [] = None
+first ((test ⇒ r) ∷ checks) = cond test (Some r) (first checks)
 
 -- The refusal's condition holds, and no condition before it.
 pub data FirstHolds : List Check → Refusal → Type 0 where
@@ -48,7 +45,7 @@ audited c checks = (not (shape c) ⇒ Misshapen) ∷ ((not (sound c) ⇒ Unsound
 pub data Change : Type 0 where
   set_window : Mode → ℕ → ℕ → Change
   set_block : ℕ → List ℕ → Change
-  set_key : Mode → ℕ → NewKey → Change
+  set_key : Mode → ℕ → Option (ℕ × ℕ) → Change
   take_block : ℕ → Change
   free_block : ℕ → Change
   -- 2026-09: a waiting block is overwritten and becomes free.
@@ -61,18 +58,12 @@ pub data Change : Type 0 where
   -- 2026-08: the time, and the total that goes with it.
   set_time : ℕ → ℕ → Change
 
--- A new key is there, or none is; its words are 0 where none is.
-abbrev pub is_present : NewKey → Bool
-is_present Absent = false
-is_present (Present high low) = true
+-- The words of a new key; they are 0 where there is none.
+abbrev pub high_word : Option (ℕ × ℕ) → ℕ
+high_word key = (unwrap_or key (0, 0)).0
 
-abbrev pub high_word : NewKey → ℕ
-high_word Absent = 0
-high_word (Present high low) = high
-
-abbrev pub low_word : NewKey → ℕ
-low_word Absent = 0
-low_word (Present high low) = low
+abbrev pub low_word : Option (ℕ × ℕ) → ℕ
+low_word key = (unwrap_or key (0, 0)).1
 
 -- The operation that is not this one.
 abbrev pub other_mode : Mode → Mode
@@ -86,8 +77,8 @@ key_bit Reading true = 2
 key_bit Writing true = 4
 
 -- 2026-02: the flags of an allocated block once its key for the mode is set, from those that it had: the other key's flag stays.
-abbrev pub keyed_flags : ℕ → Mode → NewKey → ℕ
-keyed_flags f mode key = 1 + key_bit mode (is_present key) + key_bit (other_mode mode) (key_flag (other_mode mode) f)
+abbrev pub keyed_flags : ℕ → Mode → Option (ℕ × ℕ) → ℕ
+keyed_flags f mode key = 1 + key_bit mode (is_some key) + key_bit (other_mode mode) (key_flag (other_mode mode) f)
 
 abbrev pub with_used : Info → ℕ → Info
 with_used info used = record { blocks = info.blocks; roots = info.roots; bytes = info.bytes; used = used; time = info.time; total = info.total }
@@ -174,12 +165,12 @@ change_public (drop_from bs) p =
 change_public (set_time time total) p = record { info = with_time p.info time total; flags = p.flags; counts = p.counts; pointers = p.pointers; multiplicities = p.multiplicities; windows = p.windows }
 
 -- The two words of a block's key for the mode; those of the other key stay.
-abbrev pub replace_key : List ℕ → Mode → ℕ → NewKey → List ℕ
+abbrev pub replace_key : List ℕ → Mode → ℕ → Option (ℕ × ℕ) → List ℕ
 replace_key keys mode b key = set (set keys (key_at mode b) (high_word key)) (key_at mode b + 1) (low_word key)
 
 -- Neither key is there any more.
 abbrev pub clear_keys : List ℕ → ℕ → List ℕ
-clear_keys keys b = replace_key (replace_key keys Reading b Absent) Writing b Absent
+clear_keys keys b = replace_key (replace_key keys Reading b None) Writing b None
 
 -- What a change does to the keys.
 unfoldable pub change_keys : Change → List ℕ → List ℕ
@@ -274,8 +265,8 @@ done c lent plan = record {
 }
 
 unfoldable pub settle : Card → Buffers → Plan → Option Refusal → Result
-settle c lent plan none = done c lent plan
-settle c lent plan (some r) = refused c lent r
+settle c lent plan None = done c lent plan
+settle c lent plan (Some r) = refused c lent r
 
 -- A call judged by its own checks, on a card that has been audited.
 unfoldable pub judge_sound : Card → Buffers → Plan → Result

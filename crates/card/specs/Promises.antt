@@ -2,7 +2,7 @@
 use Rattle.std.specs.Prelude.{ℕ, ◌≡◌, List}
 use Rattle.card.specs.Card.{Card}
 use Rattle.card.specs.Plan.{Result}
-use Rattle.card.specs.declared.Answer.{Answer}
+use Rattle.card.specs.Answers.{Answer}
 
 -- The answer, the card that is left and the buffers that may be written are those of the result.
 pub record Is (want : Result) (answer : Answer) (after : Card) (out places : List ℕ) : Type 0 where

@@ -1,14 +1,12 @@
 -- Document 01, "Within reach": presented keys, sealed and hidden blocks.
-use Rattle.std.specs.Prelude.{ℕ, ◌≡◌, Bool, true, false, ◌&&◌, ◌||◌, not, List, [], ◌∷◌, eqb}
-use Rattle.std.proofs.Math.Option.{Option, none, some}
+use Rattle.std.specs.Prelude.{ℕ, ◌≡◌, Bool, true, false, ◌&&◌, ◌||◌, not, List, [], ◌∷◌, eqb, Option, Some, None, Ok, Err}
 use Rattle.card.specs.Card.{Card, allocated, has_key, is_root, window_open, points_to, key_high, key_low}
 use Rattle.card.specs.Session.{Request, Sent, traits, performed}
 use Rattle.card.specs.declared.Mode.{Mode}
 use Rattle.card.specs.declared.Mode.TheVariants.{Reading, Writing}
 use Rattle.card.specs.declared.Credential.{Credential}
 use Rattle.card.specs.declared.Credential.TheVariants.{Nothing, Reference, Key as KeyCredential}
-use Rattle.card.specs.declared.Answer.{Answer}
-use Rattle.card.specs.declared.Answer.TheVariants.{Refused, Done, Value}
+use Rattle.card.specs.Answers.{Answer}
 use Rattle.card.specs.declared.Call.{Call}
 
 -- ---- presented keys
@@ -45,14 +43,14 @@ HasKeys K qs = (high low : ℕ) → presented qs high low ≡ true → K high lo
 
 -- Done with result 1.
 unfoldable pub is_one : Answer → Bool
-is_one (Refused r) = false
-is_one Done = false
-is_one (Value v) = eqb v 1
+is_one (Err r) = false
+is_one (Ok None) = false
+is_one (Ok (Some v)) = eqb v 1
 
 -- The block is the one that is named, if any.
 abbrev named : Option ℕ → ℕ → Bool
-named none b = false
-named (some a) b = eqb a b
+named None b = false
+named (Some a) b = eqb a b
 
 -- Document 01, "A block's last pointer is taken away by a DELETE to it that is done with result 1."
 unfoldable pub takes_last : Call → Answer → ℕ → Bool

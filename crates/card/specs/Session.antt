@@ -1,6 +1,5 @@
 -- One call performed, and a list of calls run, each on the card that the one before left.
-use Rattle.std.specs.Prelude.{ℕ, Bool, true, false, cond, List, [], ◌∷◌, ◌++◌, map, eqb, length, take}
-use Rattle.std.proofs.Math.Option.{Option, none, some}
+use Rattle.std.specs.Prelude.{ℕ, Bool, true, false, cond, List, [], ◌∷◌, ◌++◌, map, eqb, length, take, Option, None, Some}
 use Rattle.card.specs.Card.{Card}
 use Rattle.card.specs.Access.{admits, opens}
 use Rattle.card.specs.Plan.{Check, audited, Plan, Buffers, Result, judge, judge_sound}
@@ -15,7 +14,7 @@ use Rattle.card.specs.declared.KeyOperands.{KeyOperands}
 use Rattle.card.specs.declared.TickOperands.{TickOperands}
 use Rattle.card.specs.declared.RentOperands.{RentOperands}
 use Rattle.card.specs.declared.SweepOperands.{SweepOperands}
-use Rattle.card.specs.declared.Answer.{Answer}
+use Rattle.card.specs.Answers.{Answer}
 use Rattle.card.specs.declared.Call.{Call}
 use Rattle.card.specs.declared.Call.TheVariants.{Read, Write, Alloc, AllocContig, Create, Delete, DeleteTree, KeyRead, KeyWrite, Renew, Force, Free, Tick, Audit, Rent, Sweep}
 
@@ -175,23 +174,23 @@ pub record Traits : Type 0 where
 
 -- A call that shows nothing and is neither DELETE nor TICK.
 abbrev pub plain : List Credential → Traits
-plain credentials = record { credentials = credentials; values = λ r. []; takes_pointer_to = none; seconds = 0 }
+plain credentials = record { credentials = credentials; values = λ r. []; takes_pointer_to = None; seconds = 0 }
 
 -- A row for each call. A player reports READ's first 8 bytes and the numbers of ALLOC and ALLOC_CONTIG.
 unfoldable pub traits : Call → Traits
-traits (Read o) = record { credentials = o.credential ∷ []; values = λ r. take 8 r.out; takes_pointer_to = none; seconds = 0 }
+traits (Read o) = record { credentials = o.credential ∷ []; values = λ r. take 8 r.out; takes_pointer_to = None; seconds = 0 }
 traits (Write o) = plain (o.credential ∷ [])
-traits (Alloc o) = record { credentials = o.credential ∷ []; values = λ r. take o.count r.places; takes_pointer_to = none; seconds = 0 }
-traits (AllocContig o) = record { credentials = o.credential ∷ []; values = λ r. take o.count r.places; takes_pointer_to = none; seconds = 0 }
+traits (Alloc o) = record { credentials = o.credential ∷ []; values = λ r. take o.count r.places; takes_pointer_to = None; seconds = 0 }
+traits (AllocContig o) = record { credentials = o.credential ∷ []; values = λ r. take o.count r.places; takes_pointer_to = None; seconds = 0 }
 traits (Create o) = plain (o.credential ∷ o.second ∷ [])
-traits (Delete o) = record { credentials = o.credential ∷ []; values = λ r. []; takes_pointer_to = some o.destination; seconds = 0 }
+traits (Delete o) = record { credentials = o.credential ∷ []; values = λ r. []; takes_pointer_to = Some o.destination; seconds = 0 }
 traits (DeleteTree o) = plain (o.credential ∷ [])
 traits (KeyRead o) = plain (o.credential ∷ [])
 traits (KeyWrite o) = plain (o.credential ∷ [])
 traits (Renew o) = plain (KeyCredential o.high o.low ∷ [])
 traits (Force o) = plain []
 traits Free = plain []
-traits (Tick o) = record { credentials = []; values = λ r. []; takes_pointer_to = none; seconds = o.seconds }
+traits (Tick o) = record { credentials = []; values = λ r. []; takes_pointer_to = None; seconds = o.seconds }
 traits Audit = plain []
 traits (Rent o) = plain []
 traits (Sweep o) = plain []

@@ -1,6 +1,6 @@
 -- Document 01, "Marked trials" T1 to T12, its example of ten records as calls, and its mistakes to exclude, each in a row of its own or one of these:
 -- rows of one table, shown of the rules by one proof that is computed. Behind them rows of the requests.
-use Rattle.std.specs.Prelude.{ℕ, List, [], ◌∷◌, ◌++◌, map, replicate}
+use Rattle.std.specs.Prelude.{ℕ, List, [], ◌∷◌, ◌++◌, map, replicate, Option, Some, None}
 use Rattle.card.specs.Lists.{every, all, any, all_below, numbers_below, numbers_from, tabulate}
 use Rattle.card.specs.Pointers.{ascending, contains, points_from, insert, remove, beside, total, insert_beside, remove_beside, set_beside, keep_beside, keep, not_from}
 use Rattle.card.specs.Least.{rounds, least}
@@ -19,8 +19,6 @@ use Rattle.card.specs.declared.Mode.{Mode}
 use Rattle.card.specs.declared.Mode.TheVariants.{Reading, Writing}
 use Rattle.card.specs.declared.Credential.{Credential}
 use Rattle.card.specs.declared.Credential.TheVariants.{Nothing, Reference, Key as KeyCredential}
-use Rattle.card.specs.declared.NewKey.{NewKey}
-use Rattle.card.specs.declared.NewKey.TheVariants.{Absent, Present}
 use Rattle.card.specs.declared.Call.{Call}
 use Rattle.card.specs.declared.Call.TheVariants.{Read, Write, Alloc, AllocContig, Create, Delete, DeleteTree, Free, Tick, Rent, Sweep}
 
@@ -77,7 +75,7 @@ module _ (port : Port) where
   abbrev pub delete_tree : ℕ → ℕ → Sent
   delete_tree a b = send port (DeleteTree (record { source = a; credential = Nothing; destination = b }))
 
-  abbrev pub key : Mode → ℕ → Credential → NewKey → Sent
+  abbrev pub key : Mode → ℕ → Credential → Option (ℕ × ℕ) → Sent
   key mode b credential new = send port (key_call mode (record { block = b; credential = credential; key = new }))
 
 abbrev pub free : Sent
@@ -149,7 +147,7 @@ trial_table =
     yields (0 ∷ 1 ∷ 2 ∷ []) ∷ (0 ∷ []) ∷ (0 ∷ replicate 8 7) ∷ (0 ∷ 1 ∷ []) ∷ (0 ∷ 1 ∷ []) ∷ (0 ∷ 2 ∷ []) ∷ (0 ∷ zeros8) ∷ [])
     -- the example of ten records, its second as 2026-02 has it and its last answer as 2026-09 has it
     ∷ (alloc Service 0 65535 2
-    ∷ key Service Reading 1 Nothing (Present 1 2)
+    ∷ key Service Reading 1 Nothing (Some (1, 2))
     ∷ read Host 1 Nothing 0
     ∷ free
     ∷ read Host 0 Nothing 10
@@ -172,16 +170,16 @@ trial_table =
     ∷ [])
     -- CREATE tests the destination for writing: its write key opens it, its read key does not
     ∷ (alloc Service 0 65535 2
-    ∷ key Service Writing 1 Nothing (Present 3 4)
-    ∷ key Service Reading 2 Nothing (Present 1 2)
-    ∷ key Service Writing 2 Nothing (Present 3 4)
+    ∷ key Service Writing 1 Nothing (Some (3, 4))
+    ∷ key Service Reading 2 Nothing (Some (1, 2))
+    ∷ key Service Writing 2 Nothing (Some (3, 4))
     ∷ create Host 1 (KeyCredential 3 4) 2 (KeyCredential 1 2)
     ∷ create Host 1 (KeyCredential 3 4) 2 (KeyCredential 3 4)
     ∷ []
     yields (0 ∷ 1 ∷ 2 ∷ []) ∷ (0 ∷ []) ∷ (0 ∷ []) ∷ (0 ∷ []) ∷ (5 ∷ []) ∷ (0 ∷ []) ∷ [])
     -- a reference does not stand in for a key
     ∷ (alloc Service 0 65535 1
-    ∷ key Service Reading 1 Nothing (Present 1 2)
+    ∷ key Service Reading 1 Nothing (Some (1, 2))
     ∷ read Host 0 Nothing 10
     ∷ read Host 1 (Reference 0) 0
     ∷ read Host 1 (KeyCredential 1 2) 0
@@ -206,10 +204,10 @@ trial_table =
     yields (0 ∷ 8 ∷ []) ∷ (10 ∷ []) ∷ (14 ∷ []) ∷ (0 ∷ 1 ∷ 2 ∷ 3 ∷ 4 ∷ 5 ∷ 6 ∷ 7 ∷ []) ∷ [])
     -- 2026-02: a new read key needs the write key, the old read key is not enough; the write key stays
     ∷ (alloc Service 0 65535 1
-    ∷ key Service Reading 1 Nothing (Present 1 2)
-    ∷ key Service Writing 1 Nothing (Present 3 4)
-    ∷ key Host Reading 1 (KeyCredential 1 2) (Present 5 6)
-    ∷ key Host Reading 1 (KeyCredential 3 4) (Present 5 6)
+    ∷ key Service Reading 1 Nothing (Some (1, 2))
+    ∷ key Service Writing 1 Nothing (Some (3, 4))
+    ∷ key Host Reading 1 (KeyCredential 1 2) (Some (5, 6))
+    ∷ key Host Reading 1 (KeyCredential 3 4) (Some (5, 6))
     ∷ read Host 1 (KeyCredential 1 2) 0
     ∷ read Host 1 (KeyCredential 5 6) 0
     ∷ write_all Host 1 (KeyCredential 3 4) 0 7
@@ -218,9 +216,9 @@ trial_table =
     -- 2026-02: between the two calls a reference still opens the block for the operation that has no key
     ∷ (alloc Service 0 65535 1
     ∷ write_all Host 0 Nothing 10 0
-    ∷ key Host Reading 1 (Reference 0) (Present 1 2)
+    ∷ key Host Reading 1 (Reference 0) (Some (1, 2))
     ∷ write_all Host 1 (Reference 0) 0 7
-    ∷ key Host Writing 1 (Reference 0) (Present 3 4)
+    ∷ key Host Writing 1 (Reference 0) (Some (3, 4))
     ∷ write_all Host 1 (Reference 0) 0 7
     ∷ []
     yields (0 ∷ 1 ∷ []) ∷ (0 ∷ []) ∷ (0 ∷ []) ∷ (0 ∷ []) ∷ (0 ∷ []) ∷ (5 ∷ []) ∷ [])
@@ -298,10 +296,10 @@ trial_table =
     ∷ (alloc Service 0 65535 1
     ∷ alloc Service 1 65535 1
     ∷ alloc Service 2 65535 1
-    ∷ key Service Reading 3 Nothing (Present 1 2)
-    ∷ key Service Writing 3 Nothing (Present 3 4)
+    ∷ key Service Reading 3 Nothing (Some (1, 2))
+    ∷ key Service Writing 3 Nothing (Some (3, 4))
     ∷ delete_tree Service 0 1
-    ∷ key Service Writing 3 Nothing Absent
+    ∷ key Service Writing 3 Nothing None
     ∷ delete_tree Service 0 1
     ∷ []
     yields (0 ∷ 1 ∷ []) ∷ (0 ∷ 2 ∷ []) ∷ (0 ∷ 3 ∷ []) ∷ (0 ∷ []) ∷ (0 ∷ []) ∷ (15 ∷ []) ∷ (0 ∷ []) ∷ (0 ∷ 3 ∷ []) ∷ [])

@@ -2,6 +2,8 @@
 // What they mean is defined in specs/, after document 01 and the requests of document 02.
 #![tactic(auto)]
 
+ghost use Rattle.card.specs.Lent.{Shows};
+
 // The limits of document 01.
 
 // A card has at most so many blocks, and at most so many places for pointers.
@@ -66,26 +68,10 @@ pub enum Credential {
     Key(u64, u64),
 }
 
-// A key to be set, or none.
+// Of READ and of WRITE. The bytes to be written stand beside the call.
 #[derive(Drop)]
 #[derive(Clone, Copy)]
-pub enum NewKey {
-    Absent,
-    Present(u64, u64),
-}
-
-#[derive(Drop)]
-#[derive(Clone, Copy)]
-pub struct ReadOperands {
-    pub block: u16,
-    pub credential: Credential,
-    pub interval: u32,
-}
-
-// The bytes to be written stand beside the call.
-#[derive(Drop)]
-#[derive(Clone, Copy)]
-pub struct WriteOperands {
+pub struct TransferOperands {
     pub block: u16,
     pub credential: Credential,
     pub interval: u32,
@@ -120,13 +106,13 @@ pub struct DeleteOperands {
     pub destination: u16,
 }
 
-// Of KEY_READ and of KEY_WRITE.
+// Of KEY_READ and of KEY_WRITE: a key to be set, as its high and low word, or none.
 #[derive(Drop)]
 #[derive(Clone, Copy)]
 pub struct KeyOperands {
     pub block: u16,
     pub credential: Credential,
-    pub key: NewKey,
+    pub key: Option<(u64, u64)>,
 }
 
 // Mode 0 renews the read window, 1 the write window. The key is given bare, as its two words.
@@ -169,8 +155,8 @@ pub struct SweepOperands {
 #[derive(Drop)]
 #[derive(Clone, Copy)]
 pub enum Call {
-    Read(ReadOperands),
-    Write(WriteOperands),
+    Read(TransferOperands),
+    Write(TransferOperands),
     Alloc(AllocOperands),
     AllocContig(AllocOperands),
     Create(CreateOperands),
@@ -210,17 +196,11 @@ pub enum Refusal {
     PriceTooHigh,
 }
 
-// What a call answers: a refusal, done with no result, or done with one number.
+// What a call answers: why it is refused, or what it gives where it is done: no result, or one number.
 // The bytes of READ and the numbers of ALLOC and ALLOC_CONTIG are in the lent buffers.
-#[derive(Drop)]
-#[derive(Clone, Copy)]
-pub enum Answer {
-    Refused(Refusal),
-    Done,
-    Value(u64),
-}
+pub type Answer = Result<Option<u64>, Refusal>;
 
-// What the audit finds of a record and its tables.
+// What the audit finds of a record and its tables: three findings, of which none is a value or an error.
 #[derive(Drop)]
 #[derive(Clone, Copy)]
 pub enum Verdict {
@@ -229,10 +209,47 @@ pub enum Verdict {
     Sound,
 }
 
-// What a call answers, and the record that it leaves.
+// A card on lent tables: its record, and the seven tables that a caller lends.
+#[derive(Drop)]
+pub struct LentCard<'a> {
+    pub info: Info,
+    pub flags: &'a mut [u8],
+    pub keys: &'a mut [u64],
+    pub counts: &'a mut [u32],
+    pub pointers: &'a mut [u32],
+    pub multiplicities: &'a mut [u16],
+    pub windows: &'a mut [u64],
+    pub contents: &'a mut [u8],
+}
+
+// The same, lent to be read alone.
 #[derive(Drop)]
 #[derive(Clone, Copy)]
-pub struct Outcome {
-    pub answer: Answer,
+pub struct SharedCard<'a> {
     pub info: Info,
+    pub flags: &'a [u8],
+    pub keys: &'a [u64],
+    pub counts: &'a [u32],
+    pub pointers: &'a [u32],
+    pub multiplicities: &'a [u16],
+    pub windows: &'a [u64],
+    pub contents: &'a [u8],
+}
+
+impl LentCard<'_> {
+    // The card as it is now, to be read.
+    pub fn shared(&self) -> SharedCard<'_>
+        ensures { Shows result self.now }
+    {
+        SharedCard {
+            info: self.info,
+            flags: self.flags,
+            keys: self.keys,
+            counts: self.counts,
+            pointers: self.pointers,
+            multiplicities: self.multiplicities,
+            windows: self.windows,
+            contents: self.contents,
+        }
+    }
 }

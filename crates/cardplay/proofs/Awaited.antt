@@ -1,4 +1,5 @@
 -- A play that stops for want of input leaves less than a record.
+use Rattle.std.specs.Prelude.{Option, Some, None, Ok, Err}
 use Prim.Native.Nat.{ℕ, zero, suc, ◌+◌, ◌-◌, ◌<◌}
 use mathlib.Core.Path.{◌≡◌, refl}
 use mathlib.Core.Bool.{Bool, true, false, cond, false≢true}
@@ -8,21 +9,18 @@ use lib.Dec.{ltb}
 use lib.ListN.{length}
 use borrow.Author.Tests.{ltb-true}
 use Rattle.card.specs.Card.{Card}
-use Rattle.decoding.specs.Decode.{Next, ended, refused, sent, decode, decode_body, next_of}
+use Rattle.decoding.specs.Decode.{Decoding, Next, ended, refused, sent, decode, decode_body, next_of}
 use Rattle.kinds.specs.Kinds.{row, length_of, kind_of, kind_length, body_length}
 use Rattle.kinds.specs.declared.Name.{Name}
 use Rattle.kinds.specs.declared.Name.TheVariants.{Read as READ, Write as WRITE, Alloc as ALLOC, Create as CREATE, Delete as DELETE, KeyRead as KEY-READ, Renew as RENEW, Force as FORCE, Free as FREE, Tick as TICK, Audit as AUDIT, AllocContig as ALLOC-CONTIG, KeyWrite as KEY-WRITE, DeleteTree as DELETE-TREE}
-use Rattle.kinds.specs.declared.Kind.{Kind}
-use Rattle.kinds.specs.declared.Kind.TheVariants.{Known, Unknown}
-use Rattle.decoding.specs.declared.Decoding.{Decoding}
-use Rattle.decoding.specs.declared.Decoding.TheVariants.{Decoded, Bad}
 use Rattle.lines.specs.Lines.{line_room}
 use Rattle.input.specs.Play.{player_port, is_short, fault, Turn, turn_of, turn, Play, go_on, play_within, play}
 use Rattle.input.proofs.PlayLaws.{tried}
 use Rattle.input.specs.declared.Stop.{Stop}
-use Rattle.input.specs.declared.Stop.TheVariants.{Went, Ended, Short, Refused, Full}
+use Rattle.input.specs.declared.Stop.TheVariants.{Short, Refused}
 use Rattle.cardplay.specs.InputBuffer.{record_room}
 use Rattle.cardplay.specs.Progress.{needs_input}
+use Rattle.card.specs.declared.Port.{Port}
 
 -- ---- one record
 
@@ -43,10 +41,10 @@ length_most ALLOC-CONTIG = omega arith
 length_most KEY-WRITE = omega arith
 length_most DELETE-TREE = omega arith
 
-kind_short : (k : Kind) (n : ℕ) → is_short (kind_length k) n ≡ true → n + 1 < record_room
+kind_short : (k : Option (Port × Name)) (n : ℕ) → is_short (kind_length k) n ≡ true → n + 1 < record_room
 unfolding is_short kind_length
-kind_short (Known port name) n e = omega (arith, ltb-true n (length_of name) e, length_most name)
-kind_short Unknown n e = absurd (false≢true e)
+kind_short (Some (port, name)) n e = omega (arith, ltb-true n (length_of name) e, length_most name)
+kind_short None n e = absurd (false≢true e)
 
 fault_short : (xs : List ℕ) → needs_input (fault player_port xs) ≡ true → length xs < record_room
 unfolding fault body_length
@@ -63,10 +61,15 @@ ended_none [] e = omega arith
 ended_none (kind ∷ xs) e = absurd (go (decode_body player_port kind xs) e)
   where
     go : (d : Decoding) → next_of xs d ≡ ended → ⊥
-    go (Decoded port call) h = let z : ◌≡◌ {A = ℕ} 0 1 = cc in omega arith
-    go Bad h = let z : ◌≡◌ {A = ℕ} 0 1 = cc in omega arith
+    go (Ok (port, call)) h = let z : ◌≡◌ {A = ℕ} 0 1 = cc in omega arith
+    go (Err bad) h = let z : ◌≡◌ {A = ℕ} 0 1 = cc in omega arith
 
-turn_awaits : (ordinal : ℕ) (c : Card) (xs : List ℕ) (n : Next) → decode player_port xs ≡ n → needs_input (turn_of ordinal c xs n).stop ≡ true → length (turn_of ordinal c xs n).left < record_room
+-- The turn stopped the play, for want of input.
+abbrev turn_needs : Option Stop → Bool
+turn_needs None = false
+turn_needs (Some stop) = needs_input stop
+
+turn_awaits : (ordinal : ℕ) (c : Card) (xs : List ℕ) (n : Next) → decode player_port xs ≡ n → turn_needs (turn_of ordinal c xs n).stop ≡ true → length (turn_of ordinal c xs n).left < record_room
 unfolding turn_of
 turn_awaits ordinal c xs ended d e = ended_none xs d
 turn_awaits ordinal c xs refused d e = fault_short xs e
@@ -74,18 +77,15 @@ turn_awaits ordinal c xs (sent port call payload rest) d e = absurd (false≢tru
 
 -- ---- a whole play
 
-go_on_awaits : (stop : Stop) (t : Turn) (records : ℕ) (rest : ℕ → Card → List ℕ → ℕ → Play) (room : ℕ)
-    → (needs_input stop ≡ true → length t.left < record_room)
+go_on_awaits : (stop : Option Stop) (t : Turn) (records : ℕ) (rest : ℕ → Card → List ℕ → ℕ → Play) (room : ℕ)
+    → (turn_needs stop ≡ true → length t.left < record_room)
     → ((n : ℕ) (c : Card) (xs : List ℕ) (left : ℕ) → needs_input (rest n c xs left).stop ≡ true → length (rest n c xs left).left < record_room)
     → needs_input (go_on stop t records rest room).stop ≡ true → length (go_on stop t records rest room).left < record_room
 unfolding go_on
-go_on_awaits Went t records rest room h later e = later (records + 1) t.after t.left (room - length t.output) e
-go_on_awaits Ended t records rest room h later e = h refl
-go_on_awaits Short t records rest room h later e = h refl
-go_on_awaits Refused t records rest room h later e = absurd (false≢true e)
-go_on_awaits Full t records rest room h later e = absurd (false≢true e)
+go_on_awaits None t records rest room h later e = later (records + 1) t.after t.left (room - length t.output) e
+go_on_awaits (Some stop) t records rest room h later e = h e
 
-tried_awaits : (full : Bool) (records : ℕ) (c : Card) (xs : List ℕ) → needs_input (tried full records c xs).stop ≡ true → length (tried full records c xs).left < record_room
+tried_awaits : (full : Bool) (records : ℕ) (c : Card) (xs : List ℕ) → turn_needs (tried full records c xs).stop ≡ true → length (tried full records c xs).left < record_room
 unfolding turn
 tried_awaits true records c xs e = absurd (false≢true e)
 tried_awaits false records c xs e = turn_awaits (records + 1) c xs (decode player_port xs) refl e

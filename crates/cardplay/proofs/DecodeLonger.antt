@@ -1,4 +1,5 @@
 -- What an input starts with does not change when more bytes follow it.
+use Rattle.std.specs.Prelude.{Ok, Err}
 use Prim.Native.Nat.{ℕ, zero, suc, ◌+◌, ◌-◌, ◌*◌, ◌≤◌, ◌<◌}
 use mathlib.Core.Path.{◌≡◌, refl, sym, ap, ap₂, ◌∙◌}
 use mathlib.Core.Bool.{Bool, ◌&&◌}
@@ -16,12 +17,10 @@ use Rattle.fields.specs.Bytes.{number, zeroed}
 use Rattle.kinds.specs.Kinds.{row, length_of, kind_of}
 use Rattle.kinds.proofs.KindsLaws.{parts}
 use Rattle.fields.specs.Fields.{credential, new_key}
-use Rattle.decoding.specs.Decode.{decode_key, decode_call, decode_known, decode_body, body_of, operands_of, data_of, Next, ended, refused, sent, next_of, decode}
+use Rattle.decoding.specs.Decode.{Decoding, decode_key, decode_call, decode_known, decode_body, body_of, operands_of, data_of, Next, ended, refused, sent, next_of, decode}
 use Rattle.decoding.proofs.DecodeLaws.{OfKind, decoded_kind}
 use Rattle.kinds.specs.declared.Name.{Name}
 use Rattle.kinds.specs.declared.Name.TheVariants.{Read as READ, Write as WRITE, Alloc as ALLOC, Create as CREATE, Delete as DELETE, KeyRead as KEY-READ, Renew as RENEW, Force as FORCE, Free as FREE, Tick as TICK, Audit as AUDIT, AllocContig as ALLOC-CONTIG, KeyWrite as KEY-WRITE, DeleteTree as DELETE-TREE}
-use Rattle.decoding.specs.declared.Decoding.{Decoding}
-use Rattle.decoding.specs.declared.Decoding.TheVariants.{Decoded, Bad}
 
 -- ---- lists that agree on their first bytes
 
@@ -96,7 +95,7 @@ call_same port KEY-WRITE xs ys a = key_same port Writing xs ys a
 
 -- ---- a record
 
-module _ (wire : Port) (kind : ℕ) (xs ys : List ℕ) {port : Port} {call : Call} (e : Decoded port call ≡ decode_body wire kind xs) where
+module _ (wire : Port) (kind : ℕ) (xs ys : List ℕ) {port : Port} {call : Call} (e : Ok (port, call) ≡ decode_body wire kind xs) where
   known : OfKind (kind_of wire kind) xs port call
   known = decoded_kind wire kind xs port call e
 
@@ -108,7 +107,7 @@ module _ (wire : Port) (kind : ℕ) (xs ys : List ℕ) {port : Port} {call : Cal
       get_d_front (u ∷ us) vs zero b = refl
       get_d_front (u ∷ us) vs (suc j) b = get_d_front us vs j (omega arith)
 
-  body_longer : decode_body wire kind (xs ++ ys) ≡ Decoded port call
+  body_longer : decode_body wire kind (xs ++ ys) ≡ Ok (port, call)
   unfolding decode_body decode_known
   body_longer =
       rw (known.kind, le-leb (length_of known.name) (length (xs ++ ys)) (omega (arith, length-append xs ys, known.whole)))
@@ -140,8 +139,8 @@ followed ys (sent port call payload rest) = sent port call payload (rest ++ ys)
 next_longer : (wire : Port) (kind : ℕ) (xs ys : List ℕ) (d : Decoding) {port : Port} {call : Call} {payload rest : List ℕ} → d ≡ decode_body wire kind xs → next_of xs d ≡ sent port call payload rest
     → next_of (xs ++ ys) (decode_body wire kind (xs ++ ys)) ≡ sent port call payload (rest ++ ys)
 unfolding next_of
-next_longer wire kind xs ys (Decoded port call) d e = next_is wire kind xs ys d ∙ ap (followed ys) e
-next_longer wire kind xs ys Bad d e = let z : ◌≡◌ {A = ℕ} 0 1 = cc in absurd (omega arith)
+next_longer wire kind xs ys (Ok (port, call)) d e = next_is wire kind xs ys d ∙ ap (followed ys) e
+next_longer wire kind xs ys (Err bad) d e = let z : ◌≡◌ {A = ℕ} 0 1 = cc in absurd (omega arith)
 
 pub decode_longer : (wire : Port) (xs ys : List ℕ) {port : Port} {call : Call} {payload rest : List ℕ} → decode wire xs ≡ sent port call payload rest → decode wire (xs ++ ys) ≡ sent port call payload (rest ++ ys)
 unfolding decode

@@ -1,16 +1,13 @@
 -- FORMAT on the program's tables, whatever the record was: done, and document 01's fresh player card is left.
 use mathlib.Core.Path.{◌≡◌, refl, ap, ◌∙◌}
 use mathlib.Core.List.{[]}
-use Rattle.card.specs.Card.{Card, card}
+use Rattle.card.specs.Card.{Card}
 use Rattle.card.specs.Plan.{Result}
 use Rattle.card.specs.Calls.{format}
 use Rattle.card.specs.Trials.{rules, blank_card, player_card}
 use Rattle.card.specs.declared.Info.{Info}
-use Rattle.card.specs.declared.Answer.TheVariants.{Done}
-
--- The same tables with another record.
-abbrev with_info : Info → Card → Card
-with_info info c = card info c.public.flags c.keys c.public.counts c.public.pointers c.public.multiplicities c.public.windows c.contents
+use Rattle.card.specs.Answers.{Done}
+use Rattle.cardplay.specs.Pieces.{with_info}
 
 pub blank_formatted : (info : Info) → format 16 1 512 (with_info info blank_card) ≡ record { answer = Done; after = player_card; out = []; places = [] }
 unfolding rules player_card

@@ -8,26 +8,25 @@ use lib.Dec.{ltb}
 use lib.ListN.{length, take, length-append}
 use lib.Seq.{length-take-le}
 use borrow.Author.Tests.{ltb-true, ltb-false}
-use Rattle.card.specs.Card.{Card, card}
+use Rattle.card.specs.Card.{Card}
+use Rattle.card.specs.Lent.{SameTables, lent_card}
 use Rattle.laws.specs.ListsLaws.{and_left, and_right, or_false_left, or_false_right}
-use Rattle.card.specs.declared.Info.{Info}
+use Rattle.card.specs.declared.LentCard.{LentCard}
 use Rattle.input.specs.Play.{Play, play}
 use Rattle.input.specs.declared.Stop.{Stop}
-use Rattle.input.proofs.SameTables.{SameTables}
 use Rattle.cardplay.specs.Progress.{is_full, ProgressIs}
 use Rattle.cardplay.specs.Pieces.{Pieces}
 use Rattle.cardplay.proofs.PiecesLaws.{pieces_read, pieces_played}
 use Rattle.cardplay.proofs.PlayLonger.{PlaysNothing, play_halted}
 
--- The loop's invariant: tables and buffers keep their lengths, and the play has come so far.
-pub record PiecesLoop (c₀ : Card) (flags₀ keys₀ counts₀ pointers₀ multiplicities₀ windows₀ contents₀ flags keys counts pointers multiplicities windows contents buffer output : List ℕ)
-    (stop : Stop) (info : Info) (records filled : ℕ) (wrote on : Bool) : Type 0 where
-  pub tables : SameTables flags₀ keys₀ counts₀ pointers₀ multiplicities₀ windows₀ contents₀ flags keys counts pointers multiplicities windows contents
+-- The loop's invariant: the tables are those that were lent, the buffers keep their lengths, and the play has come so far.
+pub record PiecesLoop (before now : LentCard) (buffer output : List ℕ) (stop : Stop) (records filled : ℕ) (wrote on : Bool) : Type 0 where
+  pub same : SameTables before now
   pub size_buffer : length buffer ≡ 65536
   pub size_output : length output ≡ 65536
   pub within : filled ≤ length buffer
-  pub pieces : Pieces c₀ records (card info flags keys counts pointers multiplicities windows contents) (take filled buffer)
-  pub halts : on ≡ false → wrote ≡ true → PlaysNothing stop records (card info flags keys counts pointers multiplicities windows contents) (take filled buffer)
+  pub pieces : Pieces (lent_card before) records (lent_card now) (take filled buffer)
+  pub halts : on ≡ false → wrote ≡ true → PlaysNothing stop records (lent_card now) (take filled buffer)
 
 -- ---- one piece more
 

@@ -1,19 +1,18 @@
 -- What the functions of the program leave: the play of a buffer's filled part, and one piece of an input.
 use Rattle.std.specs.Prelude.{ℕ, ◌≤◌, ◌≡◌, Bool, true, false, ◌&&◌, ◌||◌, List, [], ◌++◌, ltb, length, take}
 use Rattle.card.specs.Card.{Card}
-use Rattle.card.specs.Lent.{Lent, at_entry, at_exit}
-use Rattle.card.specs.declared.Info.{Info}
+use Rattle.card.specs.Lent.{lent_card}
+use Rattle.card.specs.declared.LentCard.{LentCard}
 use Rattle.lines.specs.Written.{Written}
 use Rattle.input.specs.Play.{Play, play}
 use Rattle.input.specs.declared.Stop.{Stop}
-use Rattle.input.specs.declared.Stop.TheVariants.{Went, Ended, Short, Refused, Full}
+use Rattle.input.specs.declared.Stop.TheVariants.{Ended, Short, Refused, Full}
 use Rattle.cardplay.specs.InputBuffer.{GrownIs}
 use Rattle.cardplay.specs.declared.Piece.{Piece}
 use Rattle.cardplay.specs.declared.Progress.{Progress}
 
 -- There was no room for another line.
 abbrev pub is_full : Stop → Bool
-is_full Went = false
 is_full Ended = false
 is_full Short = false
 is_full Refused = false
@@ -21,7 +20,6 @@ is_full Full = true
 
 -- The input was at its end, or ended within a record.
 abbrev pub needs_input : Stop → Bool
-needs_input Went = false
 needs_input Ended = true
 needs_input Short = true
 needs_input Refused = false
@@ -53,34 +51,16 @@ pub record ProgressIs (want : Play) (stop : Stop) (records : ℕ) (after : Card)
   pub writes : Written before 0 want.output to (length want.output)
   pub goes : on ≡ (wrote && (is_full stop || ltb (length want.left) filled))
 
--- ---- on lent tables
+-- ---- on a lent card
 
 -- The play of a buffer's filled part, where so many records were played before.
-abbrev pub play_filled : ℕ → Info → Lent → Lent → Lent → Lent → Lent → Lent → Lent → Lent → ℕ → Lent → Play
-play_filled records info flags keys counts pointers multiplicities windows contents buffer filled output =
-    play records (at_entry info flags keys counts pointers multiplicities windows contents) (take filled buffer.entry) (length output.entry)
+abbrev pub play_filled : ℕ → LentCard → List ℕ → ℕ → List ℕ → Play
+play_filled records card buffer filled output = play records (lent_card card) (take filled buffer) (length output)
 
-abbrev pub PlaysPiece : ℕ → Info → Lent → Lent → Lent → Lent → Lent → Lent → Lent → Lent → ℕ → Lent → Piece → Type 0
-PlaysPiece records info flags keys counts pointers multiplicities windows contents buffer filled output r =
-    PieceIs (play_filled records info flags keys counts pointers multiplicities windows contents buffer filled output)
-    r.stop
-    r.records
-    (at_exit r.info flags keys counts pointers multiplicities windows contents)
-    buffer.exit
-    r.filled
-    output.entry
-    output.exit
-    r.written
+abbrev pub PlaysPiece : ℕ → LentCard → LentCard → List ℕ → List ℕ → ℕ → List ℕ → List ℕ → Piece → Type 0
+PlaysPiece records old new buffer left filled before to r =
+    PieceIs (play_filled records old buffer filled before) r.stop r.records (lent_card new) left r.filled before to r.written
 
-abbrev pub Progresses : ℕ → Info → Lent → Lent → Lent → Lent → Lent → Lent → Lent → Lent → ℕ → Lent → Progress → Type 0
-Progresses records info flags keys counts pointers multiplicities windows contents buffer filled output r =
-    ProgressIs (play_filled records info flags keys counts pointers multiplicities windows contents buffer filled output)
-    r.stop
-    r.records
-    (at_exit r.info flags keys counts pointers multiplicities windows contents)
-    buffer.exit
-    r.filled
-    output.entry
-    output.exit
-    r.wrote
-    r.on
+abbrev pub Progresses : ℕ → LentCard → LentCard → List ℕ → List ℕ → ℕ → List ℕ → List ℕ → Progress → Type 0
+Progresses records old new buffer left filled before to r =
+    ProgressIs (play_filled records old buffer filled before) r.stop r.records (lent_card new) left r.filled before to r.wrote r.on

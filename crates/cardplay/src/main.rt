@@ -3,17 +3,16 @@
 #![tactic(auto)]
 
 ghost use Rattle.std.specs.Prelude.{◌-◌, ◌≤◌, ◌<◌, true, ◌≡◌, length, take, drop};
-ghost use Rattle.card.specs.Lent.{lent, at_entry, changed};
-ghost use Rattle.card.specs.Calls.{fresh_info};
-ghost use Rattle.card.specs.Trials.{blank_card, player_card};
+ghost use Rattle.card.specs.Lent.{SameTables, lent_card};
+ghost use Rattle.card.specs.Trials.{player_card};
 ghost use Rattle.lines.specs.Lines.{line_room, last_line};
 ghost use Rattle.lines.specs.Written.{Written};
 ghost use Rattle.input.specs.Play.{end_number};
 ghost use Rattle.cardplay.specs.InputBuffer.{record_room, GrownIs};
 ghost use Rattle.cardplay.specs.Progress.{is_full, needs_input, ReadIs, PlaysPiece, Progresses};
-ghost use Rattle.cardplay.specs.Pieces.{PlaysInPieces};
+ghost use Rattle.cardplay.specs.Pieces.{BlankTables, PlaysInPieces};
 
-use card::Info;
+use card::LentCard;
 use input::Stop;
 use std::io::{Read, Write};
 
@@ -23,13 +22,8 @@ fn keep(buffer: &mut [u8], from: usize, filled: usize) -> usize
     requires fact_2 { filled ≤ length buffer.old }
     ensures { Written buffer.old 0 (take (filled - from) (drop from buffer.old)) buffer.new result }
 {
-    let most = filled - from;
-    let mut i = 0;
-    while i < most {
-        buffer[i] = buffer[from + i];
-        i += 1;
-    }
-    i
+    buffer.copy_within(from..filled, 0);
+    filled - from
 }
 
 // Reads once into the buffer behind its filled part. Returns where that part then ends: where it did at the end of the input,
@@ -50,7 +44,6 @@ fn fill(from: &mut impl Read, buffer: &mut [u8], filled: usize) -> usize
 #[derive(Clone, Copy)]
 struct Piece {
     stop: Stop,
-    info: Info,
     records: u64,
     // How many bytes are left.
     filled: usize,
@@ -60,42 +53,21 @@ struct Piece {
 
 // Plays the filled part of the buffer, and moves what is left of it to the front.
 fn play_some(
-    info: Info,
-    flags: &mut [u8],
-    keys: &mut [u64],
-    counts: &mut [u32],
-    pointers: &mut [u32],
-    multiplicities: &mut [u16],
-    windows: &mut [u64],
-    contents: &mut [u8],
+    card: &mut LentCard,
     records: u64,
     buffer: &mut [u8],
     filled: usize,
     output: &mut [u8],
 ) -> Piece
-    requires fact_1 { records < 9223372036854775808 }
-    requires fact_2 { filled ≤ length buffer.old }
-    ensures { PlaysPiece records info (changed flags.old flags.new) (changed keys.old keys.new) (changed counts.old counts.new) (changed pointers.old pointers.new) (changed multiplicities.old multiplicities.new) (changed windows.old windows.new) (changed contents.old contents.new) (changed buffer.old buffer.new) filled (changed output.old output.new) result }
+    requires few_records { records < 9223372036854775808 }
+    requires in_buffer { filled ≤ length buffer.old }
+    ensures same { SameTables card.old card.new }
+    ensures plays { PlaysPiece records card.old card.new buffer.old buffer.new filled output.old output.new result }
 {
-    let part = player::play(
-        info,
-        flags,
-        keys,
-        counts,
-        pointers,
-        multiplicities,
-        windows,
-        contents,
-        records,
-        &buffer[..filled],
-        output,
-    );
+    let part = player::play(card, records, &buffer[..filled], output);
     let left = keep(buffer, part.read, filled);
-    let stop = part.stop;
-    let after = part.info;
     Piece {
-        stop,
-        info: after,
+        stop: part.stop,
         records: part.records,
         filled: left,
         written: part.written,
@@ -106,26 +78,14 @@ fn play_some(
 fn is_full(stop: Stop) -> bool
     ensures { result ≡ is_full stop }
 {
-    match stop {
-        Stop::Full => true,
-        Stop::Went => false,
-        Stop::Ended => false,
-        Stop::Short => false,
-        Stop::Refused => false,
-    }
+    matches!(stop, Stop::Full)
 }
 
 // The play stopped for want of input.
 fn needs_input(stop: Stop) -> bool
     ensures { result ≡ needs_input stop }
 {
-    match stop {
-        Stop::Ended => true,
-        Stop::Short => true,
-        Stop::Went => false,
-        Stop::Refused => false,
-        Stop::Full => false,
-    }
+    matches!(stop, Stop::Ended | Stop::Short)
 }
 
 // Reads on if asked to.
@@ -146,7 +106,6 @@ fn read_on(from: &mut impl Read, wanted: bool, buffer: &mut [u8], filled: usize)
 #[derive(Clone, Copy)]
 struct Progress {
     stop: Stop,
-    info: Info,
     records: u64,
     filled: usize,
     // The lines could be written.
@@ -159,48 +118,27 @@ struct Progress {
 fn play_on(
     from: &mut impl Read,
     to: &mut impl Write,
-    info: Info,
-    flags: &mut [u8],
-    keys: &mut [u64],
-    counts: &mut [u32],
-    pointers: &mut [u32],
-    multiplicities: &mut [u16],
-    windows: &mut [u64],
-    contents: &mut [u8],
+    card: &mut LentCard,
     records: u64,
     buffer: &mut [u8],
     filled: usize,
     output: &mut [u8],
 ) -> Progress
-    requires fact_1 { records < 9223372036854775808 }
-    requires fact_2 { filled ≤ length buffer.old }
-    requires fact_3 { record_room ≤ length buffer.old }
-    ensures { Progresses records info (changed flags.old flags.new) (changed keys.old keys.new) (changed counts.old counts.new) (changed pointers.old pointers.new) (changed multiplicities.old multiplicities.new) (changed windows.old windows.new) (changed contents.old contents.new) (changed buffer.old buffer.new) filled (changed output.old output.new) result }
+    requires few_records { records < 9223372036854775808 }
+    requires in_buffer { filled ≤ length buffer.old }
+    requires has_room { record_room ≤ length buffer.old }
+    ensures same { SameTables card.old card.new }
+    ensures progresses { Progresses records card.old card.new buffer.old buffer.new filled output.old output.new result }
 {
-    let played = play_some(
-        info,
-        flags,
-        keys,
-        counts,
-        pointers,
-        multiplicities,
-        windows,
-        contents,
-        records,
-        buffer,
-        filled,
-        output,
-    );
+    let played = play_some(card, records, buffer, filled, output);
     let stop = played.stop;
     let left = played.filled;
     let written = played.written;
     let wrote = to.write_all(&output[..written]).is_ok();
     let end = read_on(from, wrote & needs_input(stop), buffer, left);
     let on = wrote & (is_full(stop) | (left < end));
-    let after = played.info;
     Progress {
         stop,
-        info: after,
         records: played.records,
         filled: end,
         wrote,
@@ -210,109 +148,53 @@ fn play_on(
 
 // Plays what is read to its end, and writes the lines. A proved loop has to end, and nothing says that an input does:
 // so this one also ends after 2^64 - 1 turns or 2^63 records, which no run reaches.
-fn play_all(
-    from: &mut impl Read,
-    to: &mut impl Write,
-    info: Info,
-    flags: &mut [u8],
-    keys: &mut [u64],
-    counts: &mut [u32],
-    pointers: &mut [u32],
-    multiplicities: &mut [u16],
-    windows: &mut [u64],
-    contents: &mut [u8],
-) -> Progress
-    ensures { PlaysInPieces (at_entry info (changed flags.old flags.new) (changed keys.old keys.new) (changed counts.old counts.new) (changed pointers.old pointers.new) (changed multiplicities.old multiplicities.new) (changed windows.old windows.new) (changed contents.old contents.new)) (changed flags.old flags.new) (changed keys.old keys.new) (changed counts.old counts.new) (changed pointers.old pointers.new) (changed multiplicities.old multiplicities.new) (changed windows.old windows.new) (changed contents.old contents.new) result }
+fn play_all(from: &mut impl Read, to: &mut impl Write, card: &mut LentCard) -> Progress
+    ensures same { SameTables card.old card.new }
+    ensures plays { PlaysInPieces (lent_card card.old) (lent_card card.new) result }
 {
     let mut buffer = [0u8; 65536];
     let mut output = [0u8; 65536];
     let mut progress = Progress {
         stop: Stop::Ended,
-        info,
         records: 0,
         filled: 0,
         wrote: true,
         on: true,
     };
-    let mut turns = u64::MAX;
-    while progress.on & (turns > 0) & (progress.records < 9223372036854775808) {
-        let left = progress.info;
+    for _turn in 0..u64::MAX {
+        if !progress.on | (9223372036854775808 <= progress.records) {
+            break;
+        }
         progress = play_on(
             from,
             to,
-            left,
-            flags,
-            keys,
-            counts,
-            pointers,
-            multiplicities,
-            windows,
-            contents,
+            card,
             progress.records,
             &mut buffer,
             progress.filled,
             &mut output,
         );
-        turns -= 1;
     }
     progress
 }
 
-// Formats a card of N 16, R 1 and B 512 on the lent tables, and plays what is read on it.
-// The tables have to be blank and of the card's lengths; what record they had before FORMAT does not matter.
-fn play_fresh(
-    from: &mut impl Read,
-    to: &mut impl Write,
-    flags: &mut [u8],
-    keys: &mut [u64],
-    counts: &mut [u32],
-    pointers: &mut [u32],
-    multiplicities: &mut [u16],
-    windows: &mut [u64],
-    contents: &mut [u8],
-) -> Progress
-    requires { lent (fresh_info 16 1 512) flags.old keys.old counts.old pointers.old multiplicities.old windows.old contents.old ≡ blank_card }
-    ensures { PlaysInPieces player_card (changed flags.old flags.new) (changed keys.old keys.new) (changed counts.old counts.new) (changed pointers.old pointers.new) (changed multiplicities.old multiplicities.new) (changed windows.old windows.new) (changed contents.old contents.new) result }
+// Formats a card of N 16, R 1 and B 512 on blank tables, and plays what is read on it.
+// What record it had before FORMAT does not matter.
+fn play_fresh(from: &mut impl Read, to: &mut impl Write, card: &mut LentCard) -> Progress
+    requires { BlankTables (lent_card card.old) }
+    ensures same { SameTables card.old card.new }
+    ensures plays { PlaysInPieces player_card (lent_card card.new) result }
 {
-    let formatted = format::format(
-        tables::fresh(0, 0, 0),
-        16,
-        1,
-        512,
-        flags,
-        keys,
-        counts,
-        pointers,
-        multiplicities,
-        windows,
-        contents,
-    );
-    let fresh = formatted.info;
-    play_all(
-        from,
-        to,
-        fresh,
-        flags,
-        keys,
-        counts,
-        pointers,
-        multiplicities,
-        windows,
-        contents,
-    )
+    // It is not refused: the tables have these lengths.
+    let _ = format::format(card, 16, 1, 512);
+    play_all(from, to, card)
 }
 
 // The number of the last line.
 fn end_number(stop: Stop) -> u64
     ensures { result ≡ end_number stop }
 {
-    match stop {
-        Stop::Ended => 0,
-        Stop::Went => 13,
-        Stop::Short => 13,
-        Stop::Refused => 13,
-        Stop::Full => 13,
-    }
+    if matches!(stop, Stop::Ended) { 0 } else { 13 }
 }
 
 // Puts the last line at a buffer's front. Returns how long it is.
@@ -342,16 +224,16 @@ fn main(rt: HostRuntime) {
     let mut multiplicities = [0u16; 32];
     let mut windows = [0u64; 32];
     let mut contents = [0u8; 8192];
-    let end = play_fresh(
-        &mut rt.stdin(),
-        &mut to,
-        &mut flags,
-        &mut keys,
-        &mut counts,
-        &mut pointers,
-        &mut multiplicities,
-        &mut windows,
-        &mut contents,
-    );
+    let mut card = LentCard {
+        info: tables::fresh(0, 0, 0),
+        flags: &mut flags,
+        keys: &mut keys,
+        counts: &mut counts,
+        pointers: &mut pointers,
+        multiplicities: &mut multiplicities,
+        windows: &mut windows,
+        contents: &mut contents,
+    };
+    let end = play_fresh(&mut rt.stdin(), &mut to, &mut card);
     write_end(&mut to, end);
 }

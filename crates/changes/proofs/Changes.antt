@@ -1,12 +1,13 @@
 -- What the functions that change tables leave, as changes of the card, over plain values.
-use Prim.Native.Nat.{ℕ, ◌+◌, ◌-◌, ◌*◌, ◌≤◌, ◌<◌}
-use mathlib.Core.Path.{◌≡◌, sym, ◌∙◌}
+use Prim.Native.Nat.{ℕ, zero, suc, ◌+◌, ◌-◌, ◌*◌, ◌≤◌, ◌<◌}
+use mathlib.Core.Path.{◌≡◌, refl, sym, ap, ◌∙◌}
 use mathlib.Core.Bool.{true, false}
-use mathlib.Core.List.{List}
+use mathlib.Core.List.{List, [], ◌∷◌, ◌++◌}
 use native.Mathlib.Omega.{arith}
 use borrow.Author.Tests.{eq-eqb, ne_eqb}
 use lib.Dec.{eqb}
-use lib.ListN.{length, take, get_or, set}
+use lib.ListN.{length, take, drop, get_or, set, replicate, length-take, length-drop}
+use Rattle.card.specs.Contents.{zeros}
 use Rattle.card.specs.Pointers.{pointer, contains, beside}
 use Rattle.card.specs.Card.{card, multiplicity, highest_multiplicity}
 use Rattle.card.specs.Plan.{free_block, freed_flags, with_used, clear_keys, change_public, change_keys, change_contents, change}
@@ -86,8 +87,43 @@ module _ {pointers multiplicities : List ℕ} {used w at : ℕ} (place : at ≡ 
 
 -- ---- freeing
 
-pub freed : (flags keys windows : List ℕ) (b : ℕ) {left : List ℕ} → left ≡ clear_keys keys b → (info : Info) (counts pointers multiplicities contents : List ℕ)
-    → card info (set flags b freed_flags) left counts pointers multiplicities (set (set windows (2 * b) 0) (2 * b + 1) 0) contents
+-- Two words in a row, and four, become 0.
+two_cleared : (at : ℕ) (xs : List ℕ) → at + 2 ≤ length xs → take at xs ++ (replicate 2 0 ++ drop 2 (drop at xs)) ≡ set (set xs at 0) (suc at) 0
+two_cleared at [] l = absurd (omega arith)
+two_cleared zero (x ∷ []) l = absurd (omega arith)
+two_cleared zero (x ∷ (y ∷ xs)) l = refl
+two_cleared (suc at) (x ∷ xs) l = ap (λ (t : List ℕ). x ∷ t) (two_cleared at xs (omega arith))
+
+four_cleared : (at : ℕ) (xs : List ℕ) → at + 4 ≤ length xs
+    → take at xs ++ (replicate 4 0 ++ drop 4 (drop at xs)) ≡ set (set (set (set xs at 0) (suc at) 0) (suc (suc at)) 0) (suc (suc (suc at))) 0
+four_cleared at [] l = absurd (omega arith)
+four_cleared zero (x ∷ []) l = absurd (omega arith)
+four_cleared zero (x ∷ (y ∷ [])) l = absurd (omega arith)
+four_cleared zero (x ∷ (y ∷ (z ∷ []))) l = absurd (omega arith)
+four_cleared zero (x ∷ (y ∷ (z ∷ (w ∷ xs)))) l = refl
+four_cleared (suc at) (x ∷ xs) l = ap (λ (t : List ℕ). x ∷ t) (four_cleared at xs (omega arith))
+
+pub keys_cleared : (b : ℕ) (keys : List ℕ) {words : List ℕ} → 4 * b + 4 ≤ length keys
+    → (let at = 4 * b in let size = (at + 4) - at in words ≡ zeros (length (take size (drop at keys))) → take at keys ++ (words ++ drop size (drop at keys)) ≡ clear_keys keys b)
+keys_cleared b keys l e =
+    let size : (4 * b + 4) - 4 * b ≡ 4 = omega arith in
+    let long : length (take 4 (drop (4 * b) keys)) ≡ 4 = simp (length-take, length-drop) (omega arith) in
+    let second : 4 * b + 1 ≡ suc (4 * b) = omega arith in
+    let third : 4 * b + 2 ≡ suc (suc (4 * b)) = omega arith in
+    let fourth : 4 * b + 2 + 1 ≡ suc (suc (suc (4 * b))) = omega arith in
+    rw (e, size, long, fourth, third, second) (four_cleared (4 * b) keys l)
+
+pub windows_cleared : (b : ℕ) (windows : List ℕ) {words : List ℕ} → 2 * b + 2 ≤ length windows
+    → (let at = 2 * b in let size = (at + 2) - at in words ≡ zeros (length (take size (drop at windows))) → take at windows ++ (words ++ drop size (drop at windows)) ≡ set (set windows (2 * b) 0) (2 * b + 1) 0)
+windows_cleared b windows l e =
+    let size : (2 * b + 2) - 2 * b ≡ 2 = omega arith in
+    let long : length (take 2 (drop (2 * b) windows)) ≡ 2 = simp (length-take, length-drop) (omega arith) in
+    let second : 2 * b + 1 ≡ suc (2 * b) = omega arith in
+    rw (e, size, long, second) (two_cleared (2 * b) windows l)
+
+pub freed : (flags keys windows : List ℕ) (b : ℕ) {left ends : List ℕ} → left ≡ clear_keys keys b → ends ≡ set (set windows (2 * b) 0) (2 * b + 1) 0
+    → (info : Info) (counts pointers multiplicities contents : List ℕ)
+    → card info (set flags b freed_flags) left counts pointers multiplicities ends contents
     ≡ change (card info flags keys counts pointers multiplicities windows contents) (free_block b)
 unfolding change change_public change_keys change_contents
-freed flags keys windows b e info counts pointers multiplicities contents = rw e
+freed flags keys windows b e f info counts pointers multiplicities contents = rw (e, f)

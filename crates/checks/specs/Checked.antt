@@ -1,16 +1,18 @@
 -- What the checks of a call find.
-use Rattle.std.proofs.Math.Option.{Option, none, some}
+use Rattle.std.specs.Prelude.{⊤, Option, None, Some, Result, Ok, Err}
 use Rattle.card.specs.Card.{Card}
 use Rattle.card.specs.Plan.{first, FirstHolds, NoneHolds}
 use Rattle.card.specs.Session.{Request, plan}
 use Rattle.card.specs.declared.Port.{Port}
 use Rattle.card.specs.declared.Refusal.{Refusal}
-use Rattle.checks.specs.declared.Checked.{Checked}
-use Rattle.checks.specs.declared.Checked.TheVariants.{Passed, Refused}
+
+-- No condition holds, or the refusal of the first that does.
+abbrev pub Checked : Type 0
+Checked = Result ⊤ Refusal
 
 unfoldable pub by_refusal : Option Refusal → Checked
-by_refusal none = Passed
-by_refusal (some r) = Refused r
+by_refusal None = Ok tt
+by_refusal (Some r) = Err r
 
 -- The call's own checks, on a card that has been audited.
 unfoldable pub checked : Port → Card → Request → Checked

@@ -1,12 +1,2 @@
-// What the checks of a call find on an audited card.
+// What the checks of a call find on an audited card: the rule in specs/. There is no code here: the calls check by this rule.
 #![tactic(auto)]
-
-use card::Refusal;
-
-// No condition holds, or the refusal of the first that does.
-#[derive(Drop)]
-#[derive(Clone, Copy)]
-pub enum Checked {
-    Passed,
-    Refused(Refusal),
-}

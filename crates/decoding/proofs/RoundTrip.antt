@@ -1,9 +1,8 @@
 -- Decoding an encoded call, whatever follows it, gives the call, its port, its data and what follows.
-use Rattle.std.specs.Prelude.{ℕ, ◌+◌, ◌-◌, ◌≤◌, ◌≡◌, Bool, true, false, cond, List, [], ◌∷◌, ◌++◌, eqb, drop, get_or, replicate}
+use Rattle.std.specs.Prelude.{ℕ, ◌+◌, ◌-◌, ◌≤◌, ◌≡◌, Bool, true, false, cond, List, [], ◌∷◌, ◌++◌, eqb, drop, get_or, replicate, Option, None, Some, Ok}
 use Rattle.std.proofs.Math.Path.{refl, subst}
 use Rattle.std.proofs.Common.{sym, ap, ◌∙◌, append_assoc, arith, length-append, get_or-drop, drop-drop, drop_at}
 use Rattle.std.proofs.lemmas.Bool.{false≢true}
-use Rattle.std.proofs.Math.Option.{Option, none, some}
 use Rattle.std.proofs.Math.ListN.{length}
 use Rattle.std.proofs.Math.Seq.{take_at}
 use Rattle.card.specs.Pointers.{contains}
@@ -15,8 +14,6 @@ use Rattle.card.specs.declared.Mode.{Mode}
 use Rattle.card.specs.declared.Mode.TheVariants.{Reading, Writing}
 use Rattle.card.specs.declared.Credential.{Credential}
 use Rattle.card.specs.declared.Credential.TheVariants.{Nothing, Reference, Key as KeyCredential}
-use Rattle.card.specs.declared.NewKey.{NewKey}
-use Rattle.card.specs.declared.NewKey.TheVariants.{Absent, Present}
 use Rattle.card.specs.declared.AllocOperands.{AllocOperands}
 use Rattle.card.specs.declared.DeleteOperands.{DeleteOperands}
 use Rattle.card.specs.declared.KeyOperands.{KeyOperands}
@@ -27,16 +24,11 @@ use Rattle.fields.specs.BytesLaws.{length_bytes, number_bytes}
 use Rattle.kinds.specs.Kinds.{row, names, kind_number, length_of, data_length, operands_length, takes, has_kind, among, kind_of}
 use Rattle.kinds.proofs.KindsLaws.{parts}
 use Rattle.fields.specs.Fields.{credential, new_key}
-use Rattle.decoding.specs.Decode.{with_credential, create_with, key_with, renew_with, decode_key, decode_call, name_of, operands_of, data_of, sent, next_of, decode}
+use Rattle.decoding.specs.Decode.{call_of, decode_key, decode_call, name_of, operands_of, data_of, sent, next_of, decode, with_credential, create_operands, key_operands, renew_operands}
 use Rattle.decoding.proofs.DecodeLaws as laws
 use Rattle.decoding.specs.Encode.{credential_bytes, new_key_bytes, alloc_body, delete_body, key_body, body, behind_kind, encode, Fits, FitsCredential, FitsNewKey, FitsAlloc, FitsDelete, FitsKey, FitsCall}
 use Rattle.kinds.specs.declared.Name.{Name}
 use Rattle.kinds.specs.declared.Name.TheVariants.{Read as READ, Write as WRITE, Alloc as ALLOC, Create as CREATE, Delete as DELETE, KeyRead as KEY-READ, Renew as RENEW, Force as FORCE, Free as FREE, Tick as TICK, Audit as AUDIT, AllocContig as ALLOC-CONTIG, KeyWrite as KEY-WRITE, DeleteTree as DELETE-TREE}
-use Rattle.kinds.specs.declared.Kind.{Kind}
-use Rattle.kinds.specs.declared.Kind.TheVariants.{Known, Unknown}
-use Rattle.fields.specs.declared.ParsedCredential.TheVariants.{Valid as ValidCredential}
-use Rattle.fields.specs.declared.ParsedKey.TheVariants.{Valid as ValidKey}
-use Rattle.decoding.specs.declared.Decoding.TheVariants.{Decoded}
 
 -- ---- a list that is n elements, then others
 
@@ -67,28 +59,28 @@ length_credential (KeyCredential high low) = refl
 then_credential : (c : Credential) (ys : List ℕ) → Then 17 (credential_bytes c ++ ys) ys
 then_credential c ys = then_list 17 (credential_bytes c) ys (length_credential c)
 
-credential_back : (c : Credential) (ys : List ℕ) → FitsCredential c → credential (credential_bytes c ++ ys) ≡ ValidCredential c
+credential_back : (c : Credential) (ys : List ℕ) → FitsCredential c → credential (credential_bytes c ++ ys) ≡ Ok c
 unfolding credential credential_bytes FitsCredential bytes zeroed
 credential_back Nothing ys h = refl
-credential_back (Reference r) ys h = ap (λ n. ValidCredential (Reference n)) (number_bytes 2 r (replicate 14 0 ++ ys) h)
+credential_back (Reference r) ys h = ap (λ n. Ok (Reference n)) (number_bytes 2 r (replicate 14 0 ++ ys) h)
 credential_back (KeyCredential high low) ys h =
-    ap (λ n. ValidCredential (KeyCredential n (number 8 (bytes 8 low ++ ys)))) (number_bytes 8 high (bytes 8 low ++ ys) h.0)
-    ∙ ap (λ n. ValidCredential (KeyCredential high n)) (number_bytes 8 low ys h.1)
+    ap (λ n. Ok (KeyCredential n (number 8 (bytes 8 low ++ ys)))) (number_bytes 8 high (bytes 8 low ++ ys) h.0)
+    ∙ ap (λ n. Ok (KeyCredential high n)) (number_bytes 8 low ys h.1)
 
-length_new_key : (k : NewKey) → length (new_key_bytes k) ≡ 17
+length_new_key : (k : Option (ℕ × ℕ)) → length (new_key_bytes k) ≡ 17
 unfolding new_key_bytes bytes
-length_new_key Absent = refl
-length_new_key (Present high low) = refl
+length_new_key None = refl
+length_new_key (Some (high, low)) = refl
 
-then_new_key : (k : NewKey) (ys : List ℕ) → Then 17 (new_key_bytes k ++ ys) ys
+then_new_key : (k : Option (ℕ × ℕ)) (ys : List ℕ) → Then 17 (new_key_bytes k ++ ys) ys
 then_new_key k ys = then_list 17 (new_key_bytes k) ys (length_new_key k)
 
-new_key_back : (k : NewKey) (ys : List ℕ) → FitsNewKey k → new_key (new_key_bytes k ++ ys) ≡ ValidKey k
+new_key_back : (k : Option (ℕ × ℕ)) (ys : List ℕ) → FitsNewKey k → new_key (new_key_bytes k ++ ys) ≡ Ok k
 unfolding new_key new_key_bytes FitsNewKey bytes zeroed
-new_key_back Absent ys h = refl
-new_key_back (Present high low) ys h =
-    ap (λ n. ValidKey (Present n (number 8 (bytes 8 low ++ ys)))) (number_bytes 8 high (bytes 8 low ++ ys) h.0)
-    ∙ ap (λ n. ValidKey (Present high n)) (number_bytes 8 low ys h.1)
+new_key_back None ys h = refl
+new_key_back (Some (high, low)) ys h =
+    ap (λ n. Ok (Some (n, number 8 (bytes 8 low ++ ys)))) (number_bytes 8 high (bytes 8 low ++ ys) h.0)
+    ∙ ap (λ n. Ok (Some (high, n))) (number_bytes 8 low ys h.1)
 
 -- ---- where each part of a body starts
 
@@ -134,7 +126,7 @@ behind (Sweep o) ys = record { skip = refl; long = omega arith }
 -- The operands of ALLOC and of ALLOC_CONTIG: what follows of their parts follows of their bytes.
 by_parts : {A : Type 0} (o : AllocOperands) (ys : List ℕ) → FitsAlloc o
     → (o.reference ≡ number 2 (alloc_body o ys)
-    → ValidCredential o.credential ≡ credential (drop 2 (alloc_body o ys))
+    → Ok o.credential ≡ credential (drop 2 (alloc_body o ys))
     → o.hint ≡ number 2 (drop 19 (alloc_body o ys))
     → o.count ≡ get_or (alloc_body o ys) 21 0
     → A)
@@ -150,7 +142,7 @@ by_parts o ys h law =
 -- The same of DELETE and DELETE_TREE.
 by_ends : {A : Type 0} (o : DeleteOperands) (ys : List ℕ) → FitsDelete o
     → (o.source ≡ number 2 (delete_body o ys)
-    → ValidCredential o.credential ≡ credential (drop 2 (delete_body o ys))
+    → Ok o.credential ≡ credential (drop 2 (delete_body o ys))
     → o.destination ≡ number 2 (drop 19 (delete_body o ys))
     → A)
     → A
@@ -161,8 +153,8 @@ by_ends o ys h law =
     (sym (at (number 2) (opened o.source o.credential _) (number_bytes 2 o.destination ys h.1.1)))
 
 -- KEY_READ and KEY_WRITE.
-decoded_key : (port : Port) (mode : Mode) (o : KeyOperands) (ys : List ℕ) → FitsKey o → Decoded port (key_call mode o) ≡ decode_key port mode (key_body o ys)
-unfolding key_with
+decoded_key : (port : Port) (mode : Mode) (o : KeyOperands) (ys : List ℕ) → FitsKey o → Ok (port, key_call mode o) ≡ decode_key port mode (key_body o ys)
+unfolding call_of key_operands
 decoded_key port mode o ys h =
     laws.key port _ mode
     (sym (number_bytes 2 o.block _ h.0))
@@ -171,11 +163,11 @@ decoded_key port mode o ys h =
 
 -- The bytes are a body of the call, if it has a name.
 abbrev DecodedBy : Port → Call → List ℕ → Option Name → Type 0
-DecodedBy port call xs none = Unit {0}
-DecodedBy port call xs (some name) = Decoded port call ≡ decode_call port name xs
+DecodedBy port call xs None = Unit {0}
+DecodedBy port call xs (Some name) = Ok (port, call) ≡ decode_call port name xs
 
 decoded : (port : Port) (call : Call) (ys : List ℕ) → FitsCall call → DecodedBy port call (body call ys) (name_of call)
-unfolding FitsCall name_of body with_credential create_with renew_with
+unfolding FitsCall name_of body call_of with_credential create_operands renew_operands
 decoded port (Read o) ys h =
     laws.read port _
     (sym (number_bytes 2 o.block _ h.0))
@@ -219,17 +211,17 @@ decoded port (Sweep o) ys h = tt
 -- ---- a record
 
 -- A call that is found among those of a port is found whatever other answer there is.
-among_found : (kind : ℕ) (at : Port) (ns : List Name) (other : Kind) {port : Port} {name : Name} → among kind at ns Unknown ≡ Known port name → among kind at ns other ≡ Known port name
+among_found : (kind : ℕ) (at : Port) (ns : List Name) (other : Option (Port × Name)) {port : Port} {name : Name} → among kind at ns None ≡ Some (port, name) → among kind at ns other ≡ Some (port, name)
 unfolding among
 among_found kind at [] other e = let z : ◌≡◌ {A = ℕ} 0 1 = cc in absurd (omega arith)
 among_found kind at (n ∷ ns) other {port} {name} e = go (eqb kind (kind_number at n)) (among_found kind at ns other) e
   where
-    go : (t : Bool) → (among kind at ns Unknown ≡ Known port name → among kind at ns other ≡ Known port name)
-        → cond t (Known at n) (among kind at ns Unknown) ≡ Known port name → cond t (Known at n) (among kind at ns other) ≡ Known port name
+    go : (t : Bool) → (among kind at ns None ≡ Some (port, name) → among kind at ns other ≡ Some (port, name))
+        → cond t (Some (at, n)) (among kind at ns None) ≡ Some (port, name) → cond t (Some (at, n)) (among kind at ns other) ≡ Some (port, name)
     go true rest h = h
     go false rest h = rest h
 
-host_kind : (name : Name) → kind_of Host (kind_number Host name) ≡ Known Host name
+host_kind : (name : Name) → kind_of Host (kind_number Host name) ≡ Some (Host, name)
 unfolding kind_of among names kind_number row
 host_kind READ = refl
 host_kind WRITE = refl
@@ -246,7 +238,7 @@ host_kind ALLOC-CONTIG = refl
 host_kind KEY-WRITE = refl
 host_kind DELETE-TREE = refl
 
-service_kind : (name : Name) → has_kind Service name ≡ true → kind_of Service (kind_number Service name) ≡ Known Service name
+service_kind : (name : Name) → has_kind Service name ≡ true → kind_of Service (kind_number Service name) ≡ Some (Service, name)
 unfolding has_kind contains any kind_of among names kind_number row
 service_kind READ e = refl
 service_kind WRITE e = refl
@@ -263,7 +255,7 @@ service_kind ALLOC-CONTIG e = refl
 service_kind KEY-WRITE e = refl
 service_kind DELETE-TREE e = refl
 
-known_kind : (wire port : Port) → takes wire port ≡ true → (name : Name) → has_kind port name ≡ true → kind_of wire (kind_number port name) ≡ Known port name
+known_kind : (wire port : Port) → takes wire port ≡ true → (name : Name) → has_kind port name ≡ true → kind_of wire (kind_number port name) ≡ Some (port, name)
 unfolding takes kind_of
 known_kind Host Host t name e = host_kind name
 known_kind Host Service t name e = absurd (false≢true t)
@@ -294,7 +286,7 @@ module _
     (taken : takes wire port ≡ true)
     (call : Call)
     (name : Name)
-    (named : name_of call ≡ some name)
+    (named : name_of call ≡ Some name)
     (payload rest : List ℕ)
     (has : has_kind port name ≡ true)
     (fits : FitsCall call)

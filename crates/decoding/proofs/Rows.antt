@@ -1,5 +1,6 @@
 -- `kinds_decoded`, `rent_uncarried` and `sweep_uncarried` as tests, and a row for each mistake in the rules of records that a must-fail edit makes: true by
 -- the theorem, and false with the mistake.
+use Rattle.std.specs.Prelude.{Option, Some, None}
 use Prim.Native.Nat.{ℕ, ◌<◌}
 use mathlib.Core.Path.{◌≡◌, refl, ap, ◌∙◌}
 use mathlib.Core.Bool.{Bool, true, false, not, ◌&&◌}
@@ -22,38 +23,36 @@ use Rattle.fields.specs.Bytes.{number, zeroed}
 use Rattle.fields.specs.Fields.{credential}
 use Rattle.kinds.specs.Kinds.{row, names, kind_number, length_of, data_length, operands_length, among, kind_of}
 use Rattle.kinds.specs.AllKinds.{expected}
-use Rattle.kinds.specs.declared.Length.{Length}
-use Rattle.kinds.specs.declared.Length.TheVariants.{Bytes, Unknown}
-use Rattle.decoding.specs.Decode.{Next, ended, refused, sent, with_credential, decode_call, decode_known, decode_body, name_of, data_of, next_of, decode}
+use Rattle.decoding.specs.Decode.{Next, ended, refused, sent, call_of, decode_call, decode_known, decode_body, name_of, data_of, next_of, decode, with_credential}
 use Rattle.decoding.specs.Statements.{Leaves, is_call, DecodedBy, KindsDecoded, RentUncarried, SweepUncarried}
 
 -- What is found leaves just the bytes behind a body that is whole, or is refused.
-abbrev fits : Length → List ℕ → Next → Bool
+abbrev fits : Option ℕ → List ℕ → Next → Bool
 fits l xs ended = true
 fits l xs refused = true
-fits Unknown xs (sent port call payload rest) = false
-fits (Bytes n) xs (sent port call payload rest) = not (ltb (length xs) n) && same_list rest (drop n xs)
+fits None xs (sent port call payload rest) = false
+fits (Some n) xs (sent port call payload rest) = not (ltb (length xs) n) && same_list rest (drop n xs)
 
 -- A body of zeros is taken.
-abbrev taken : Length → (List ℕ → Next) → Bool
-taken Unknown next = true
-taken (Bytes n) next = is_call (next (replicate n 0))
+abbrev taken : Option ℕ → (List ℕ → Next) → Bool
+taken None next = true
+taken (Some n) next = is_call (next (replicate n 0))
 
-abbrev decoded_test : Length → List ℕ → (List ℕ → Next) → Bool
+abbrev decoded_test : Option ℕ → List ℕ → (List ℕ → Next) → Bool
 decoded_test l xs next = fits l xs (next xs) && taken l next
 
 abbrev pub kinds_decoded_test : Port → ℕ → List ℕ → Bool
-kinds_decoded_test wire kind xs = implies (ltb kind 256) (decoded_test (get_or (expected wire) kind Unknown) xs (λ ys. decode wire (kind ∷ ys)))
+kinds_decoded_test wire kind xs = implies (ltb kind 256) (decoded_test (get_or (expected wire) kind None) xs (λ ys. decode wire (kind ∷ ys)))
 
 sent_apart : {port : Port} {call : Call} {payload rest : List ℕ} → sent port call payload rest ≡ refused → ⊥
 sent_apart e = let z : ◌≡◌ {A = ℕ} 0 1 = cc in omega arith
 
-fits_unknown : (xs : List ℕ) (next : Next) → next ≡ refused → fits Unknown xs next ≡ true
+fits_unknown : (xs : List ℕ) (next : Next) → next ≡ refused → fits None xs next ≡ true
 fits_unknown xs ended e = refl
 fits_unknown xs refused e = refl
 fits_unknown xs (sent port call payload rest) e = absurd (sent_apart e)
 
-fits_whole : (n : ℕ) (xs : List ℕ) (next : Next) → (length xs < n → next ≡ refused) → Leaves n xs next → fits (Bytes n) xs next ≡ true
+fits_whole : (n : ℕ) (xs : List ℕ) (next : Next) → (length xs < n → next ≡ refused) → Leaves n xs next → fits (Some n) xs next ≡ true
 fits_whole n xs ended short leaves = refl
 fits_whole n xs refused short leaves = refl
 fits_whole n xs (sent port call payload rest) short leaves = and_true _ _ (whole (ltb (length xs) n) refl) (true_same_list (leaves port call payload rest refl))
@@ -62,14 +61,14 @@ fits_whole n xs (sent port call payload rest) short leaves = and_true _ _ (whole
     whole true e = absurd (sent_apart (short (ltb-true _ _ e)))
     whole false e = refl
 
-decoded_tests : (l : Length) (xs : List ℕ) (next : List ℕ → Next) → DecodedBy l next → decoded_test l xs next ≡ true
-decoded_tests Unknown xs next h = and_true _ _ (fits_unknown xs (next xs) (h xs)) refl
-decoded_tests (Bytes n) xs next h = and_true _ _ (fits_whole n xs (next xs) (h.short xs) (h.leaves xs)) h.enough
+decoded_tests : (l : Option ℕ) (xs : List ℕ) (next : List ℕ → Next) → DecodedBy l next → decoded_test l xs next ≡ true
+decoded_tests None xs next h = and_true _ _ (fits_unknown xs (next xs) (h xs)) refl
+decoded_tests (Some n) xs next h = and_true _ _ (fits_whole n xs (next xs) (h.short xs) (h.leaves xs)) h.enough
 
 pub kinds_decoded_tests : KindsDecoded → (wire : Port) (kind : ℕ) (xs : List ℕ) → kinds_decoded_test wire kind xs ≡ true
 kinds_decoded_tests statement wire kind xs =
     true_implies (ltb kind 256) _
-    (λ h. decoded_tests (get_or (expected wire) kind Unknown) xs (λ ys. decode wire (kind ∷ ys)) (statement wire kind (ltb-true _ _ h)))
+    (λ h. decoded_tests (get_or (expected wire) kind None) xs (λ ys. decode wire (kind ∷ ys)) (statement wire kind (ltb-true _ _ h)))
 
 abbrev kinds_decoded_row : Port → ℕ → List ℕ → Row KindsDecoded
 kinds_decoded_row wire kind xs = record { test = kinds_decoded_test wire kind xs; follows = λ statement. kinds_decoded_tests statement wire kind xs }
@@ -179,7 +178,7 @@ sweep_uncarried_row wire xs = record { test = sweep_uncarried_test wire xs; foll
 
 -- To compute a row, its proof unfolds this one name.
 unfoldable computing : Unit {0}
-unfolding number zeroed credential same_list row names kind_number length_of data_length operands_length among kind_of with_credential decode_call decode_known decode_body name_of data_of next_of decode
+unfolding number zeroed credential same_list row names kind_number length_of data_length operands_length among kind_of call_of with_credential decode_call decode_known decode_body name_of data_of next_of decode
 computing = tt
 
 abbrev unknown_kind_taken_for_audit : Row KindsDecoded

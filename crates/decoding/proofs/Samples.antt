@@ -1,13 +1,12 @@
 -- Records in bytes, and what the rules decode them to: rows of one table, shown by one proof that is computed.
-use Rattle.std.specs.Prelude.{ℕ, ◌≡◌, refl, List, [], ◌∷◌, ◌++◌, map, replicate}
+use Rattle.std.specs.Prelude.{ℕ, ◌≡◌, refl, List, [], ◌∷◌, ◌++◌, map, replicate, Some, None}
 use Rattle.card.specs.declared.Port.TheVariants.{Host, Service}
 use Rattle.card.specs.declared.Credential.TheVariants.{Nothing, Reference, Key as KeyCredential}
-use Rattle.card.specs.declared.NewKey.TheVariants.{Absent, Present}
 use Rattle.card.specs.declared.Call.TheVariants.{Read, Alloc, AllocContig, Create, DeleteTree, KeyRead, KeyWrite, Renew, Free, Tick}
 use Rattle.fields.specs.Bytes.{number, zeroed}
 use Rattle.kinds.specs.Kinds.{row, data_length, names, kind_number, length_of, operands_length, among, kind_of}
 use Rattle.fields.specs.Fields.{credential, new_key}
-use Rattle.decoding.specs.Decode.{with_credential, create_with, key_with, renew_with, decode_call, decode_known, decode_body, name_of, data_of, Next, ended, refused, sent, next_of, decode}
+use Rattle.decoding.specs.Decode.{call_of, decode_call, decode_known, decode_body, name_of, data_of, Next, ended, refused, sent, next_of, decode, with_credential, create_operands, key_operands, renew_operands}
 
 infix 20 ◌gives◌
 -- An input, and what it starts with.
@@ -56,15 +55,15 @@ sample_table =
     ∷ (14 ∷ 1 ∷ 2 ∷ 2 ∷ (key_bytes ++ (0 ∷ [])) gives refused)
     ∷ (142 ∷ 0 ∷ 0 ∷ 0 ∷ (zeros16 ++ (0 ∷ 4 ∷ [])) gives sent Service (DeleteTree (record { source = 0; credential = Nothing; destination = 4 })) [] [])
     -- KEY_READ of 1 by nothing, and KEY_WRITE of 258 by a key and by nothing, each with a new key or none
-    ∷ (134 ∷ 0 ∷ 1 ∷ 0 ∷ (zeros16 ++ (1 ∷ key_bytes)) gives sent Service (KeyRead (record { block = 1; credential = Nothing; key = Present 1 2 })) [] [])
-    ∷ (13 ∷ 1 ∷ 2 ∷ 2 ∷ (key_bytes ++ (0 ∷ (zeros16 ++ (9 ∷ [])))) gives sent Host (KeyWrite (record { block = 258; credential = KeyCredential 1 2; key = Absent })) [] (9 ∷ []))
-    ∷ (141 ∷ 1 ∷ 2 ∷ 0 ∷ (zeros16 ++ (1 ∷ key_bytes)) gives sent Service (KeyWrite (record { block = 258; credential = Nothing; key = Present 1 2 })) [] [])
+    ∷ (134 ∷ 0 ∷ 1 ∷ 0 ∷ (zeros16 ++ (1 ∷ key_bytes)) gives sent Service (KeyRead (record { block = 1; credential = Nothing; key = Some (1, 2) })) [] [])
+    ∷ (13 ∷ 1 ∷ 2 ∷ 2 ∷ (key_bytes ++ (0 ∷ (zeros16 ++ (9 ∷ [])))) gives sent Host (KeyWrite (record { block = 258; credential = KeyCredential 1 2; key = None })) [] (9 ∷ []))
+    ∷ (141 ∷ 1 ∷ 2 ∷ 0 ∷ (zeros16 ++ (1 ∷ key_bytes)) gives sent Service (KeyWrite (record { block = 258; credential = Nothing; key = Some (1, 2) })) [] [])
     -- a new key with a wrong first byte, an absent one with filler, and one cut short
     ∷ (6 ∷ 0 ∷ 1 ∷ 0 ∷ (zeros16 ++ (2 ∷ key_bytes)) gives refused)
     ∷ (13 ∷ 0 ∷ 1 ∷ 0 ∷ (zeros16 ++ (0 ∷ key_bytes)) gives refused)
     ∷ (6 ∷ 0 ∷ 1 ∷ 0 ∷ (zeros16 ++ zeros16) gives refused)
     -- of two new keys the first alone is KEY_READ's: the 17 bytes of the second are those of the next record
-    ∷ (6 ∷ 0 ∷ 1 ∷ 0 ∷ (zeros16 ++ (0 ∷ (zeros16 ++ (1 ∷ key_bytes)))) gives sent Host (KeyRead (record { block = 1; credential = Nothing; key = Absent })) [] (1 ∷ key_bytes))
+    ∷ (6 ∷ 0 ∷ 1 ∷ 0 ∷ (zeros16 ++ (0 ∷ (zeros16 ++ (1 ∷ key_bytes)))) gives sent Host (KeyRead (record { block = 1; credential = Nothing; key = None })) [] (1 ∷ key_bytes))
     -- RENEW of 7's write window for 10 seconds; TICK 10
     ∷ (7 ∷ 1 ∷ 0 ∷ 7 ∷ (key_bytes ++ (0 ∷ 0 ∷ 0 ∷ 10 ∷ [])) gives sent Host (Renew (record { mode = 1; block = 7; high = 1; low = 2; interval = 10 })) [] [])
     ∷ (10 ∷ 0 ∷ 0 ∷ 0 ∷ 0 ∷ 0 ∷ 0 ∷ 0 ∷ 10 ∷ [] gives sent Host (Tick (record { seconds = 10 })) [] [])
@@ -72,7 +71,7 @@ sample_table =
 
 -- At the service port each input starts with just what is expected.
 pub samples : map (λ s. decode Service (input s)) sample_table ≡ map next sample_table
-unfolding sample_table number zeroed row data_length names kind_number length_of operands_length among kind_of credential new_key with_credential create_with key_with renew_with decode_call decode_known decode_body name_of data_of next_of decode
+unfolding sample_table number zeroed row data_length names kind_number length_of operands_length among kind_of credential new_key call_of with_credential create_operands key_operands renew_operands decode_call decode_known decode_body name_of data_of next_of decode
 samples = refl
 
 -- At the host port a host's records do too, and the service port's are refused.
@@ -83,5 +82,5 @@ taken (sent Host call payload rest) = sent Host call payload rest
 taken (sent Service call payload rest) = refused
 
 pub samples_of_a_host : map (λ s. decode Host (input s)) sample_table ≡ map (λ s. taken (next s)) sample_table
-unfolding sample_table number zeroed row data_length names kind_number length_of operands_length among kind_of credential new_key with_credential create_with key_with renew_with decode_call decode_known decode_body name_of data_of next_of decode
+unfolding sample_table number zeroed row data_length names kind_number length_of operands_length among kind_of credential new_key call_of with_credential create_operands key_operands renew_operands decode_call decode_known decode_body name_of data_of next_of decode
 samples_of_a_host = refl

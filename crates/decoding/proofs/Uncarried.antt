@@ -1,8 +1,8 @@
 -- Whatever bytes arrive at a port, they ask for no call without a name among records: not for RENT, nor for SWEEP.
+use Rattle.std.specs.Prelude.{None, Some}
 use Prim.Native.Nat.{ℕ}
 use mathlib.Core.Path.{◌≡◌, refl, sym, ◌∙◌}
 use mathlib.Core.List.{List, [], ◌∷◌}
-use mathlib.Core.Option.{none, some}
 use native.Mathlib.Omega.{arith}
 use Rattle.card.specs.declared.Port.{Port}
 use Rattle.card.specs.declared.Call.{Call}
@@ -12,10 +12,10 @@ use Rattle.decoding.specs.Decode.{sent, name_of, decode}
 use Rattle.decoding.proofs.DecodeLaws.{sent_kind}
 use Rattle.decoding.specs.Statements.{RentUncarried, SweepUncarried}
 
-nameless : {name : Name} → some name ≡ none → ⊥
+nameless : {name : Name} → Some name ≡ None → ⊥
 nameless e = let z : ◌≡◌ {A = ℕ} 0 1 = cc in omega arith
 
-uncarried : (wire : Port) (xs : List ℕ) (call : Call) → name_of call ≡ none → {port : Port} {payload rest : List ℕ} → decode wire xs ≡ sent port call payload rest → ⊥
+uncarried : (wire : Port) (xs : List ℕ) (call : Call) → name_of call ≡ None → {port : Port} {payload rest : List ℕ} → decode wire xs ≡ sent port call payload rest → ⊥
 unfolding decode
 uncarried wire [] call unnamed e = let z : ◌≡◌ {A = ℕ} 0 1 = cc in omega arith
 uncarried wire (kind ∷ xs) call unnamed e = nameless (sym (sent_kind wire kind xs e).named ∙ unnamed)

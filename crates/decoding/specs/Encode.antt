@@ -1,11 +1,8 @@
 -- The bytes of a call record, as a host writes it.
-use Rattle.std.specs.Prelude.{ℕ, ◌<◌, ◌^◌, List, [], ◌∷◌, ◌++◌, replicate}
-use Rattle.std.proofs.Math.Option.{Option, none, some}
+use Rattle.std.specs.Prelude.{ℕ, ◌<◌, ◌^◌, List, [], ◌∷◌, ◌++◌, replicate, Option, None, Some}
 use Rattle.card.specs.declared.Port.{Port}
 use Rattle.card.specs.declared.Credential.{Credential}
 use Rattle.card.specs.declared.Credential.TheVariants.{Nothing, Reference, Key as KeyCredential}
-use Rattle.card.specs.declared.NewKey.{NewKey}
-use Rattle.card.specs.declared.NewKey.TheVariants.{Absent, Present}
 use Rattle.card.specs.declared.AllocOperands.{AllocOperands}
 use Rattle.card.specs.declared.DeleteOperands.{DeleteOperands}
 use Rattle.card.specs.declared.KeyOperands.{KeyOperands}
@@ -21,9 +18,9 @@ credential_bytes Nothing = 0 ∷ replicate 16 0
 credential_bytes (Reference r) = 1 ∷ (bytes 2 r ++ replicate 14 0)
 credential_bytes (KeyCredential high low) = 2 ∷ (bytes 8 high ++ bytes 8 low)
 
-unfoldable pub new_key_bytes : NewKey → List ℕ
-new_key_bytes Absent = 0 ∷ replicate 16 0
-new_key_bytes (Present high low) = 1 ∷ (bytes 8 high ++ bytes 8 low)
+unfoldable pub new_key_bytes : Option (ℕ × ℕ) → List ℕ
+new_key_bytes None = 0 ∷ replicate 16 0
+new_key_bytes (Some (high, low)) = 1 ∷ (bytes 8 high ++ bytes 8 low)
 
 -- The operands of ALLOC and of ALLOC_CONTIG.
 abbrev pub alloc_body : AllocOperands → List ℕ → List ℕ
@@ -60,8 +57,8 @@ body (Sweep o) ys = ys
 
 -- The kind of a named call in front of its body. A call without a name has no record.
 unfoldable pub behind_kind : Port → Option Name → List ℕ → List ℕ
-behind_kind port none xs = []
-behind_kind port (some name) xs = kind_number port name ∷ xs
+behind_kind port None xs = []
+behind_kind port (Some name) xs = kind_number port name ∷ xs
 
 -- A record: the kind, the operands, the data.
 unfoldable pub encode : Port → Call → List ℕ → List ℕ
@@ -78,9 +75,9 @@ FitsCredential Nothing = Unit {0}
 FitsCredential (Reference r) = Fits 2 r
 FitsCredential (KeyCredential high low) = Fits 8 high × Fits 8 low
 
-unfoldable pub FitsNewKey : NewKey → Type 0
-FitsNewKey Absent = Unit {0}
-FitsNewKey (Present high low) = Fits 8 high × Fits 8 low
+unfoldable pub FitsNewKey : Option (ℕ × ℕ) → Type 0
+FitsNewKey None = Unit {0}
+FitsNewKey (Some (high, low)) = Fits 8 high × Fits 8 low
 
 -- Each operand fits its width.
 abbrev pub FitsAlloc : AllocOperands → Type 0

@@ -1,13 +1,11 @@
 -- What is promised of decoding, whatever bytes arrive at a port. It is proved in proofs/.
-use Rattle.std.specs.Prelude.{ℕ, ◌<◌, ◌≡◌, Bool, true, false, List, ◌∷◌, length, drop, get_or, replicate}
+use Rattle.std.specs.Prelude.{ℕ, ◌<◌, ◌≡◌, Bool, true, false, List, ◌∷◌, length, drop, get_or, replicate, Option, Some, None}
 use Rattle.card.specs.declared.Port.{Port}
 use Rattle.card.specs.declared.RentOperands.{RentOperands}
 use Rattle.card.specs.declared.SweepOperands.{SweepOperands}
 use Rattle.card.specs.declared.Call.{Call}
 use Rattle.card.specs.declared.Call.TheVariants.{Rent, Sweep}
 use Rattle.kinds.specs.AllKinds.{expected}
-use Rattle.kinds.specs.declared.Length.{Length}
-use Rattle.kinds.specs.declared.Length.TheVariants.{Bytes, Unknown}
 use Rattle.decoding.specs.Decode.{Next, ended, refused, sent, decode}
 
 -- ---- by the kind
@@ -28,14 +26,14 @@ pub record Whole (n : ℕ) (next : List ℕ → Next) : Type 0 where
   -- No length is too great: so many zeros are a call.
   pub enough : is_call (next (replicate n 0)) ≡ true
 
-abbrev pub DecodedBy : Length → (List ℕ → Next) → Type 0
-DecodedBy Unknown next = (xs : List ℕ) → next xs ≡ refused
-DecodedBy (Bytes n) next = Whole n next
+abbrev pub DecodedBy : Option ℕ → (List ℕ → Next) → Type 0
+DecodedBy None next = (xs : List ℕ) → next xs ≡ refused
+DecodedBy (Some n) next = Whole n next
 
 -- What a record comes to by its kind, for all 256 kinds at each port and any bytes behind the kind: refused 13 where the table of all kinds has no length
 -- or a greater one than there are bytes; otherwise, if the body holds a call, just the bytes behind the body are left, and a body of that length can hold one.
 abbrev pub KindsDecoded : Type 0
-KindsDecoded = (wire : Port) (kind : ℕ) → kind < 256 → DecodedBy (get_or (expected wire) kind Unknown) (λ xs. decode wire (kind ∷ xs))
+KindsDecoded = (wire : Port) (kind : ℕ) → kind < 256 → DecodedBy (get_or (expected wire) kind None) (λ xs. decode wire (kind ∷ xs))
 
 -- ---- calls that no record carries
 

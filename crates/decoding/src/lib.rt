@@ -3,20 +3,13 @@
 #![tactic(auto)]
 
 use card::{Call, Port};
-
-// A call at its port, or refusal 13.
-#[derive(Drop)]
-#[derive(Clone, Copy)]
-pub enum Decoding {
-    Decoded(Port, Call),
-    Bad,
-}
+use fields::BadRecord;
 
 // What a kind and the bytes behind it hold: the call, and where the bytes beside its operands start and its body ends.
 #[derive(Drop)]
 #[derive(Clone, Copy)]
 pub struct Parsed {
-    pub decoding: Decoding,
+    pub decoding: Result<(Port, Call), BadRecord>,
     pub payload: usize,
     pub end: usize,
 }

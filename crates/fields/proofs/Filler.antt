@@ -1,31 +1,39 @@
--- The invariant of the walk over filler at a place: every byte passed is 0.
-use Prim.Native.Nat.{ℕ, ◌+◌, ◌≤◌, ◌<◌}
+-- The filler of a field: its bytes are looked at one after the other.
+use Prim.Native.Nat.{ℕ, zero, suc, ◌+◌, ◌-◌, ◌≤◌, ◌<◌}
 use mathlib.Core.Path.{◌≡◌, refl, sym, ◌∙◌}
-use mathlib.Core.Bool.{true, false}
+use mathlib.Core.Bool.{Bool, true}
 use mathlib.Core.List.{List}
+use native.Mathlib.Nat.{not-suc-le-zero}
 use native.Mathlib.Omega.{arith}
-use lib.ListN.{get_or, drop}
-use lib.Seq.{get_or-drop}
-use borrow.Author.Tests.{eq-eqb, ne_eqb}
+use lib.ListN.{length, get_or, take, drop, length-drop}
+use lib.Seq.{get_or-take, length-take-le}
+use borrow.Author.Tests.{eq-eqb, eqb-true}
+use Rattle.std.specs.Prelude.{IsTrue, ◌↔◌, EachIndex}
+use Rattle.std.proofs.Math.Logic.{⊎_elim}
+use Rattle.laws.specs.ListsLaws.{and_true, and_left, and_right, same_test, same_or_other}
 use Rattle.fields.specs.Bytes.{zeroed}
-use Rattle.fields.specs.BytesLaws.{zeroed_not, zeroed_more}
 
-pub record Filler (xs : List ℕ) (at n i : ℕ) : Type 0 where
-  pub most : i ≤ n
-  pub zero : zeroed i (drop at xs) ≡ true
-
-pub filler_start : (xs : List ℕ) (at n : ℕ) → Filler xs at n 0
+all_zeroed : (n : ℕ) (xs : List ℕ) → ((k : ℕ) → k < n → get_or xs k 0 ≡ 0) → zeroed n xs ≡ true
 unfolding zeroed
-filler_start xs at n = record { most = omega arith; zero = refl }
+all_zeroed zero xs f = refl
+all_zeroed (suc n) xs f = and_true (zeroed n xs) _ (all_zeroed n xs (λ k l. f k (omega arith))) (eq-eqb _ 0 (f n (omega arith)))
 
-pub filler_more : {xs : List ℕ} {at n i : ℕ} → Filler xs at n i → i < n → get_or xs (at + i) 0 ≡ 0 → Filler xs at n (i + 1)
-filler_more {xs} {at} {n} {i} inv l e =
-    record { most = omega arith; zero = zeroed_more i (drop at xs) inv.zero (eq-eqb _ 0 (get_or-drop at xs i 0 ∙ e)) }
+zeroed_all : (n : ℕ) (xs : List ℕ) → zeroed n xs ≡ true → (k : ℕ) → k < n → get_or xs k 0 ≡ 0
+unfolding zeroed
+zeroed_all zero xs e k l = absurd (not-suc-le-zero l)
+zeroed_all (suc n) xs e k l =
+    ⊎_elim
+    (λ (q : k ≡ n). rw q (eqb-true (get_or xs n 0) 0 (and_right (zeroed n xs) _ e)))
+    (λ (o : k ≡ n → ⊥). zeroed_all n xs (and_left (zeroed n xs) _ e) k (omega arith))
+    (same_or_other k n)
 
-pub filler_fault : (xs : List ℕ) (at : ℕ) {n i : ℕ} → i < n → (get_or xs (at + i) 0 ≡ 0 → ⊥) → false ≡ zeroed n (drop at xs)
-filler_fault xs at {n} {i} l e = sym (zeroed_not n i (drop at xs) l (ne_eqb _ 0 (λ z. e (sym (get_or-drop at xs i 0) ∙ z))))
-
-pub filler_whole : {xs : List ℕ} {at n i : ℕ} → Filler xs at n i → n ≤ i → true ≡ zeroed n (drop at xs)
-filler_whole {xs} {at} {n} {i} inv l =
-    let same : n ≡ i = omega arith in
-    rw same (sym inv.zero)
+-- A look at each byte tells it.
+pub filler_zeroed : (at n : ℕ) (xs : List ℕ) {r : Bool} → at + n ≤ length xs
+    → (let part = take (at + n - at) (drop at xs) in IsTrue r ↔ EachIndex part (λ k. get_or part k 0 ≡ 0)) → r ≡ zeroed n (drop at xs)
+filler_zeroed at n xs {r} fits told =
+    let size : at + n - at ≡ n = omega arith in
+    let long : length (take n (drop at xs)) ≡ n = length-take-le n (drop at xs) (omega (arith, length-drop at xs)) in
+    let each = rw size at told in
+    same_test r (zeroed n (drop at xs))
+    (λ e. all_zeroed n (drop at xs) (λ k l. sym (get_or-take n (drop at xs) k 0 l) ∙ each.0 e k (omega arith)))
+    (λ e. each.1 (λ k l. get_or-take n (drop at xs) k 0 (omega arith) ∙ zeroed_all n (drop at xs) e k (omega arith)))

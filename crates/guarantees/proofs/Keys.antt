@@ -1,5 +1,6 @@
 -- The request 2026-02, of KEY_READ and KEY_WRITE: each sets its own key and leaves the other, both need write access and close both windows; and a block
 -- that carries one key alone is not sealed.
+use Rattle.std.specs.Prelude.{}
 use Prim.Native.Nat.{ℕ, ◌+◌, ◌*◌, ◌≤◌, ◌<◌}
 use mathlib.Core.Path.{◌≡◌, refl, sym, ap, ◌∙◌, subst}
 use mathlib.Core.Logic.{⊎_elim}

@@ -1,10 +1,10 @@
 -- Each call changes multiplicities by just the pointers that it made and took away, and so does a list of calls.
+use Rattle.std.specs.Prelude.{None}
 use Prim.Native.Nat.{ℕ, zero, suc, ◌+◌, ◌-◌, ◌≤◌, ◌<◌}
 use mathlib.Core.Path.{◌≡◌, refl, sym, ap, ap₂, ◌∙◌, subst}
 use mathlib.Core.Logic.{⊎_elim}
 use mathlib.Core.Bool.{Bool, true, false, ◌&&◌, ◌||◌, not, cond}
 use mathlib.Core.List.{List, [], ◌∷◌}
-use mathlib.Core.Option.{none}
 use native.Mathlib.Omega.{arith}
 use lib.Dec.{eqb, ltb}
 use lib.ListN.{length, take, drop}
@@ -192,11 +192,11 @@ module _ (p : Public) (x y : ℕ) (linked : Linked p) (low : y < 65536) (a b : �
       removed_times_take (pointer x y) p.info.used p.pointers p.multiplicities linked.fit linked.same there in
       let moved : Moved (pointer x y) times 0 (in_use p) (times_in_use p) (in_use q) (times_in_use q) = rw (listed, timed) (moved_remove (pointer x y) step there) in
       let up : ascending (in_use q) ≡ true = rw listed (remove_ascending (pointer x y) (in_use p) linked.ascends) in
-      multiplicity_moved p q x y times 0 linked.ascends up moved a b low narrow ∙ none it
+      multiplicity_moved p q x y times 0 linked.ascends up moved a b low narrow ∙ nothing it
     where
-      none : (t : Bool) → cond t 0 0 + multiplicity p a b ≡ multiplicity p a b
-      none true = omega arith
-      none false = omega arith
+      nothing : (t : Bool) → cond t 0 0 + multiplicity p a b ≡ multiplicity p a b
+      nothing true = omega arith
+      nothing false = omega arith
 
   -- The pointer that is dropped goes wholly, and every other stays as it was.
   dropped_wholly : points_to p x y ≡ true → multiplicity (change_public (drop_pointer x y) p) a b ≡ cond it 0 (multiplicity p a b)
@@ -405,7 +405,7 @@ module _ (port : Port) (c : Card) (lent : Buffers) (s : SoundCard c) (a b : ℕ)
   plain_booked : (steps : List Change) → PlainAll steps → multiplicity (changes c steps).public a b + 0 ≡ multiplicity c.public a b + 0
   plain_booked steps h = ap (λ (n : ℕ). n + 0) (plain_all c steps h a b)
 
-  call_booked : (call : Call) → NoneHolds (plan port c call lent).checks → Booked c call (settle c lent (plan port c call lent) none) a b
+  call_booked : (call : Call) → NoneHolds (plan port c call lent).checks → Booked c call (settle c lent (plan port c call lent) None) a b
   unfolding plan settle made taken read_plan write_plan alloc_plan alloc_contig_plan create_plan delete_plan delete_tree_plan key_plan renew_plan force_plan free_plan tick_plan audit_plan rent_plan sweep_plan changes
   call_booked (Read o) h = plain_booked (plan port c (Read o) lent).steps (opens_window_plain port c.public _ o.block o.interval)
   call_booked (Write o) h = plain_booked (plan port c (Write o) lent).steps (tt, opens_window_plain port c.public _ o.block o.interval)

@@ -1,9 +1,9 @@
 -- The request 2026-01, of ALLOC_CONTIG: a run that exists is found, the numbers given adjoin, and no run starts nearer the hint.
+use Rattle.std.specs.Prelude.{None, Some}
 use Prim.Native.Nat.{ℕ, ◌+◌, ◌≤◌, ◌<◌}
 use mathlib.Core.Path.{◌≡◌, refl, sym, ap, ◌∙◌, subst}
 use mathlib.Core.Bool.{Bool, true, false, ◌&&◌, ◌||◌, not, true≢false}
 use mathlib.Core.List.{List, [], ◌∷◌}
-use mathlib.Core.Option.{none, some}
 use native.Mathlib.Omega.{arith}
 use lib.Dec.{eqb, ltb}
 use lib.ListN.{length, take, get_or}
@@ -38,7 +38,7 @@ is_here other (later e h) = absurd (other h)
 
 none_left : (r : Refusal) → FirstHolds [] r → ⊥
 unfolding first
-none_left r h = let e : none ≡ some r = holds_first h in absurd (true≢false (cc))
+none_left r h = let e : None ≡ Some r = holds_first h in absurd (true≢false (cc))
 
 module _ (port : Port) (c : Card) (o : AllocOperands) (lent : Buffers) where
   -- The conditions before 10.
@@ -138,7 +138,7 @@ module _ (port : Port) (c : Card) (o : AllocOperands) (lent : Buffers) where
         (n.0, (n.1.0, (n.1.1.0, (n.1.1.1.0, (n.1.1.1.1.0, (n.1.1.1.1.1.0, tt))))))
 
     first_number : get_or (perform port c (contig o lent)).places 0 0 ≡ taken.first
-    first_number = let none : taken.first + 0 ≡ taken.first = omega arith in number_at 0 (some_blocks first_early) ∙ none
+    first_number = let same : taken.first + 0 ≡ taken.first = omega arith in number_at 0 (some_blocks first_early) ∙ same
 
     adjoins : AdjoiningFree c.public o (perform port c (contig o lent)).places
     adjoins = record {

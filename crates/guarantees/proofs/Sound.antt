@@ -5,7 +5,7 @@ use Rattle.card.specs.Session.{plan, perform}
 use Rattle.card.specs.SoundCard.{SoundCard}
 use Rattle.card.specs.Statements.Sound.{DoneSound, DoneLeavesSound, CountsRight, PointersAscending}
 use Rattle.card.specs.declared.Refusal.{Refusal}
-use Rattle.card.specs.declared.Answer.TheVariants.{Refused}
+use Rattle.card.specs.Answers.{Refused}
 use Rattle.laws.proofs.Judged.{judge_cases}
 use Rattle.laws.proofs.KeepsSound.{call_sound, perform_sound}
 use mathlib.Core.Path.{◌≡◌}

@@ -19,7 +19,7 @@ use Rattle.card.specs.Statements.Windows.{SetsWindow}
 use Rattle.card.specs.Statements.Trees.{Freed, removed, HoldsDestination, HoldsFollowers, LeastFreed, PointedWithin}
 use Rattle.card.specs.declared.Port.{Port}
 use Rattle.card.specs.declared.Mode.{Mode}
-use Rattle.card.specs.declared.Answer.{Answer}
+use Rattle.card.specs.Answers.{Answer}
 use Rattle.card.specs.declared.Call.{Call}
 use Rattle.card.specs.declared.AllocOperands.{AllocOperands}
 use Rattle.card.specs.declared.DeleteOperands.{DeleteOperands}

@@ -29,7 +29,7 @@ use Rattle.card.specs.Ledger.{goes}
 use Rattle.card.specs.declared.Port.{Port}
 use Rattle.card.specs.declared.Mode.TheVariants.{Writing}
 use Rattle.card.specs.declared.DeleteOperands.{DeleteOperands}
-use Rattle.card.specs.declared.Answer.TheVariants.{Value}
+use Rattle.card.specs.Answers.{Value}
 use Rattle.card.specs.declared.Call.TheVariants.{DeleteTree}
 use Rattle.laws.proofs.Judged.{judge_cases, judge_after}
 use Rattle.laws.proofs.PointerSteps.{SoundBut, drop_pointer_sound, pointer_right_law, block_narrow}

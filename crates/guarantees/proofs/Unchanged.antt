@@ -9,7 +9,7 @@ use Rattle.card.specs.Calls.{is_done, format_result, format, read_plan, write_pl
 use Rattle.card.specs.Session.{plan, perform}
 use Rattle.card.specs.Statements.Refusals.{RefusalUnchanged, Unchanged, FormatUnchanged}
 use Rattle.card.specs.declared.Port.{Port}
-use Rattle.card.specs.declared.Answer.TheVariants.{Refused, Done}
+use Rattle.card.specs.Answers.{Refused, Done}
 use Rattle.card.specs.declared.Call.{Call}
 use Rattle.card.specs.declared.Call.TheVariants.{Read, Write, Alloc, AllocContig, Create, Delete, DeleteTree, KeyRead, KeyWrite, Renew, Force, Free, Tick, Audit, Rent, Sweep}
 use Rattle.laws.proofs.Judged.{judge_cases}

@@ -25,7 +25,7 @@ use Rattle.card.specs.declared.Port.{Port}
 use Rattle.card.specs.declared.Port.TheVariants.{Host, Service}
 use Rattle.card.specs.declared.Mode.{Mode}
 use Rattle.card.specs.declared.Mode.TheVariants.{Reading, Writing}
-use Rattle.card.specs.declared.WriteOperands.{WriteOperands}
+use Rattle.card.specs.declared.TransferOperands.{TransferOperands}
 use Rattle.card.specs.declared.DeleteOperands.{DeleteOperands}
 use Rattle.card.specs.declared.KeyOperands.{KeyOperands}
 use Rattle.card.specs.declared.Call.{Call}
@@ -60,7 +60,7 @@ opens_window_left Host c p mode a interval b free = go (eqb interval 0)
     go false = record { not_allocated = free; same_flags = refl; same = refl }
 opens_window_left Service c p mode a interval b free = record { not_allocated = free; same_flags = refl; same = refl }
 
-write_left : (port : Port) (c : Card) (opened : Bool) (o : WriteOperands) (input : List ℕ) (b : ℕ) → allocated c.public b ≡ false → SoundCard c
+write_left : (port : Port) (c : Card) (opened : Bool) (o : TransferOperands) (input : List ℕ) (b : ℕ) → allocated c.public b ≡ false → SoundCard c
     → NoneHolds (write_plan port c.public opened o input).checks → LeftAlone c (changes c (write_plan port c.public opened o input).steps) b
 unfolding write_plan changes change change_public change_contents
 write_left port c opened o input b free s h =

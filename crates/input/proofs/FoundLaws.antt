@@ -1,5 +1,5 @@
 -- Laws of a record found in an input: from what the code finds to what the rules decode.
-use Rattle.std.specs.Prelude.{ℕ, ◌+◌, ◌-◌, ◌≤◌, ◌<◌, ◌≡◌, Bool, length, get_or}
+use Rattle.std.specs.Prelude.{ℕ, ◌+◌, ◌-◌, ◌≤◌, ◌<◌, ◌≡◌, Bool, length, get_or, Option, Some, None, Ok, Err}
 use Rattle.std.proofs.Common.{sym, ◌∙◌, subst, add-one, length-drop, take_all, drop-cons, lt-ltb, le-ltb}
 use Rattle.std.proofs.Math.Path.{ap, ap₂}
 use Rattle.std.proofs.Math.Bool.{cond}
@@ -13,16 +13,12 @@ use Rattle.kinds.specs.Kinds.{kind_of, body_length}
 use Rattle.decoding.specs.Decode.{ended, sent, decode_body, body_of, operands_of, data_of, next_of, decode}
 use Rattle.decoding.proofs.DecodeLaws.{unknown_kind, short_kind}
 use Rattle.decoding.specs.Parsed.{ParsedIs}
-use Rattle.kinds.specs.declared.Length.{Length}
-use Rattle.kinds.specs.declared.Length.TheVariants.{Bytes, Unknown as UnknownLength}
-use Rattle.decoding.specs.declared.Decoding.TheVariants.{Decoded, Bad}
 use Rattle.decoding.specs.declared.Parsed.{Parsed}
 use Rattle.input.specs.Play.{is_short, fault}
-use Rattle.input.specs.Found.{WholeIs, NothingIs, FoundIs}
+use Rattle.input.specs.Found.{Found, WholeIs, NothingIs, FoundIs}
 use Rattle.input.specs.declared.Stop.TheVariants.{Short, Refused}
 use Rattle.input.specs.declared.Record.{Record}
-use Rattle.input.specs.declared.Found.{Found}
-use Rattle.input.specs.declared.Found.TheVariants.{Whole}
+use Rattle.fields.specs.Fields.{bad_record}
 
 -- ---- where the input is at its end
 
@@ -57,26 +53,26 @@ module _ (wire : Port) (input : List ℕ) (from : ℕ) (h : from < length input)
   unfolding fault
   fault_here = rw starts
 
-  pub found_unknown : {l : Length} → l ≡ body_length wire kind → l ≡ UnknownLength → NothingIs wire (drop from input) Refused
+  pub found_unknown : {l : Option ℕ} → l ≡ body_length wire kind → l ≡ None → NothingIs wire (drop from input) Refused
   unfolding next_of decode_body body_length is_short
   found_unknown e u =
-      (decodes_next ∙ ap (next_of behind_kind) (unknown_kind (kind_of wire kind) behind_kind (sym e ∙ u)), fault_here ∙ ap (λ (l : Length). cond (is_short l (length behind_kind)) Short Refused) (sym e ∙ u))
+      (decodes_next ∙ ap (next_of behind_kind) (unknown_kind (kind_of wire kind) behind_kind (sym e ∙ u)), fault_here ∙ ap (λ (l : Option ℕ). cond (is_short l (length behind_kind)) Short Refused) (sym e ∙ u))
 
-  pub found_short : {l : Length} {n : ℕ} → l ≡ body_length wire kind → l ≡ Bytes n → length behind_kind < n → NothingIs wire (drop from input) Short
+  pub found_short : {l : Option ℕ} {n : ℕ} → l ≡ body_length wire kind → l ≡ Some n → length behind_kind < n → NothingIs wire (drop from input) Short
   unfolding next_of decode_body body_length is_short
   found_short {n = n} e u s = (
     decodes_next ∙ ap (next_of behind_kind) (short_kind (kind_of wire kind) behind_kind n (sym e ∙ u) s),
-    fault_here ∙ ap (λ (l : Length). cond (is_short l (length behind_kind)) Short Refused) (sym e ∙ u) ∙ ap (λ (t : Bool). cond t Short Refused) (lt-ltb (length behind_kind) n s),
+    fault_here ∙ ap (λ (l : Option ℕ). cond (is_short l (length behind_kind)) Short Refused) (sym e ∙ u) ∙ ap (λ (t : Bool). cond t Short Refused) (lt-ltb (length behind_kind) n s),
   )
 
-  pub found_bad : {l : Length} {n : ℕ} {r : Parsed} → l ≡ body_length wire kind → l ≡ Bytes n → n ≤ length behind_kind → ParsedIs (decode_body wire kind behind_kind) behind_kind r → r.decoding ≡ Bad → NothingIs wire (drop from input) Refused
+  pub found_bad : {l : Option ℕ} {n : ℕ} {r : Parsed} → l ≡ body_length wire kind → l ≡ Some n → n ≤ length behind_kind → ParsedIs (decode_body wire kind behind_kind) behind_kind r → r.decoding ≡ Err bad_record → NothingIs wire (drop from input) Refused
   unfolding next_of is_short
   found_bad {n = n} e u s p b = (
     decodes_next ∙ ap (next_of behind_kind) (sym p.decodes ∙ b),
-    fault_here ∙ ap (λ (l : Length). cond (is_short l (length behind_kind)) Short Refused) (sym e ∙ u) ∙ ap (λ (t : Bool). cond t Short Refused) (le-ltb (length behind_kind) n s),
+    fault_here ∙ ap (λ (l : Option ℕ). cond (is_short l (length behind_kind)) Short Refused) (sym e ∙ u) ∙ ap (λ (t : Bool). cond t Short Refused) (le-ltb (length behind_kind) n s),
   )
 
-  pub found_whole : {r : Parsed} {port : Port} {call : Call} → ParsedIs (decode_body wire kind behind_kind) behind_kind r → r.decoding ≡ Decoded port call
+  pub found_whole : {r : Parsed} {port : Port} {call : Call} → ParsedIs (decode_body wire kind behind_kind) behind_kind r → r.decoding ≡ Ok (port, call)
       → WholeIs wire input from (record { kind = kind; port = port; call = call; payload = from + 1 + r.payload; next = from + 1 + r.end })
   unfolding next_of data_of
   found_whole {r} {port} {call} p e =
@@ -96,5 +92,5 @@ module _ (wire : Port) (input : List ℕ) (from : ℕ) (h : from < length input)
       }
 
 -- The bounds of a whole record.
-pub whole_within : (wire : Port) (input : List ℕ) (from : ℕ) {found : Found} {r : Record} → FoundIs wire input from found → found ≡ Whole r → (r.payload ≤ r.next) × (r.next ≤ length input)
+pub whole_within : (wire : Port) (input : List ℕ) (from : ℕ) {found : Found} {r : Record} → FoundIs wire input from found → found ≡ Ok r → (r.payload ≤ r.next) × (r.next ≤ length input)
 whole_within wire input from {r = r} f e = let w : WholeIs wire input from r = subst (FoundIs wire input from) e f in (w.payload_within, w.next_within)

@@ -1,59 +1,31 @@
 -- Laws of playing an input: record after record, whatever bounds their number.
 use Prim.Native.Nat.{ℕ, zero, suc, ◌+◌, ◌-◌, ◌≤◌, ◌<◌}
-use Rattle.std.specs.Prelude.{◌≡◌, refl, Bool, true, cond, ltb}
+use Rattle.std.specs.Prelude.{◌≡◌, refl, Bool, true, cond, ltb, Option, Some, None}
 use Rattle.std.proofs.Math.Path.{ap, ap₂}
-use Rattle.std.proofs.Common.{◌∙◌, arith, lt-ltb, le-ltb}
+use Rattle.std.proofs.Common.{sym, ◌∙◌, arith, lt-ltb, le-ltb}
+use Rattle.std.proofs.lemmas.Option.{none-some}
 use Rattle.std.proofs.Math.Bool.{false}
-use mathlib.Core.List.{List, [], ◌∷◌}
+use mathlib.Core.List.{List}
 use Rattle.std.proofs.Math.ListN.{length}
 use Rattle.card.specs.Card.{Card}
-use Rattle.card.specs.declared.Port.{Port}
 use Rattle.decoding.specs.Decode.{Next, ended, refused, sent, decode}
-use Rattle.kinds.specs.Kinds.{body_length}
 use Rattle.decoding.proofs.DecodeLaws.{decode_shorter}
 use Rattle.lines.specs.Lines.{line_room}
-use Rattle.input.specs.Play.{player_port, is_short, fault, Turn, halted, turn_of, turn, Play, output_before, stopped, go_on, play_within, play}
+use Rattle.input.specs.Play.{player_port, fault, Turn, halted, turn_of, turn, Play, output_before, stopped, go_on, play_within, play}
 use Rattle.input.specs.declared.Stop.{Stop}
-use Rattle.input.specs.declared.Stop.TheVariants.{Went, Ended, Short, Refused, Full}
+use Rattle.input.specs.declared.Stop.TheVariants.{Ended, Full}
 
--- ---- a turn that went leaves less of the input
+-- ---- a turn that does not stop the play leaves less of the input
 
--- A fault is no turn that went.
-apart_short : Short ≡ Went → ⊥
-apart_short e = let z : ◌≡◌ {A = ℕ} 0 1 = cc in omega arith
-
-apart_refused : Refused ≡ Went → ⊥
-apart_refused e = let z : ◌≡◌ {A = ℕ} 0 1 = cc in omega arith
-
-pub fault_stops : (wire : Port) (xs : List ℕ) → fault wire xs ≡ Went → ⊥
-unfolding fault
-fault_stops wire [] e = apart_refused e
-fault_stops wire (kind ∷ xs) e = go (is_short (body_length wire kind) (length xs)) e
-  where
-    go : (t : Bool) → cond t Short Refused ≡ Went → ⊥
-    go true h = apart_short h
-    go false h = apart_refused h
-
-next_left : (ordinal : ℕ) (c : Card) (xs : List ℕ) (n : Next) → decode player_port xs ≡ n → (turn_of ordinal c xs n).stop ≡ Went → length (turn_of ordinal c xs n).left < length xs
+next_left : (ordinal : ℕ) (c : Card) (xs : List ℕ) (n : Next) → decode player_port xs ≡ n → (turn_of ordinal c xs n).stop ≡ None → length (turn_of ordinal c xs n).left < length xs
 unfolding turn_of
-next_left ordinal c xs ended e w = let z : ◌≡◌ {A = ℕ} 0 1 = cc in absurd (omega arith)
-next_left ordinal c xs refused e w = absurd (fault_stops player_port xs w)
+next_left ordinal c xs ended e w = absurd (none-some Ended (sym w))
+next_left ordinal c xs refused e w = absurd (none-some (fault player_port xs) (sym w))
 next_left ordinal c xs (sent port call payload rest) e w = decode_shorter player_port xs e
 
-pub turn_left : (ordinal : ℕ) (c : Card) (xs : List ℕ) → (turn ordinal c xs).stop ≡ Went → length (turn ordinal c xs).left < length xs
+pub turn_left : (ordinal : ℕ) (c : Card) (xs : List ℕ) → (turn ordinal c xs).stop ≡ None → length (turn ordinal c xs).left < length xs
 unfolding turn
 turn_left ordinal c xs w = next_left ordinal c xs (decode player_port xs) refl w
-
--- ---- a turn that did not go ends the play
-
-pub go_on_halts : (stop : Stop) (t : Turn) (records room : ℕ) (rest : ℕ → Card → List ℕ → ℕ → Play) → (stop ≡ Went → ⊥)
-    → go_on stop t records rest room ≡ stopped stop records t.after t.left
-unfolding go_on
-go_on_halts Went t records room rest n = absurd (n refl)
-go_on_halts Ended t records room rest n = refl
-go_on_halts Short t records room rest n = refl
-go_on_halts Refused t records room rest n = refl
-go_on_halts Full t records room rest n = refl
 
 -- ---- however many turns are allowed
 
@@ -61,21 +33,18 @@ go_on_halts Full t records room rest n = refl
 abbrev pub tried : Bool → ℕ → Card → List ℕ → Turn
 tried full records c xs = cond full (halted Full c xs) (turn (records + 1) c xs)
 
-tried_left : (full : Bool) (records : ℕ) (c : Card) (xs : List ℕ) → (tried full records c xs).stop ≡ Went → length (tried full records c xs).left < length xs
-tried_left true records c xs w = let z : ◌≡◌ {A = ℕ} 0 1 = cc in absurd (omega arith)
+tried_left : (full : Bool) (records : ℕ) (c : Card) (xs : List ℕ) → (tried full records c xs).stop ≡ None → length (tried full records c xs).left < length xs
+tried_left true records c xs w = absurd (none-some Full (sym w))
 tried_left false records c xs w = turn_left (records + 1) c xs w
 
 -- Where the rest of the play is the same, so is the play.
-go_on_same : (stop : Stop) (t : Turn) → t.stop ≡ stop → (records room : ℕ) (f g : ℕ → Card → List ℕ → ℕ → Play)
-    → (t.stop ≡ Went → f (records + 1) t.after t.left (room - length t.output) ≡ g (records + 1) t.after t.left (room - length t.output))
+go_on_same : (stop : Option Stop) (t : Turn) → t.stop ≡ stop → (records room : ℕ) (f g : ℕ → Card → List ℕ → ℕ → Play)
+    → (t.stop ≡ None → f (records + 1) t.after t.left (room - length t.output) ≡ g (records + 1) t.after t.left (room - length t.output))
     → go_on stop t records f room ≡ go_on stop t records g room
 unfolding go_on
-go_on_same Went t e records room f g h =
+go_on_same None t e records room f g h =
     ap (output_before t.output) (h e)
-go_on_same Ended t e records room f g h = refl
-go_on_same Short t e records room f g h = refl
-go_on_same Refused t e records room f g h = refl
-go_on_same Full t e records room f g h = refl
+go_on_same (Some stop) t e records room f g h = refl
 
 within_same : (k m : ℕ) (records : ℕ) (c : Card) (xs : List ℕ) (room : ℕ) → length xs ≤ k → length xs ≤ m → play_within (suc k) records c xs room ≡ play_within (suc m) records c xs room
 unfolding play_within
@@ -108,11 +77,11 @@ module _ (records : ℕ) (c : Card) (xs : List ℕ) (room : ℕ) (h : line_room 
   first_turn = turn (records + 1) c xs
 
   -- The play goes on behind the turn's line.
-  pub play_went : first_turn.stop ≡ Went → play records c xs room ≡ output_before first_turn.output (play (records + 1) first_turn.after first_turn.left (room - length first_turn.output))
+  pub play_went : first_turn.stop ≡ None → play records c xs room ≡ output_before first_turn.output (play (records + 1) first_turn.after first_turn.left (room - length first_turn.output))
   unfolding go_on play
   play_went w =
       play_tried false records c xs room (le-ltb room line_room h)
-      ∙ ap (λ (s : Stop). go_on s first_turn records (play_within (length xs)) room) w
+      ∙ ap (λ (s : Option Stop). go_on s first_turn records (play_within (length xs)) room) w
       ∙ ap (output_before first_turn.output) (shorter (length xs) (turn_left (records + 1) c xs w))
     where
       shorter : (k : ℕ) → length first_turn.left < k
@@ -121,10 +90,9 @@ module _ (records : ℕ) (c : Card) (xs : List ℕ) (room : ℕ) (h : line_room 
       shorter (suc k) l = within_same k (length first_turn.left) (records + 1) first_turn.after first_turn.left (room - length first_turn.output) (omega arith) (omega arith)
 
   -- The play stops with the turn.
-  pub play_stopped : (stop : Stop) → (stop ≡ Went → ⊥) → first_turn.stop ≡ stop → first_turn.after ≡ c → first_turn.left ≡ xs → play records c xs room ≡ stopped stop records c xs
+  pub play_stopped : (stop : Stop) → first_turn.stop ≡ Some stop → first_turn.after ≡ c → first_turn.left ≡ xs → play records c xs room ≡ stopped stop records c xs
   unfolding go_on
-  play_stopped stop n e a l =
+  play_stopped stop e a l =
       play_tried false records c xs room (le-ltb room line_room h)
-      ∙ ap (λ (s : Stop). go_on s first_turn records (play_within (length xs)) room) e
-      ∙ go_on_halts stop first_turn records room (play_within (length xs)) n
+      ∙ ap (λ (s : Option Stop). go_on s first_turn records (play_within (length xs)) room) e
       ∙ ap₂ (λ (d : Card) (ys : List ℕ). stopped stop records d ys) a l

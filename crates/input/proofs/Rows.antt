@@ -4,6 +4,7 @@ use Prim.Native.Nat.{ℕ}
 use mathlib.Core.Path.{◌≡◌, refl, ap}
 use mathlib.Core.Bool.{Bool, true, ◌&&◌, ◌||◌}
 use mathlib.Core.List.{List, [], ◌∷◌, ◌++◌, map}
+use Rattle.std.specs.Prelude.{Option, Some, None}
 use lib.Dec.{eqb}
 use lib.ListN.{take}
 use borrow.Author.Tests.{eq-eqb}
@@ -26,16 +27,20 @@ use Rattle.input.specs.Arrivals.{Arrived, arrivals_of, arrivals_within, arrivals
 use Rattle.input.specs.Performed.{Manner, Ends, out_of_room, all_performed, PerformedBy}
 use Rattle.input.proofs.PerformedLaws.{left_by_performed}
 use Rattle.input.specs.declared.Stop.{Stop}
-use Rattle.input.specs.declared.Stop.TheVariants.{Went, Ended, Short, Refused, Full}
+use Rattle.input.specs.declared.Stop.TheVariants.{Ended, Short, Refused, Full}
 use Rattle.input.specs.Statements.{PlaySafe}
 
 -- A number for each way to stop.
 abbrev pub stop_order : Stop → ℕ
-stop_order Went = 0
 stop_order Ended = 1
 stop_order Short = 2
 stop_order Refused = 3
 stop_order Full = 4
+
+-- And one for a turn that did not stop the play.
+abbrev pub turn_order : Option Stop → ℕ
+turn_order None = 0
+turn_order (Some stop) = stop_order stop
 
 -- The card is left that the first calls of the bytes leave, as many as are counted, and what stops it is want of room or what stops the bytes.
 abbrev pub performed_test : Port → (Call → ℕ) → Card → List ℕ → Play → Bool

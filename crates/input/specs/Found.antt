@@ -1,13 +1,15 @@
 -- A record found in an input that arrives at a port, as the code has it.
-use Rattle.std.specs.Prelude.{ℕ, ◌-◌, ◌≤◌, ◌≡◌, List, length, take, drop, get_or}
+use Rattle.std.specs.Prelude.{ℕ, ◌-◌, ◌≤◌, ◌≡◌, List, length, take, drop, get_or, Ok, Err, Result}
 use Rattle.card.specs.declared.Port.{Port}
 use Rattle.decoding.specs.Decode.{ended, refused, sent, decode}
 use Rattle.input.specs.Play.{fault}
 use Rattle.input.specs.declared.Stop.{Stop}
-use Rattle.input.specs.declared.Stop.TheVariants.{Went, Ended, Short, Refused, Full}
+use Rattle.input.specs.declared.Stop.TheVariants.{Ended, Short, Refused, Full}
 use Rattle.input.specs.declared.Record.{Record}
-use Rattle.input.specs.declared.Found.{Found}
-use Rattle.input.specs.declared.Found.TheVariants.{Whole, Nothing}
+
+-- What an input holds from a place on: a whole record, or why there is none.
+abbrev pub Found : Type 0
+Found = Result Record Stop
 
 -- A whole record: what the input starts with, from the place on.
 pub record WholeIs (wire : Port) (input : List ℕ) (from : ℕ) (r : Record) : Type 0 where
@@ -18,12 +20,11 @@ pub record WholeIs (wire : Port) (input : List ℕ) (from : ℕ) (r : Record) : 
 
 -- No whole record: the input is at its end, or is refused 13.
 abbrev pub NothingIs : Port → List ℕ → Stop → Type 0
-NothingIs wire xs Went = ⊥
 NothingIs wire xs Ended = decode wire xs ≡ ended
 NothingIs wire xs Short = (decode wire xs ≡ refused) × (fault wire xs ≡ Short)
 NothingIs wire xs Refused = (decode wire xs ≡ refused) × (fault wire xs ≡ Refused)
 NothingIs wire xs Full = ⊥
 
 abbrev pub FoundIs : Port → List ℕ → ℕ → Found → Type 0
-FoundIs wire input from (Whole r) = WholeIs wire input from r
-FoundIs wire input from (Nothing stop) = NothingIs wire (drop from input) stop
+FoundIs wire input from (Ok r) = WholeIs wire input from r
+FoundIs wire input from (Err stop) = NothingIs wire (drop from input) stop

@@ -1,5 +1,5 @@
 -- What a play or a batch of bytes comes to, told by the calls that the bytes hold: those performed, what they answer and what they leave.
-use Rattle.std.specs.Prelude.{ℕ, ◌+◌, ◌-◌, ◌≡◌, List, [], ◌++◌, map, length, get_or}
+use Rattle.std.specs.Prelude.{ℕ, ◌+◌, ◌-◌, ◌≡◌, List, [], ◌++◌, map, length, get_or, None}
 use Rattle.card.specs.Card.{Card}
 use Rattle.card.specs.Session.{Reply, reply, performed, replies, after_all, Each}
 use Rattle.card.specs.declared.Port.{Port}
@@ -8,7 +8,7 @@ use Rattle.card.specs.Statements.Safe.{SafeCall}
 use Rattle.decoding.specs.Decode.{ended, refused, sent, decode}
 use Rattle.input.specs.Play.{Turn, halted, fault, Play}
 use Rattle.input.specs.Arrivals.{Arrived, arrivals, sent_with, written_of}
-use Rattle.input.specs.declared.Stop.TheVariants.{Went, Ended, Full}
+use Rattle.input.specs.declared.Stop.TheVariants.{Ended, Full}
 
 -- How records are performed: the port at which they arrive, the bytes lent to a call on a card with blocks of so many bytes, what is written of
 -- a record, and when there is no room for it.
@@ -47,7 +47,7 @@ module _ (m : Manner) where
     performs : (a : Arrived) (rest : List ℕ) → a.kind ≡ get_or xs 0 0 → decode m.wire xs ≡ sent a.port a.call a.payload rest
         → TurnIn before c xs room
         (record {
-          stop = Went;
+          stop = None;
           output = m.write (before + 1) a (reply (performed c (sent_with (m.size c.public.info.bytes) a)));
           after = (performed c (sent_with (m.size c.public.info.bytes) a)).after;
           left = rest;

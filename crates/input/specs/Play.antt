@@ -1,5 +1,5 @@
 -- Document 01, "Call records and the player": the lines of an input, and the card that it leaves.
-use Rattle.std.specs.Prelude.{ℕ, zero, suc, ◌+◌, ◌-◌, Bool, false, cond, List, [], ◌∷◌, ◌++◌, ltb, length, get_or}
+use Rattle.std.specs.Prelude.{ℕ, zero, suc, ◌+◌, ◌-◌, Bool, false, cond, List, [], ◌∷◌, ◌++◌, ltb, length, get_or, Option, Some, None}
 use Rattle.card.specs.Contents.{zeros}
 use Rattle.card.specs.Card.{Card}
 use Rattle.card.specs.Plan.{Result}
@@ -9,11 +9,9 @@ use Rattle.card.specs.declared.Port.TheVariants.{Service}
 use Rattle.card.specs.declared.Call.{Call}
 use Rattle.decoding.specs.Decode.{Next, ended, refused, sent, decode}
 use Rattle.kinds.specs.Kinds.{body_length}
-use Rattle.kinds.specs.declared.Length.{Length}
-use Rattle.kinds.specs.declared.Length.TheVariants.{Bytes, Unknown}
 use Rattle.lines.specs.Lines.{line, line_room, last_line}
 use Rattle.input.specs.declared.Stop.{Stop}
-use Rattle.input.specs.declared.Stop.TheVariants.{Went, Ended, Short, Refused, Full}
+use Rattle.input.specs.declared.Stop.TheVariants.{Ended, Short, Refused, Full}
 
 -- ---- one record
 
@@ -27,18 +25,18 @@ played port c call payload = perform port c (request call payload (zeros 512) (z
 
 -- What an input's first record leads to: what is written of it, the card after it and the input that is left, or why nothing was done.
 pub record Turn : Type 0 where
-  pub stop : Stop
+  pub stop : Option Stop
   pub output : List ℕ
   pub after : Card
   pub left : List ℕ
 
 abbrev pub halted : Stop → Card → List ℕ → Turn
-halted stop c xs = record { stop = stop; output = []; after = c; left = xs }
+halted stop c xs = record { stop = Some stop; output = []; after = c; left = xs }
 
 -- The bytes of a body are fewer than its kind fixes.
-unfoldable pub is_short : Length → ℕ → Bool
-is_short (Bytes n) size = ltb size n
-is_short Unknown size = false
+unfoldable pub is_short : Option ℕ → ℕ → Bool
+is_short (Some n) size = ltb size n
+is_short None size = false
 
 -- Why an input that starts with no whole record is refused 13: it ends within the record, or the record is wrong.
 unfoldable pub fault : Port → List ℕ → Stop
@@ -50,7 +48,7 @@ turn_of ordinal c xs ended = halted Ended c xs
 turn_of ordinal c xs refused = halted (fault player_port xs) c xs
 turn_of ordinal c xs (sent port call payload rest) =
     let r = played port c call payload in
-    record { stop = Went; output = line ordinal (get_or xs 0 0) call (reply r); after = r.after; left = rest }
+    record { stop = None; output = line ordinal (get_or xs 0 0) call (reply r); after = r.after; left = rest }
 
 unfoldable pub turn : ℕ → Card → List ℕ → Turn
 turn ordinal c xs = turn_of ordinal c xs (decode player_port xs)
@@ -73,13 +71,10 @@ output_before output p = record { stop = p.stop; output = output ++ p.output; re
 abbrev pub stopped : Stop → ℕ → Card → List ℕ → Play
 stopped stop records c xs = record { stop = stop; output = []; records = records; after = c; left = xs }
 
--- What one turn and, where it went, the rest of the play come to.
-unfoldable pub go_on : Stop → Turn → ℕ → (ℕ → Card → List ℕ → ℕ → Play) → ℕ → Play
-go_on Went t records rest room = output_before t.output (rest (records + 1) t.after t.left (room - length t.output))
-go_on Ended t records rest room = stopped Ended records t.after t.left
-go_on Short t records rest room = stopped Short records t.after t.left
-go_on Refused t records rest room = stopped Refused records t.after t.left
-go_on Full t records rest room = stopped Full records t.after t.left
+-- What one turn and, where it did not stop the play, the rest of the play come to.
+unfoldable pub go_on : Option Stop → Turn → ℕ → (ℕ → Card → List ℕ → ℕ → Play) → ℕ → Play
+go_on None t records rest room = output_before t.output (rest (records + 1) t.after t.left (room - length t.output))
+go_on (Some stop) t records rest room = stopped stop records t.after t.left
 
 -- Record after record, while there is room for a line. Each record takes a byte of the input at least, so that it has at most as many.
 unfoldable pub play_within : ℕ → ℕ → Card → List ℕ → ℕ → Play
@@ -93,7 +88,6 @@ play records c xs room = play_within (suc (length xs)) records c xs room
 
 -- The number of the last line: 0 at the end of the input, else 13.
 abbrev pub end_number : Stop → ℕ
-end_number Went = 13
 end_number Ended = 0
 end_number Short = 13
 end_number Refused = 13

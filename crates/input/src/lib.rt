@@ -3,18 +3,15 @@
 
 ghost use Rattle.std.specs.Prelude.{◌≤◌, length, ◌≡◌};
 ghost use Rattle.input.specs.Found.{FoundIs};
-ghost use Rattle.input.specs.Played.{is_went};
+ghost use Rattle.input.specs.declared.Stop.TheVariants.{Refused};
 
-use card::{Call, Info, Port};
-use decoding::Decoding;
-use kinds::Length;
+use card::{Call, Port};
+use fields::BadRecord;
 
-// Why a play of an input, or of its next record, stopped. A batch is served by the same turns: what is written is then an answer, not a line.
+// Why a play of an input stopped. A batch is served by the same turns: what is written is then an answer, not a line.
 #[derive(Drop)]
 #[derive(Clone, Copy)]
 pub enum Stop {
-    // It did not: the call was made, and its line or its answer written.
-    Went,
     // The input is at its end.
     Ended,
     // The input ends within a record.
@@ -36,85 +33,60 @@ pub struct Record {
     pub next: usize,
 }
 
-// What an input holds from a place on.
-#[derive(Drop)]
-#[derive(Clone, Copy)]
-pub enum Found {
-    Whole(Record),
-    Nothing(Stop),
+// A wrong record stops a play.
+impl From<BadRecord> for Stop {
+    ghost from_gives = { λ _ stop. stop ≡ Refused };
+
+    fn from(_bad: BadRecord) -> Stop {
+        Stop::Refused
+    }
 }
 
 // The record that starts at a place of an input that arrives at a port, or why there is none.
-pub fn find(wire: Port, input: &[u8], from: usize) -> Found
+pub fn find(wire: Port, input: &[u8], from: usize) -> Result<Record, Stop>
     requires { from ≤ length input.now }
     ensures { FoundIs wire input.now from result }
 {
     if from == input.len() {
-        return Found::Nothing(Stop::Ended);
+        return Err(Stop::Ended);
     }
     let kind = input[from];
     let start = from + 1;
     let body = &input[start..];
-    let Length::Bytes(length) = lengths::body_length(wire, kind) else {
-        return Found::Nothing(Stop::Refused);
+    let Some(length) = lengths::body_length(wire, kind) else {
+        return Err(Stop::Refused);
     };
     if body.len() < length {
-        return Found::Nothing(Stop::Short);
+        return Err(Stop::Short);
     }
     let parsed = records::decode(wire, kind, body);
-    let decoding = parsed.decoding;
-    match decoding {
-        Decoding::Bad => Found::Nothing(Stop::Refused),
-        Decoding::Decoded(port, call) => Found::Whole(Record {
-            kind,
-            port,
-            call,
-            payload: start + parsed.payload,
-            next: start + parsed.end,
-        }),
-    }
+    let (port, call) = parsed.decoding?;
+    Ok(Record {
+        kind,
+        port,
+        call,
+        payload: start + parsed.payload,
+        next: start + parsed.end,
+    })
 }
 
 // ---- how far a play has come
 
-// What is left after one record: the record of the card, and the place behind what was written of it.
-#[derive(Drop)]
-#[derive(Clone, Copy)]
-pub struct Wrote {
-    pub info: Info,
-    pub at: usize,
-}
-
-// Where a play stands after one turn.
+// Where a play stands after one turn, and why it stops there: for no reason where the call was made, and its line or its answer written.
 #[derive(Drop)]
 #[derive(Clone, Copy)]
 pub struct Turned {
-    pub stop: Stop,
-    pub info: Info,
+    pub stop: Option<Stop>,
     pub from: usize,
     pub at: usize,
 }
 
-// What a play comes to: why it stopped, the card's record, the records played, and how far it read and wrote.
+// What a play comes to: why it stopped, the records played, and how far it read and wrote.
 #[derive(Drop)]
 #[derive(Clone, Copy)]
 pub struct Part {
     pub stop: Stop,
-    pub info: Info,
     pub records: u64,
     pub read: usize,
     pub written: usize,
-}
-
-// Whether a turn went: its record was played or served.
-pub fn went(stop: Stop) -> bool
-    ensures { result ≡ is_went stop }
-{
-    match stop {
-        Stop::Went => true,
-        Stop::Ended => false,
-        Stop::Short => false,
-        Stop::Refused => false,
-        Stop::Full => false,
-    }
 }

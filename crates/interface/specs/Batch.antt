@@ -1,19 +1,16 @@
 -- What the function that serves a batch of call records leaves.
-use Rattle.std.specs.Prelude.{ℕ, ◌≡◌, List, length}
+use Rattle.std.specs.Prelude.{ℕ, ◌≡◌, List, length, Option, Some, None}
 use Rattle.card.specs.Card.{Card, card}
 use Rattle.card.specs.Lent.{Lent, LentNumber}
 use Rattle.card.specs.declared.Port.{Port}
 use Rattle.input.specs.Played.{PlayedIs}
 use Rattle.input.specs.declared.Stop.{Stop}
-use Rattle.input.specs.declared.Stop.TheVariants.{Went, Ended, Short, Refused, Full}
+use Rattle.input.specs.declared.Stop.TheVariants.{Ended, Short, Refused, Full}
 use Rattle.parameters.specs.Numbers.{record_length, record_of, numbers_of, wire_of}
-use Rattle.parameters.specs.declared.Wire.{Wire}
-use Rattle.parameters.specs.declared.Wire.TheVariants.{At, Nowhere}
 use Rattle.serving.specs.Serve.{serve}
 
 -- Why a batch stopped: 0 at the end of its input, 13 at a record refused 13, 256 at one cut short, 257 where its answer has no room.
 abbrev pub stop_number : Stop → ℕ
-stop_number Went = 0
 stop_number Ended = 0
 stop_number Short = 256
 stop_number Refused = 13
@@ -41,9 +38,9 @@ pub record ServedIfWhole (wire : Port) (before : BatchState) (input : List ℕ) 
   pub serves : length before.info ≡ record_length → BatchServed wire before input number after
 
 -- Before that, at no port: refused 13 with nothing changed.
-unfoldable pub BatchIs : Wire → BatchState → List ℕ → ℕ → BatchState → Type 0
-BatchIs Nowhere before input number after = (number ≡ 13) × (after ≡ before)
-BatchIs (At wire) before input number after = ServedIfWhole wire before input number after
+unfoldable pub BatchIs : Option Port → BatchState → List ℕ → ℕ → BatchState → Type 0
+BatchIs None before input number after = (number ≡ 13) × (after ≡ before)
+BatchIs (Some wire) before input number after = ServedIfWhole wire before input number after
 
 abbrev pub batch_state : List ℕ → List ℕ → List ℕ → List ℕ → List ℕ → List ℕ → List ℕ → List ℕ → List ℕ → ℕ → ℕ → ℕ → BatchState
 batch_state info flags keys counts pointers multiplicities windows contents answers records read written = record {

@@ -1,13 +1,11 @@
 -- The functions that C links, with their operands and what is lent with them beside the record and the tables; and what each does.
-use Rattle.std.specs.Prelude.{ℕ, List, []}
+use Rattle.std.specs.Prelude.{ℕ, List, [], Ok}
 use Rattle.card.specs.Card.{Card}
 use Rattle.card.specs.declared.Port.TheVariants.{Host}
 use Rattle.card.specs.declared.Mode.{Mode}
 use Rattle.card.specs.declared.Mode.TheVariants.{Reading, Writing}
 use Rattle.card.specs.declared.Call.TheVariants.{Force, Free, Tick, Audit, Rent, Sweep}
-use Rattle.decoding.specs.Decode.{read_with, write_with, alloc_with, alloc_contig_with, create_with, delete_with, delete_tree_with, key_with, renew_with}
-use Rattle.decoding.specs.declared.Decoding.{Decoding}
-use Rattle.decoding.specs.declared.Decoding.TheVariants.{Decoded}
+use Rattle.decoding.specs.Decode.{Decoding, read_with, write_with, alloc_with, alloc_contig_with, create_with, delete_with, delete_tree_with, key_with, renew_with}
 use Rattle.parameters.specs.Numbers.{credential_of, new_key_of, wire_of, at_port, decode_at}
 use Rattle.adapter.specs.Effects.{Effect, effect, data_in}
 
@@ -57,12 +55,12 @@ lending_of (delete_tree port source credential destination value) = lending (at_
 lending_of (key_read port block credential key) = lending (key_call_at Reading port block credential key) [] [] [] 0
 lending_of (key_write port block credential key) = lending (key_call_at Writing port block credential key) [] [] [] 0
 lending_of (renew mode block credential interval) = lending (renew_with Host mode block (credential_of credential) interval) [] [] [] 0
-lending_of (force block) = lending (Decoded Host (Force (record { block = block }))) [] [] [] 0
-lending_of (tick seconds value) = lending (Decoded Host (Tick (record { seconds = seconds }))) [] [] [] value
-lending_of (free value) = lending (Decoded Host Free) [] [] [] value
-lending_of audit = lending (Decoded Host Audit) [] [] [] 0
-lending_of (rent price value) = lending (Decoded Host (Rent (record { price = price }))) [] [] [] value
-lending_of (sweep most value) = lending (Decoded Host (Sweep (record { most = most }))) [] [] [] value
+lending_of (force block) = lending (Ok (Host, Force (record { block = block }))) [] [] [] 0
+lending_of (tick seconds value) = lending (Ok (Host, Tick (record { seconds = seconds }))) [] [] [] value
+lending_of (free value) = lending (Ok (Host, Free)) [] [] [] value
+lending_of audit = lending (Ok (Host, Audit)) [] [] [] 0
+lending_of (rent price value) = lending (Ok (Host, Rent (record { price = price }))) [] [] [] value
+lending_of (sweep most value) = lending (Ok (Host, Sweep (record { most = most }))) [] [] [] value
 lending_of (serve port kind body out places value) =
     lending (decode_at (wire_of port) kind body) (data_in (decode_at (wire_of port) kind body) body) out places value
 

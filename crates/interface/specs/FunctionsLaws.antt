@@ -1,8 +1,8 @@
 -- Laws of the functions that C links.
 use Rattle.std.specs.Prelude.{ℕ, ◌≡◌, List, []}
 use Rattle.card.specs.Card.{Card}
-use Rattle.decoding.specs.declared.Decoding.{Decoding}
 use Rattle.adapter.specs.Effects.{effect, Gives}
+use Rattle.decoding.specs.Decode.{Decoding}
 
 -- A function without buffers does what a call does that is the one performed.
 pub gives_by : (value : ℕ) (info : List ℕ) (c : Card) {performed call : Decoding} {number given : ℕ} {numbers : List ℕ} {after : Card}

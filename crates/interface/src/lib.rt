@@ -1,6 +1,6 @@
 // The functions behind those that C links, which `interface_c` exports: the card's record as a lent slice of numbers, tables and buffers as slices,
 // enums as numbers, credentials and new keys as bytes. Each makes a call of its operands and performs it, as a call record is.
-// include/negvask.h describes them.
+// include/negvask.h describes them. Their parameters are those that C passes: a card is made of the record and the tables only behind them.
 #![tactic(auto)]
 
 ghost use Rattle.std.specs.Prelude.{◌≡◌, []};
@@ -9,9 +9,8 @@ ghost use Rattle.adapter.specs.Effects.{format_effect, reach_effect, unlocking_e
 ghost use Rattle.interface.specs.Functions.{read, write, alloc, alloc_contig, create, delete, delete_tree, key_read, key_write, renew, force, tick, free, audit, rent, sweep, serve, effect_by};
 ghost use Rattle.interface.specs.Batch.{stop_number, ServesBatch};
 
-use card::Mode;
+use card::{LentCard, Mode, SharedCard};
 use input::Stop;
-use parameters::Wire;
 
 // ---- the calls, by their operands
 
@@ -573,11 +572,8 @@ pub fn negvask_format(
     if info.len() != parameters::RECORD_LENGTH {
         return 1;
     }
-    let outcome = format::format(
-        parameters::load(info),
-        blocks as usize,
-        roots as usize,
-        bytes as usize,
+    let mut card = LentCard {
+        info: parameters::load(info),
         flags,
         keys,
         counts,
@@ -585,9 +581,10 @@ pub fn negvask_format(
         multiplicities,
         windows,
         contents,
-    );
+    };
+    let answer = format::format(&mut card, blocks as usize, roots as usize, bytes as usize);
     let mut value = 0;
-    adapter::settle(info, outcome, &mut value)
+    adapter::settle(info, card.info, answer, &mut value)
 }
 
 // ---- the reach report
@@ -611,8 +608,8 @@ pub fn negvask_reach(
     if info.len() != parameters::RECORD_LENGTH {
         return 1;
     }
-    let answer = reach::reach(
-        parameters::load(info),
+    let card = SharedCard {
+        info: parameters::load(info),
         flags,
         keys,
         counts,
@@ -620,9 +617,8 @@ pub fn negvask_reach(
         multiplicities,
         windows,
         contents,
-        given,
-        places,
-    );
+    };
+    let answer = reach::reach(card, given, places);
     adapter::report(answer, value)
 }
 
@@ -646,8 +642,8 @@ pub fn negvask_unlocking(
     if info.len() != parameters::RECORD_LENGTH {
         return 1;
     }
-    let answer = unlocking::unlocking(
-        parameters::load(info),
+    let card = SharedCard {
+        info: parameters::load(info),
         flags,
         keys,
         counts,
@@ -655,10 +651,8 @@ pub fn negvask_unlocking(
         multiplicities,
         windows,
         contents,
-        given,
-        block,
-        places,
-    );
+    };
+    let answer = unlocking::unlocking(card, given, block, places);
     adapter::report(answer, value)
 }
 
@@ -706,12 +700,11 @@ pub fn negvask_serve(
 
 // ---- a batch of call records
 
-// Why a batch stopped: 13, or numbers that no refusal has.
+// Why a batch stopped: 13, or numbers that no refusal has. No `From`: these numbers are C's alone, and the player's last line has others.
 fn stop_number(stop: Stop) -> u32
     ensures { result ≡ stop_number stop }
 {
     match stop {
-        Stop::Went => 0,
         Stop::Ended => 0,
         Stop::Short => 256,
         Stop::Refused => 13,
@@ -738,15 +731,14 @@ pub fn negvask_batch(
 ) -> u32
     ensures { ServesBatch port (changed info.old info.new) (changed flags.old flags.new) (changed keys.old keys.new) (changed counts.old counts.new) (changed pointers.old pointers.new) (changed multiplicities.old multiplicities.new) (changed windows.old windows.new) (changed contents.old contents.new) (kept input.now) (changed answers.old answers.new) (changed records.old records.new) (changed read.old read.new) (changed written.old written.new) result }
 {
-    let Wire::At(wire) = parameters::wire_of(port) else {
+    let Some(wire) = parameters::wire_of(port) else {
         return 13;
     };
     if info.len() != parameters::RECORD_LENGTH {
         return 1;
     }
-    let part = batch::serve(
-        wire,
-        parameters::load(info),
+    let mut card = LentCard {
+        info: parameters::load(info),
         flags,
         keys,
         counts,
@@ -754,12 +746,10 @@ pub fn negvask_batch(
         multiplicities,
         windows,
         contents,
-        input,
-        answers,
-    );
-    let after = part.info;
+    };
+    let part = batch::serve(wire, &mut card, input, answers);
     let stop = part.stop;
-    parameters::store(info, after);
+    parameters::store(info, card.info);
     *records = part.records;
     *read = part.read as u64;
     *written = part.written as u64;

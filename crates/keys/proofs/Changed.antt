@@ -1,4 +1,5 @@
 -- The cards that KEY_READ, KEY_WRITE, RENEW and FORCE leave.
+use Rattle.std.specs.Prelude.{Option}
 use Prim.Native.Nat.{ℕ, ◌+◌, ◌*◌}
 use mathlib.Core.Path.{◌≡◌}
 use mathlib.Core.List.{List, [], ◌∷◌}
@@ -8,7 +9,6 @@ use Rattle.card.specs.Plan.{set_window, set_key, keyed_flags, replace_key, chang
 use Rattle.card.specs.Calls.{window_after, close_windows, mode_of}
 use Rattle.windows.proofs.Windows.{windowed, after_whole}
 use Rattle.card.specs.declared.Mode.{Mode}
-use Rattle.card.specs.declared.NewKey.{NewKey}
 
 module _ (c : Card) (b : ℕ) where
   -- Both windows closed.
@@ -18,7 +18,7 @@ module _ (c : Card) (b : ℕ) where
   closes_windows e = rw e
 
   -- One key set, and both windows closed.
-  pub replaces_key : (mode : Mode) (key : NewKey) {x : ℕ} {keys windows : List ℕ} → x ≡ keyed_flags (get_or c.public.flags b 0) mode key
+  pub replaces_key : (mode : Mode) (key : Option (ℕ × ℕ)) {x : ℕ} {keys windows : List ℕ} → x ≡ keyed_flags (get_or c.public.flags b 0) mode key
       → keys ≡ replace_key c.keys mode b key
       → windows ≡ set (set c.public.windows (2 * b) 0) (2 * b + 1) 0
       → card c.public.info (set c.public.flags b x) keys c.public.counts c.public.pointers c.public.multiplicities windows c.contents

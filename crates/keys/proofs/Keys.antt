@@ -1,4 +1,5 @@
 -- A key's flag is low; the operation that a mode number names; one plan for KEY_READ and KEY_WRITE.
+use Rattle.std.specs.Prelude.{Option, is_some}
 use Prim.Native.Nat.{ℕ, ◌+◌, ◌≤◌}
 use mathlib.Core.Path.{◌≡◌}
 use mathlib.Core.Bool.{Bool, true, false}
@@ -7,7 +8,7 @@ use native.Mathlib.Omega.{arith}
 use borrow.Author.Tests.{eq-eqb, ne_eqb}
 use Rattle.card.specs.Card.{Card, key_flag}
 use Rattle.card.specs.Access.{admits}
-use Rattle.card.specs.Plan.{is_present, other_mode, key_bit, keyed_flags, judge_sound}
+use Rattle.card.specs.Plan.{other_mode, key_bit, keyed_flags, judge_sound}
 use Rattle.card.specs.Promises.{Is}
 use Rattle.card.specs.Calls.{mode_of, key_plan}
 use Rattle.card.specs.Session.{key_call, request, perform_sound}
@@ -15,9 +16,8 @@ use Rattle.laws.specs.SessionLaws.{plan_key}
 use Rattle.card.specs.declared.Port.{Port}
 use Rattle.card.specs.declared.Mode.{Mode}
 use Rattle.card.specs.declared.Mode.TheVariants.{Reading, Writing}
-use Rattle.card.specs.declared.NewKey.{NewKey}
 use Rattle.card.specs.declared.KeyOperands.{KeyOperands}
-use Rattle.card.specs.declared.Answer.{Answer}
+use Rattle.card.specs.Answers.{Answer}
 
 pub bit_low : (mode : Mode) (there : Bool) → key_bit mode there ≤ 4
 bit_low Reading false = omega arith
@@ -25,7 +25,7 @@ bit_low Writing false = omega arith
 bit_low Reading true = omega arith
 bit_low Writing true = omega arith
 
-pub keyed : (f : ℕ) (mode : Mode) (key : NewKey) {other : Mode} {own there : Bool} {x y : ℕ} → other ≡ other_mode mode → own ≡ is_present key → x ≡ key_bit mode own
+pub keyed : (f : ℕ) (mode : Mode) (key : Option (ℕ × ℕ)) {other : Mode} {own there : Bool} {x y : ℕ} → other ≡ other_mode mode → own ≡ is_some key → x ≡ key_bit mode own
     → there ≡ key_flag other f
     → y ≡ key_bit other there
     → 1 + x + y ≡ keyed_flags f mode key

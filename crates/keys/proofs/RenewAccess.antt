@@ -9,8 +9,6 @@ use Rattle.card.specs.Access.{opens, opens_root, opens_pointed}
 use Rattle.card.specs.Calls.{mode_of}
 use Rattle.card.specs.declared.Mode.{Mode}
 use Rattle.card.specs.declared.Credential.TheVariants.{Key}
-use Rattle.access.specs.Accessible.{bare}
-use Rattle.access.specs.AccessibleLaws.{opens_bare}
 
 -- A key opens no block that has no key for the mode.
 keyed_if_open : (k r : Bool) (x : Bool) → cond k x (cond r false false) ≡ true → k ≡ true
@@ -22,9 +20,9 @@ key_opens_keyed : (c : Card) (mode : Mode) (b high low : ℕ) → opens c mode b
 unfolding opens opens_root opens_pointed
 key_opens_keyed c mode b high low e = keyed_if_open (has_key c.public mode b) (is_root c.public b) _ e
 
-module _ (c : Card) (number b high low : ℕ) {mode : Mode} (named : mode ≡ mode_of number) {a : Bool} (told : a ≡ opens (bare c) mode b (Key high low)) where
+module _ (c : Card) (number b high low : ℕ) {mode : Mode} (named : mode ≡ mode_of number) {a : Bool} (told : a ≡ opens c mode b (Key high low)) where
   opened_is : a ≡ opens c (mode_of number) b (Key high low)
-  opened_is = told ∙ opens_bare c mode b (Key high low) ∙ ap (λ (m : Mode). opens c m b (Key high low)) named
+  opened_is = told ∙ ap (λ (m : Mode). opens c m b (Key high low)) named
 
   pub unopened_holds : not a ≡ true → not (has_key c.public (mode_of number) b) || not (opens c (mode_of number) b (Key high low)) ≡ true
   unopened_holds e = or_right (not (has_key c.public (mode_of number) b)) (not (opens c (mode_of number) b (Key high low))) (sym (ap not opened_is) ∙ e)

@@ -1,13 +1,11 @@
 -- The lengths that are worked out from a kind are those of its call.
-use Rattle.std.specs.Prelude.{ℕ, ◌≡◌, refl}
+use Rattle.std.specs.Prelude.{ℕ, ◌≡◌, refl, Some}
 use Rattle.std.proofs.Common.{sym, ap, ◌∙◌}
 use Rattle.card.specs.declared.Port.{Port}
 use Rattle.card.specs.declared.Port.TheVariants.{Host, Service}
 use Rattle.kinds.specs.Kinds.{row, kind_number, length_of, data_length, operands_length, lengths_of, kind_of}
 use Rattle.kinds.proofs.KindsLaws.{kind_number_law}
 use Rattle.kinds.specs.Arithmetic.{number_of, has_credential, part_of, behind_credential, without_credential, operands_at, lengths_numbered, lengths_at}
-use Rattle.kinds.specs.declared.Kind.{Kind}
-use Rattle.kinds.specs.declared.Kind.TheVariants.{Known}
 use Rattle.kinds.specs.declared.Lengths.{Lengths}
 use Rattle.kinds.specs.declared.Name.{Name}
 use Rattle.kinds.specs.declared.Name.TheVariants.{Read as READ, Write as WRITE, Alloc as ALLOC, Create as CREATE, Delete as DELETE, KeyRead as KEY-READ, Renew as RENEW, Force as FORCE, Free as FREE, Tick as TICK, Audit as AUDIT, AllocContig as ALLOC-CONTIG, KeyWrite as KEY-WRITE, DeleteTree as DELETE-TREE}
@@ -43,7 +41,6 @@ number_lengths Service ALLOC-CONTIG = refl
 number_lengths Service KEY-WRITE = refl
 number_lengths Service DELETE-TREE = refl
 
-pub kind_lengths : (wire : Port) (kind : ℕ) {known : Kind} {port : Port} {name : Name} {l : Lengths}
-    → known ≡ kind_of wire kind → known ≡ Known port name → l ≡ lengths_at kind
+pub kind_lengths : (wire : Port) (kind : ℕ) {port : Port} {name : Name} {l : Lengths} → Some (port, name) ≡ kind_of wire kind → l ≡ lengths_at kind
     → l ≡ lengths_of name
-kind_lengths wire kind {port = port} {name = name} e q h = h ∙ ap lengths_at (kind_number_law wire kind (sym e ∙ q)) ∙ number_lengths port name
+kind_lengths wire kind {port = port} {name = name} e h = h ∙ ap lengths_at (kind_number_law wire kind (sym e)) ∙ number_lengths port name

@@ -1,5 +1,6 @@
 -- `all_kinds` and `lengths_worked_out` as tests, and a row for each mistake in the rules of kinds that a must-fail edit makes: true by the theorem, and
 -- false with the mistake.
+use Rattle.std.specs.Prelude.{Option, Some, None}
 use Prim.Native.Nat.{ℕ, ◌+◌}
 use mathlib.Core.Path.{◌≡◌, refl, ap}
 use mathlib.Core.Bool.{Bool, true}
@@ -13,18 +14,16 @@ use Rattle.card.specs.declared.Port.TheVariants.{Host, Service}
 use Rattle.kinds.specs.Kinds.{row, names, kind_number, length_of, among, kind_of, kind_length, body_length}
 use Rattle.kinds.specs.Arithmetic.{number_of, has_credential, part_of, behind_credential, without_credential, operands_at, lengths_numbered, lengths_at}
 use Rattle.kinds.specs.AllKinds.{expected, AllKinds, worked_out, LengthsWorkedOut}
-use Rattle.kinds.specs.declared.Length.{Length}
-use Rattle.kinds.specs.declared.Length.TheVariants.{Bytes, Unknown}
 
 -- A length as a number, 0 where there is none.
-abbrev length_number : Length → ℕ
-length_number (Bytes n) = n + 1
-length_number Unknown = 0
+abbrev length_number : Option ℕ → ℕ
+length_number (Some n) = n + 1
+length_number None = 0
 
-abbrev numbers : List Length → List ℕ
+abbrev numbers : List (Option ℕ) → List ℕ
 numbers lengths = map length_number lengths
 
-abbrev expected_of : (ℕ → Length) → Port → Bool
+abbrev expected_of : (ℕ → Option ℕ) → Port → Bool
 expected_of lengthOfKind wire = same_list (numbers (map lengthOfKind (numbers_below (λ kind. true) 256))) (numbers (expected wire))
 
 abbrev pub all_kinds_test : Port → Bool

@@ -1,15 +1,11 @@
 -- Document 01, "Call records and the player", 2026-01, 2026-02 and 2026-07: the kinds of records, and the lengths of their bodies.
-use Rattle.std.specs.Prelude.{ℕ, ◌+◌, ◌-◌, Bool, true, false, cond, List, [], ◌∷◌, map, eqb}
+use Rattle.std.specs.Prelude.{ℕ, ◌+◌, ◌-◌, Bool, true, false, cond, List, [], ◌∷◌, map, eqb, Option, Some, None}
 use Rattle.card.specs.Pointers.{contains}
 use Rattle.card.specs.declared.Port.{Port}
 use Rattle.card.specs.declared.Port.TheVariants.{Host, Service}
 use Rattle.kinds.specs.declared.Name.{Name}
 use Rattle.kinds.specs.declared.Name.TheVariants.{Read as READ, Write as WRITE, Alloc as ALLOC, Create as CREATE, Delete as DELETE, KeyRead as KEY-READ, Renew as RENEW, Force as FORCE, Free as FREE, Tick as TICK, Audit as AUDIT, AllocContig as ALLOC-CONTIG, KeyWrite as KEY-WRITE, DeleteTree as DELETE-TREE}
-use Rattle.kinds.specs.declared.Kind.{Kind}
-use Rattle.kinds.specs.declared.Kind.TheVariants.{Known, Unknown}
 use Rattle.kinds.specs.declared.Lengths.{Lengths}
-use Rattle.kinds.specs.declared.Length.{Length}
-use Rattle.kinds.specs.declared.Length.TheVariants.{Bytes, Unknown as UnknownLength}
 
 infix 20 ◌body◌payload◌
 -- A kind at the host port, the length of its body, and how many of its bytes, the last, are data.
@@ -80,20 +76,20 @@ takes Host Service = false
 takes Service port = true
 
 -- The call among those of a port whose kind is the number, or else another answer.
-unfoldable pub among : ℕ → Port → List Name → Kind → Kind
+unfoldable pub among : ℕ → Port → List Name → Option (Port × Name) → Option (Port × Name)
 among kind port [] other = other
-among kind port (name ∷ rest) other = cond (eqb kind (kind_number port name)) (Known port name) (among kind port rest other)
+among kind port (name ∷ rest) other = cond (eqb kind (kind_number port name)) (Some (port, name)) (among kind port rest other)
 
 -- What a byte of kind says that arrives at a port: the port of its call, and the call.
 -- At the service port both sorts are taken; at the host port a kind of the service port is a kind that does not exist.
-unfoldable pub kind_of : Port → ℕ → Kind
-kind_of Host kind = among kind Host (names Host) Unknown
-kind_of Service kind = among kind Host (names Host) (among kind Service (names Service) Unknown)
+unfoldable pub kind_of : Port → ℕ → Option (Port × Name)
+kind_of Host kind = among kind Host (names Host) None
+kind_of Service kind = among kind Host (names Host) (among kind Service (names Service) None)
 
-unfoldable pub kind_length : Kind → Length
-kind_length (Known port name) = Bytes (length_of name)
-kind_length Unknown = UnknownLength
+unfoldable pub kind_length : Option (Port × Name) → Option ℕ
+kind_length (Some (port, name)) = Some (length_of name)
+kind_length None = None
 
 -- The length of a kind's body, where there is such a kind at the port.
-unfoldable pub body_length : Port → ℕ → Length
+unfoldable pub body_length : Port → ℕ → Option ℕ
 body_length wire kind = kind_length (kind_of wire kind)

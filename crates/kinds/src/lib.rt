@@ -3,8 +3,6 @@
 // There is no code here: `lengths` tells kinds by this rule.
 #![tactic(auto)]
 
-use card::Port;
-
 // The calls that a record may hold.
 #[derive(Drop)]
 #[derive(Clone, Copy)]
@@ -25,26 +23,10 @@ pub enum Name {
     DeleteTree,
 }
 
-// What the byte of kind says.
-#[derive(Drop)]
-#[derive(Clone, Copy)]
-pub enum Kind {
-    Known(Port, Name),
-    Unknown,
-}
-
 // The lengths of a call's operands and of its body.
 #[derive(Drop)]
 #[derive(Clone, Copy)]
 pub struct Lengths {
     pub operands: usize,
     pub body: usize,
-}
-
-// The length of a body, where there is such a kind.
-#[derive(Drop)]
-#[derive(Clone, Copy)]
-pub enum Length {
-    Bytes(usize),
-    Unknown,
 }

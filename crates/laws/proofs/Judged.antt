@@ -1,9 +1,9 @@
 -- What a call leaves, by cases: the card itself where it is refused, the plan's changes of a sound card where it is done. What its checks answer.
+use Rattle.std.specs.Prelude.{Option, None, Some}
 use mathlib.Core.Path.{◌≡◌, refl, sym, ap, ◌∙◌, subst}
 use mathlib.Core.Logic.{⊎_elim}
 use mathlib.Core.Bool.{true, false}
 use mathlib.Core.List.{List}
-use mathlib.Core.Option.{Option, none, some}
 use Rattle.laws.specs.ListsLaws.{not_cases, absurd_test}
 use Rattle.card.specs.Card.{Card}
 use Rattle.card.specs.Soundness.{shape, sound}
@@ -14,16 +14,16 @@ use Rattle.laws.specs.PlanLaws.{holds_first, first_holds, none_first, first_none
 use Rattle.card.specs.Calls.{is_done}
 use Rattle.card.specs.Statements.Refusals.{RefusedBy}
 use Rattle.card.specs.declared.Refusal.{Refusal}
-use Rattle.card.specs.declared.Answer.TheVariants.{Refused}
+use Rattle.card.specs.Answers.{Refused}
 
 module _ (P : Result → Type 0) (c : Card) (lent : Buffers) (plan : Plan) (kept : (r : Refusal) → P (refused c lent r)) where
-  settled : (o : Option Refusal) → (o ≡ none → P (settle c lent plan none)) → P (settle c lent plan o)
+  settled : (o : Option Refusal) → (o ≡ None → P (settle c lent plan None)) → P (settle c lent plan o)
   unfolding settle
-  settled none f = f refl
-  settled (some r) f = kept r
+  settled None f = f refl
+  settled (Some r) f = kept r
 
   -- What holds of every refusal on the card, and of the plan done on the card if it is sound, holds of the call.
-  pub judge_cases : (SoundCard c → NoneHolds plan.checks → P (settle c lent plan none)) → P (judge c lent plan)
+  pub judge_cases : (SoundCard c → NoneHolds plan.checks → P (settle c lent plan None)) → P (judge c lent plan)
   unfolding judge_sound
   judge_cases f =
       ⊎_elim
@@ -49,15 +49,15 @@ judge_after P c lent plan same f = judge_cases (λ (r : Result). P r.after) c le
 
 -- By the first condition that holds, if any, where the plan itself answers no refusal.
 module _ (c : Card) (lent : Buffers) (plan : Plan) (answers : is_done plan.answer ≡ true) where
-  refused_first : (r : Refusal) (o : Option Refusal) → (settle c lent plan o).answer ≡ Refused r → o ≡ some r
+  refused_first : (r : Refusal) (o : Option Refusal) → (settle c lent plan o).answer ≡ Refused r → o ≡ Some r
   unfolding settle
-  refused_first r none e = absurd_test answers (ap is_done e)
-  refused_first r (some s) e = cc
+  refused_first r None e = absurd_test answers (ap is_done e)
+  refused_first r (Some s) e = cc
 
-  done_first : (o : Option Refusal) → is_done (settle c lent plan o).answer ≡ true → o ≡ none
+  done_first : (o : Option Refusal) → is_done (settle c lent plan o).answer ≡ true → o ≡ None
   unfolding settle
-  done_first none e = refl
-  done_first (some r) e = absurd_test e refl
+  done_first None e = refl
+  done_first (Some r) e = absurd_test e refl
 
   pub judged_iff : RefusedBy (audited c plan.checks) (judge c lent plan).answer
   unfolding judge settle

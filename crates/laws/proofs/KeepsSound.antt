@@ -22,8 +22,7 @@ use Rattle.card.specs.declared.Port.{Port}
 use Rattle.card.specs.declared.Port.TheVariants.{Host, Service}
 use Rattle.card.specs.declared.Mode.{Mode}
 use Rattle.card.specs.declared.Mode.TheVariants.{Reading, Writing}
-use Rattle.card.specs.declared.ReadOperands.{ReadOperands}
-use Rattle.card.specs.declared.WriteOperands.{WriteOperands}
+use Rattle.card.specs.declared.TransferOperands.{TransferOperands}
 use Rattle.card.specs.declared.AllocOperands.{AllocOperands}
 use Rattle.card.specs.declared.CreateOperands.{CreateOperands}
 use Rattle.card.specs.declared.DeleteOperands.{DeleteOperands}
@@ -70,14 +69,14 @@ close_windows_sound : {c : Card} (b : ℕ) → SoundCard c → allocated c.publi
 unfolding changes change change_public allocated
 close_windows_sound b s a = set_window_sound Writing b 0 (set_window_sound Reading b 0 s a (omega arith)) a (omega arith)
 
-read_sound : (port : Port) (c : Card) (opened : Bool) (o : ReadOperands) (size : ℕ) → SoundCard c
+read_sound : (port : Port) (c : Card) (opened : Bool) (o : TransferOperands) (size : ℕ) → SoundCard c
     → NoneHolds (read_plan port c.public opened o size).checks → SoundCard (changes c (read_plan port c.public opened o size).steps)
 unfolding read_plan
 read_sound port c opened o size s h =
     opens_window_sound port Reading o.block o.interval s (not_missing _ _ h.1.0)
     (ltb-false longest_interval o.interval (or_false_right (not (eqb size c.public.info.bytes)) _ h.0))
 
-write_sound : (port : Port) (c : Card) (opened : Bool) (o : WriteOperands) (input : List ℕ) → SoundCard c
+write_sound : (port : Port) (c : Card) (opened : Bool) (o : TransferOperands) (input : List ℕ) → SoundCard c
     → NoneHolds (write_plan port c.public opened o input).checks → SoundCard (changes c (write_plan port c.public opened o input).steps)
 unfolding write_plan changes change change_public
 write_sound port c opened o input s h =

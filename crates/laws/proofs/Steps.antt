@@ -1,4 +1,5 @@
 -- Changes of windows, contents, time and keys keep soundness, under the conditions that a call's checks give them.
+use Rattle.std.specs.Prelude.{Option, is_some}
 use Prim.Native.Nat.{ℕ, ◌+◌, ◌*◌, ◌≤◌, ◌<◌}
 use mathlib.Core.Path.{◌≡◌, refl, sym, ap, ◌∙◌, subst}
 use mathlib.Core.Logic.{⊎_elim}
@@ -17,9 +18,8 @@ use Rattle.card.specs.Card.{Public, Card, card, flag, allocated_flag, key_flag, 
 use Rattle.card.specs.Soundness.{time_limit, most_blocks, pointer_right}
 use Rattle.card.specs.SoundCard.{Shaped, KeyZero, Empty, RightPointer, SoundCard}
 use Rattle.laws.specs.SoundnessLaws.{pointer_right_true, true_pointer_right, allocated_below, allocated_flag_law, flag_allocated, waiting_below, waiting_flag_law, waiting_unallocated}
-use Rattle.card.specs.Plan.{set_window, set_block, set_key, sweep_block, set_time, is_present, other_mode, keyed_flags, with_flags, change_public, change_keys, change_contents, change}
+use Rattle.card.specs.Plan.{set_window, set_block, set_key, sweep_block, set_time, other_mode, keyed_flags, with_flags, change_public, change_keys, change_contents, change}
 use Rattle.card.specs.declared.Mode.{Mode}
-use Rattle.card.specs.declared.NewKey.{NewKey}
 use Rattle.laws.specs.ChangesLaws.{get_d_set_either, get_d_set_cases, window_at_block, other_mode_law, mode_or_other, keyed_low, keyed_allocated, keyed_own, keyed_other, absent_high, absent_low, replace_key_length, replaced_high, replaced_low, kept_high, kept_low}
 
 -- ---- shape
@@ -212,7 +212,7 @@ set_flag_pointers p b v odd ws h =
     h
 
 -- Set the key of an allocated block for a mode: the other key, and the keys of other blocks, are as they were.
-pub set_key_sound : {c : Card} (mode : Mode) (b : ℕ) (key : NewKey) → SoundCard c → allocated c.public b ≡ true → SoundCard (change c (set_key mode b key))
+pub set_key_sound : {c : Card} (mode : Mode) (b : ℕ) (key : Option (ℕ × ℕ)) → SoundCard c → allocated c.public b ≡ true → SoundCard (change c (set_key mode b key))
 unfolding change change_public change_keys change_contents pointer_right allocated
 set_key_sound {c} mode b key s a =
     let p : Public = c.public in
@@ -226,7 +226,7 @@ set_key_sound {c} mode b key s a =
     let keys_kept : (m : Mode) (x : ℕ) → (m ≡ mode → x ≡ b → ⊥) → KeyZero c m x → KeyZero d m x = λ m x apart.
     key_zero_from (kept_high c.keys mode b key m x apart) (kept_low c.keys mode b key m x apart) in
     let own : key_flag mode v ≡ false → KeyZero d mode b = λ e.
-    let none : is_present key ≡ false = sym (keyed_own f mode key) ∙ e in
+    let none : is_some key ≡ false = sym (keyed_own f mode key) ∙ e in
     record {
       high = replaced_high c.keys mode b key fits ∙ absent_high key none;
       low = replaced_low c.keys mode b key fits ∙ absent_low key none;

@@ -1,9 +1,8 @@
 -- A call leaves the lent buffers that it has no use for: what is right without them is right with them.
-use Rattle.std.specs.Prelude.{ℕ, ◌≡◌}
+use Rattle.std.specs.Prelude.{ℕ, ◌≡◌, Option, None, Some}
 use Rattle.std.proofs.Math.Path.{refl}
 use Rattle.std.proofs.Common.{◌∙◌}
 use mathlib.Core.List.{List, []}
-use Rattle.std.proofs.Math.Option.{Option, none, some}
 use Rattle.card.specs.Card.{Card}
 use Rattle.card.specs.Plan.{Shown, nothing, block_part, numbers, Plan, Buffers, first, out_after, places_after, settle, judge_sound, changes}
 use Rattle.laws.specs.PlanLaws.{done_by}
@@ -15,10 +14,9 @@ use Rattle.card.specs.declared.Port.{Port}
 use Rattle.card.specs.declared.Mode.{Mode}
 use Rattle.card.specs.declared.Mode.TheVariants.{Reading, Writing}
 use Rattle.card.specs.declared.Refusal.{Refusal}
-use Rattle.card.specs.declared.Answer.{Answer}
-use Rattle.card.specs.declared.Answer.TheVariants.{Done}
-use Rattle.card.specs.declared.ReadOperands.{ReadOperands}
-use Rattle.card.specs.declared.WriteOperands.{WriteOperands}
+use Rattle.card.specs.Answers.{Answer}
+use Rattle.card.specs.Answers.{Done}
+use Rattle.card.specs.declared.TransferOperands.{TransferOperands}
 use Rattle.card.specs.declared.AllocOperands.{AllocOperands}
 use Rattle.card.specs.declared.CreateOperands.{CreateOperands}
 use Rattle.card.specs.declared.DeleteOperands.{DeleteOperands}
@@ -40,10 +38,10 @@ module _ (c : Card) (p : Plan) {answer : Answer} {after : Card} where
   nothing_settled : (shown : Shown) → p.shown ≡ shown → shown ≡ nothing → (o : Option Refusal) (i input out places : List ℕ)
       → Is (settle c (buffers i [] []) p o) answer after [] [] → Is (settle c (buffers input out places) p o) answer after out places
   unfolding settle out_after places_after
-  nothing_settled shown e n none i input out places h =
+  nothing_settled shown e n None i input out places h =
       let shows : p.shown ≡ nothing = e ∙ n in
       record { answers = h.answers; leaves = h.leaves; fills_out = rw shows; fills_places = rw shows }
-  nothing_settled shown e n (some r) i input out places h = record { answers = h.answers; leaves = h.leaves; fills_out = refl; fills_places = refl }
+  nothing_settled shown e n (Some r) i input out places h = record { answers = h.answers; leaves = h.leaves; fills_out = refl; fills_places = refl }
 
   pub shows_nothing : p.shown ≡ nothing → (i input out places : List ℕ) → Is (judge_sound c (buffers i [] []) p) answer after [] []
       → Is (judge_sound c (buffers input out places) p) answer after out places
@@ -53,8 +51,8 @@ module _ (c : Card) (p : Plan) {answer : Answer} {after : Card} where
   block_settled : (b : ℕ) → p.shown ≡ block_part b → (o : Option Refusal) (input out places : List ℕ) {filled : List ℕ}
       → Is (settle c (buffers [] out []) p o) answer after filled [] → Is (settle c (buffers input out places) p o) answer after filled places
   unfolding settle out_after places_after
-  block_settled b e none input out places h = record { answers = h.answers; leaves = h.leaves; fills_out = h.fills_out; fills_places = rw e }
-  block_settled b e (some r) input out places h = record { answers = h.answers; leaves = h.leaves; fills_out = h.fills_out; fills_places = refl }
+  block_settled b e None input out places h = record { answers = h.answers; leaves = h.leaves; fills_out = h.fills_out; fills_places = rw e }
+  block_settled b e (Some r) input out places h = record { answers = h.answers; leaves = h.leaves; fills_out = h.fills_out; fills_places = refl }
 
   pub shows_block : (b : ℕ) → p.shown ≡ block_part b → (input out places : List ℕ) {filled : List ℕ} → Is (judge_sound c (buffers [] out []) p) answer after filled []
       → Is (judge_sound c (buffers input out places) p) answer after filled places
@@ -64,8 +62,8 @@ module _ (c : Card) (p : Plan) {answer : Answer} {after : Card} where
   numbers_settled : (ns : List ℕ) → p.shown ≡ numbers ns → (o : Option Refusal) (input out places : List ℕ) {filled : List ℕ}
       → Is (settle c (buffers [] [] places) p o) answer after [] filled → Is (settle c (buffers input out places) p o) answer after out filled
   unfolding settle out_after places_after
-  numbers_settled ns e none input out places h = record { answers = h.answers; leaves = h.leaves; fills_out = rw e; fills_places = h.fills_places }
-  numbers_settled ns e (some r) input out places h = record { answers = h.answers; leaves = h.leaves; fills_out = refl; fills_places = h.fills_places }
+  numbers_settled ns e None input out places h = record { answers = h.answers; leaves = h.leaves; fills_out = rw e; fills_places = h.fills_places }
+  numbers_settled ns e (Some r) input out places h = record { answers = h.answers; leaves = h.leaves; fills_out = refl; fills_places = h.fills_places }
 
   pub shows_numbers : (ns : List ℕ) → p.shown ≡ numbers ns → (input out places : List ℕ) {filled : List ℕ} → Is (judge_sound c (buffers [] [] places) p) answer after [] filled
       → Is (judge_sound c (buffers input out places) p) answer after out filled
@@ -75,12 +73,12 @@ module _ (c : Card) (p : Plan) {answer : Answer} {after : Card} where
 -- ---- by the call
 
 module _ (port : Port) (c : Card) (input out places : List ℕ) (call : Call) {answer : Answer} {after : Card} where
-  pub with_read : {o : ReadOperands} {filled : List ℕ} → call ≡ Read o → Is (perform_sound port c (request (Read o) [] out [])) answer after filled []
+  pub with_read : {o : TransferOperands} {filled : List ℕ} → call ≡ Read o → Is (perform_sound port c (request (Read o) [] out [])) answer after filled []
       → Is (perform_sound port c (request call input out places)) answer after filled places
   unfolding perform_sound plan read_plan
   with_read e h = rw e (shows_block c _ _ refl input out places h)
 
-  pub with_write : {o : WriteOperands} → call ≡ Write o → Is (perform_sound port c (request (Write o) input [] [])) answer after [] []
+  pub with_write : {o : TransferOperands} → call ≡ Write o → Is (perform_sound port c (request (Write o) input [] [])) answer after [] []
       → Is (perform_sound port c (request call input out places)) answer after out places
   unfolding perform_sound plan write_plan
   with_write e h = rw e (shows_nothing c _ refl input input out places h)

@@ -1,5 +1,5 @@
 -- Laws of what a change leaves in a table: one element set, windows and keys replaced, pointers inserted, removed and kept.
-use Rattle.std.specs.Prelude.{ℕ, zero, suc, ◌+◌, ◌-◌, ◌*◌, ◌≤◌, ◌<◌, ◌≡◌, refl, ◌⊎◌, Bool, true, false, List, [], ◌∷◌, ◌++◌, length, take, drop, get_or, set}
+use Rattle.std.specs.Prelude.{ℕ, zero, suc, ◌+◌, ◌-◌, ◌*◌, ◌≤◌, ◌<◌, ◌≡◌, refl, ◌⊎◌, Bool, true, false, List, [], ◌∷◌, ◌++◌, length, take, drop, get_or, set, Option, Some, None, is_some}
 use Rattle.std.proofs.Common.{sym, ap, ◌∙◌, subst, inl, inr, ⊎_elim, true≢false, arith, length-set, length-append, length-drop, get_or-set_same, get_or-set_other, take_at, drop_at, drop-drop, length-take-le}
 use Rattle.std.proofs.lemmas.List.{length-replicate}
 use Rattle.std.proofs.Math.Seq.{take-append_seam}
@@ -10,11 +10,9 @@ use Rattle.laws.specs.BesideLaws.{InStep, in_step, step_length, insert_beside_le
 use Rattle.laws.specs.KeepLaws.{keep_in_step, keep_most}
 use Rattle.card.specs.Contents.{zeros}
 use Rattle.card.specs.Card.{Public, in_use, allocated_flag, key_flag, window_at, key_at, key_high, key_low}
-use Rattle.card.specs.Plan.{drop_from, is_present, high_word, low_word, other_mode, key_bit, keyed_flags, change_public, replace_key, clear_keys}
+use Rattle.card.specs.Plan.{drop_from, high_word, low_word, other_mode, key_bit, keyed_flags, change_public, replace_key, clear_keys}
 use Rattle.card.specs.declared.Mode.{Mode}
 use Rattle.card.specs.declared.Mode.TheVariants.{Reading, Writing}
-use Rattle.card.specs.declared.NewKey.{NewKey}
-use Rattle.card.specs.declared.NewKey.TheVariants.{Absent, Present}
 pub use Rattle.card.proofs.Computed.TestLaws.{other_mode_law}
 
 -- ---- one element set
@@ -96,36 +94,36 @@ bits_cases P a b c d e f g h Writing false true = f
 bits_cases P a b c d e f g h Writing true false = g
 bits_cases P a b c d e f g h Writing true true = h
 
-module _ (f : ℕ) (mode : Mode) (key : NewKey) where
+module _ (f : ℕ) (mode : Mode) (key : Option (ℕ × ℕ)) where
   pub keyed_low : keyed_flags f mode key < 8
   keyed_low =
       bits_cases (λ (m : Mode) (own rest : Bool). key_bits m own rest < 8)
       (omega arith) (omega arith) (omega arith) (omega arith) (omega arith) (omega arith) (omega arith) (omega arith)
-      mode (is_present key) (key_flag (other_mode mode) f)
+      mode (is_some key) (key_flag (other_mode mode) f)
 
   pub keyed_allocated : allocated_flag (keyed_flags f mode key) ≡ true
   keyed_allocated =
-      bits_cases (λ (m : Mode) (own rest : Bool). allocated_flag (key_bits m own rest) ≡ true) refl refl refl refl refl refl refl refl mode (is_present key)
+      bits_cases (λ (m : Mode) (own rest : Bool). allocated_flag (key_bits m own rest) ≡ true) refl refl refl refl refl refl refl refl mode (is_some key)
       (key_flag (other_mode mode) f)
 
-  pub keyed_own : key_flag mode (keyed_flags f mode key) ≡ is_present key
+  pub keyed_own : key_flag mode (keyed_flags f mode key) ≡ is_some key
   keyed_own =
-      bits_cases (λ (m : Mode) (own rest : Bool). key_flag m (key_bits m own rest) ≡ own) refl refl refl refl refl refl refl refl mode (is_present key)
+      bits_cases (λ (m : Mode) (own rest : Bool). key_flag m (key_bits m own rest) ≡ own) refl refl refl refl refl refl refl refl mode (is_some key)
       (key_flag (other_mode mode) f)
 
   pub keyed_other : key_flag (other_mode mode) (keyed_flags f mode key) ≡ key_flag (other_mode mode) f
   keyed_other =
-      bits_cases (λ (m : Mode) (own rest : Bool). key_flag (other_mode m) (key_bits m own rest) ≡ rest) refl refl refl refl refl refl refl refl mode (is_present key)
+      bits_cases (λ (m : Mode) (own rest : Bool). key_flag (other_mode m) (key_bits m own rest) ≡ rest) refl refl refl refl refl refl refl refl mode (is_some key)
       (key_flag (other_mode mode) f)
 
 -- The words of an absent key are 0.
-pub absent_high : (key : NewKey) → is_present key ≡ false → high_word key ≡ 0
-absent_high Absent e = refl
-absent_high (Present high low) e = absurd (true≢false e)
+pub absent_high : (key : Option (ℕ × ℕ)) → is_some key ≡ false → high_word key ≡ 0
+absent_high None e = refl
+absent_high (Some (high, low)) e = absurd (true≢false e)
 
-pub absent_low : (key : NewKey) → is_present key ≡ false → low_word key ≡ 0
-absent_low Absent e = refl
-absent_low (Present high low) e = absurd (true≢false e)
+pub absent_low : (key : Option (ℕ × ℕ)) → is_some key ≡ false → low_word key ≡ 0
+absent_low None e = refl
+absent_low (Some (high, low)) e = absurd (true≢false e)
 
 -- Each place of the keys' table holds one word of one block's key for one mode.
 key_at_block : (m n : Mode) (a b : ℕ) → key_at m a ≡ key_at n b → a ≡ b
@@ -150,7 +148,7 @@ key_at_high : (mode : Mode) (b : ℕ) → key_at mode b + 1 < 4 * b + 4
 key_at_high Reading b = omega arith
 key_at_high Writing b = omega arith
 
-module _ (keys : List ℕ) (mode : Mode) (b : ℕ) (key : NewKey) where
+module _ (keys : List ℕ) (mode : Mode) (b : ℕ) (key : Option (ℕ × ℕ)) where
   abbrev high_set : List ℕ
   high_set = set keys (key_at mode b) (high_word key)
 
@@ -184,30 +182,30 @@ module _ (keys : List ℕ) (mode : Mode) (b : ℕ) (key : NewKey) where
 
 module _ (keys : List ℕ) (b : ℕ) where
   abbrev read_cleared : List ℕ
-  read_cleared = replace_key keys Reading b Absent
+  read_cleared = replace_key keys Reading b None
 
   pub clear_keys_length : length (clear_keys keys b) ≡ length keys
-  clear_keys_length = replace_key_length read_cleared Writing b Absent ∙ replace_key_length keys Reading b Absent
+  clear_keys_length = replace_key_length read_cleared Writing b None ∙ replace_key_length keys Reading b None
 
   module _ (fits : 4 * b + 4 ≤ length keys) where
     still_fits : 4 * b + 4 ≤ length read_cleared
-    still_fits = omega (arith, replace_key_length keys Reading b Absent)
+    still_fits = omega (arith, replace_key_length keys Reading b None)
 
     pub cleared_high : (m : Mode) → key_high (clear_keys keys b) m b ≡ 0
-    cleared_high Reading = kept_high read_cleared Writing b Absent Reading b (λ e _. other_mode_law Writing e) ∙ replaced_high keys Reading b Absent fits
-    cleared_high Writing = replaced_high read_cleared Writing b Absent still_fits
+    cleared_high Reading = kept_high read_cleared Writing b None Reading b (λ e _. other_mode_law Writing e) ∙ replaced_high keys Reading b None fits
+    cleared_high Writing = replaced_high read_cleared Writing b None still_fits
 
     pub cleared_low : (m : Mode) → key_low (clear_keys keys b) m b ≡ 0
-    cleared_low Reading = kept_low read_cleared Writing b Absent Reading b (λ e _. other_mode_law Writing e) ∙ replaced_low keys Reading b Absent fits
-    cleared_low Writing = replaced_low read_cleared Writing b Absent still_fits
+    cleared_low Reading = kept_low read_cleared Writing b None Reading b (λ e _. other_mode_law Writing e) ∙ replaced_low keys Reading b None fits
+    cleared_low Writing = replaced_low read_cleared Writing b None still_fits
 
   -- The keys of another block.
   module _ (m : Mode) (a : ℕ) (other : a ≡ b → ⊥) where
     pub uncleared_high : key_high (clear_keys keys b) m a ≡ key_high keys m a
-    uncleared_high = kept_high read_cleared Writing b Absent m a (λ _ e. other e) ∙ kept_high keys Reading b Absent m a (λ _ e. other e)
+    uncleared_high = kept_high read_cleared Writing b None m a (λ _ e. other e) ∙ kept_high keys Reading b None m a (λ _ e. other e)
 
     pub uncleared_low : key_low (clear_keys keys b) m a ≡ key_low keys m a
-    uncleared_low = kept_low read_cleared Writing b Absent m a (λ _ e. other e) ∙ kept_low keys Reading b Absent m a (λ _ e. other e)
+    uncleared_low = kept_low read_cleared Writing b None m a (λ _ e. other e) ∙ kept_low keys Reading b None m a (λ _ e. other e)
 
 -- ---- the pointers' table
 

@@ -1,4 +1,5 @@
 pub mod ListsLaws
+pub mod LentLaws
 pub mod Takeable
 pub mod BesideLaws
 pub mod PointersLaws

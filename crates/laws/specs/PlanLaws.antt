@@ -1,9 +1,8 @@
 -- Laws of checks in order, and of a call judged by them.
-use Rattle.std.specs.Prelude.{◌≡◌, refl, Bool, true, false, cond, List, [], ◌∷◌, ◌++◌}
+use Rattle.std.specs.Prelude.{◌≡◌, refl, Bool, true, false, cond, List, [], ◌∷◌, ◌++◌, None, Some}
 use Rattle.std.proofs.Math.Path.{ap}
 use Rattle.std.proofs.Common.{subst, true≢false}
 use Rattle.std.proofs.Math.Bool.{not}
-use Rattle.std.proofs.Math.Option.{none, some}
 use Rattle.card.specs.Card.{Card}
 use Rattle.card.specs.Soundness.{shape, sound}
 use Rattle.card.specs.SoundCard.{SoundCard}
@@ -14,32 +13,32 @@ use Rattle.card.specs.declared.Refusal.TheVariants.{Misshapen, Unsound}
 
 -- ---- the first check that holds
 
-pub holds_first : {checks : List Check} {r : Refusal} → FirstHolds checks r → first checks ≡ some r
+pub holds_first : {checks : List Check} {r : Refusal} → FirstHolds checks r → first checks ≡ Some r
 unfolding first
 holds_first (here {t = t} {checks = checks} e) = rw e
 holds_first (later {t = t} {checks = checks} e h) = rw e (holds_first h)
 
-pub none_first : (checks : List Check) → NoneHolds checks → first checks ≡ none
+pub none_first : (checks : List Check) → NoneHolds checks → first checks ≡ None
 unfolding first
 none_first [] h = refl
 none_first ((t ⇒ r) ∷ checks) h = rw h.0 (none_first checks h.1)
 
-first_holds_at : (t : Bool) (s : Refusal) (checks : List Check) (r : Refusal) → (first checks ≡ some r → FirstHolds checks r)
-    → cond t (some s) (first checks) ≡ some r → FirstHolds ((t ⇒ s) ∷ checks) r
+first_holds_at : (t : Bool) (s : Refusal) (checks : List Check) (r : Refusal) → (first checks ≡ Some r → FirstHolds checks r)
+    → cond t (Some s) (first checks) ≡ Some r → FirstHolds ((t ⇒ s) ∷ checks) r
 first_holds_at true s checks r f e = subst (λ (x : Refusal). FirstHolds ((true ⇒ s) ∷ checks) x) (cc) (here refl)
 first_holds_at false s checks r f e = later refl (f e)
 
-pub first_holds : (checks : List Check) (r : Refusal) → first checks ≡ some r → FirstHolds checks r
+pub first_holds : (checks : List Check) (r : Refusal) → first checks ≡ Some r → FirstHolds checks r
 unfolding first
 first_holds [] r e = absurd (true≢false (cc))
 first_holds ((t ⇒ s) ∷ checks) r e = first_holds_at t s checks r (first_holds checks r) e
 
-first_none_at : (t : Bool) (s : Refusal) (checks : List Check) → (first checks ≡ none → NoneHolds checks)
-    → cond t (some s) (first checks) ≡ none → NoneHolds ((t ⇒ s) ∷ checks)
+first_none_at : (t : Bool) (s : Refusal) (checks : List Check) → (first checks ≡ None → NoneHolds checks)
+    → cond t (Some s) (first checks) ≡ None → NoneHolds ((t ⇒ s) ∷ checks)
 first_none_at true s checks f e = absurd (true≢false (cc))
 first_none_at false s checks f e = (refl, f e)
 
-pub first_none : (checks : List Check) → first checks ≡ none → NoneHolds checks
+pub first_none : (checks : List Check) → first checks ≡ None → NoneHolds checks
 unfolding first
 first_none [] e = tt
 first_none ((t ⇒ s) ∷ checks) e = first_none_at t s checks (first_none checks) e

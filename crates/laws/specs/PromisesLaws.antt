@@ -10,8 +10,8 @@ use Rattle.laws.specs.PlanLaws.{judge_misshapen, judge_unsound, judge_sound_law,
 use Rattle.card.specs.declared.Verdict.TheVariants.{Misshapen, Unsound, Sound}
 use Rattle.card.specs.declared.Refusal.{Refusal}
 use Rattle.card.specs.declared.Refusal.TheVariants.{Misshapen as MisshapenRefusal, Unsound as UnsoundRefusal}
-use Rattle.card.specs.declared.Answer.{Answer}
-use Rattle.card.specs.declared.Answer.TheVariants.{Refused}
+use Rattle.card.specs.Answers.{Answer}
+use Rattle.card.specs.Answers.{Refused}
 
 -- What is a result is an equal one.
 pub is_same : {want other : Result} {answer : Answer} {after : Card} {out places : List ℕ} → other ≡ want → Is want answer after out places → Is other answer after out places

@@ -1,9 +1,8 @@
 -- Laws of a call performed, by what the audit finds, and of a list of calls.
-use Rattle.std.specs.Prelude.{ℕ, suc, ◌+◌, ◌-◌, ◌≡◌, length, drop}
+use Rattle.std.specs.Prelude.{ℕ, suc, ◌+◌, ◌-◌, ◌≡◌, length, drop, Option, None, Some}
 use Rattle.std.proofs.Math.Path.{refl}
 use Rattle.std.proofs.Common.{ap, ◌∙◌, drop_at}
 use mathlib.Core.List.{List, [], ◌∷◌, ◌++◌}
-use Rattle.std.proofs.Math.Option.{Option, none, some}
 use Rattle.card.specs.Card.{Public, Card}
 use Rattle.card.specs.Soundness.{verdict}
 use Rattle.card.specs.Plan.{first, audited, Change, set_window, set_block, set_key, take_block, free_block, sweep_block, add_pointer, raise_pointer, lower_pointer, drop_pointer, drop_from, set_time, with_used, with_time, change_public, change, changes, Plan, Buffers, settle, judge}
@@ -20,8 +19,8 @@ use Rattle.card.specs.declared.KeyOperands.{KeyOperands}
 use Rattle.card.specs.declared.Verdict.TheVariants.{Misshapen, Unsound, Sound}
 use Rattle.card.specs.declared.Refusal.{Refusal}
 use Rattle.card.specs.declared.Refusal.TheVariants.{Misshapen as MisshapenRefusal, Unsound as UnsoundRefusal}
-use Rattle.card.specs.declared.Answer.{Answer}
-use Rattle.card.specs.declared.Answer.TheVariants.{Refused}
+use Rattle.card.specs.Answers.{Answer}
+use Rattle.card.specs.Answers.{Refused}
 use Rattle.card.specs.declared.Call.{Call}
 use Rattle.card.specs.declared.Call.TheVariants.{Read, Write, Alloc, AllocContig, Create, Delete, DeleteTree, KeyRead, KeyWrite, Renew, Force, Free, Tick, Audit, Rent, Sweep}
 
@@ -122,8 +121,8 @@ module _ {size : Info → ℕ} (fixed : Fixed size) where
 
   settle_size : (c : Card) (lent : Buffers) (p : Plan) (o : Option Refusal) → size (settle c lent p o).after.public.info ≡ size c.public.info
   unfolding settle
-  settle_size c lent p none = changes_size c p.steps
-  settle_size c lent p (some r) = refl
+  settle_size c lent p None = changes_size c p.steps
+  settle_size c lent p (Some r) = refl
 
   perform_size : (port : Port) (c : Card) (q : Request) → size (perform port c q).after.public.info ≡ size c.public.info
   unfolding perform judge

@@ -1,4 +1,5 @@
 -- Laws of the table of kinds: what the arms of a match on it cite, and what the sums of a body's fields come to.
+use Rattle.std.specs.Prelude.{Option, Some, None}
 use Prim.Native.Nat.{ℕ, ◌-◌, ◌≤◌, ◌<◌}
 use mathlib.Core.Path.{◌≡◌, refl, sym, ap, ◌∙◌}
 use mathlib.Core.Bool.{Bool, true, false, ◌||◌}
@@ -11,9 +12,6 @@ use Rattle.kinds.specs.Arithmetic.{number_of, has_credential, part_of, behind_cr
 use Rattle.kinds.proofs.ArithmeticLaws.{kind_lengths}
 use Rattle.kinds.specs.declared.Name.{Name}
 use Rattle.kinds.specs.declared.Lengths.{Lengths}
-use Rattle.kinds.specs.declared.Kind.{Kind}
-use Rattle.kinds.specs.declared.Kind.TheVariants.{Known, Unknown}
-use Rattle.kinds.specs.declared.Length.TheVariants.{Bytes, Unknown as UnknownLength}
 use Rattle.card.specs.declared.Port.{Port}
 use Rattle.card.specs.declared.Port.TheVariants.{Host, Service}
 
@@ -26,7 +24,7 @@ pub at_kind : (wire : Port) {k n : ℕ} → k ≡ n → kind_of wire n ≡ kind_
 at_kind wire e = ap (kind_of wire) (sym e)
 
 -- By the port that was found.
-pub at_wire : (k : ℕ) {wire port : Port} {r : Kind} → wire ≡ port → r ≡ kind_of port k → r ≡ kind_of wire k
+pub at_wire : (k : ℕ) {wire port : Port} {r : Option (Port × Name)} → wire ≡ port → r ≡ kind_of port k → r ≡ kind_of wire k
 at_wire k e h = h ∙ ap (λ (p : Port). kind_of p k) (sym e)
 
 -- The number is none of the list, the last first.
@@ -34,7 +32,7 @@ abbrev pub Apart : ℕ → List ℕ → Type 0
 Apart k [] = Unit {0}
 Apart k (n ∷ ns) = Apart k ns × (k ≡ n → ⊥)
 
-pub unknown_host : (k : ℕ) → Apart k (14 ∷ 13 ∷ 12 ∷ 11 ∷ 10 ∷ 9 ∷ 8 ∷ 7 ∷ 6 ∷ 5 ∷ 4 ∷ 3 ∷ 2 ∷ 1 ∷ []) → Unknown ≡ kind_of Host k
+pub unknown_host : (k : ℕ) → Apart k (14 ∷ 13 ∷ 12 ∷ 11 ∷ 10 ∷ 9 ∷ 8 ∷ 7 ∷ 6 ∷ 5 ∷ 4 ∷ 3 ∷ 2 ∷ 1 ∷ []) → None ≡ kind_of Host k
 unfolding table_rules
 unknown_host k h =
     rw (
@@ -55,7 +53,7 @@ unknown_host k h =
     )
 
 -- Below 128 a kind is the same at both ports.
-pub same_below : (k : ℕ) {r : Kind} → k < 128 → r ≡ kind_of Host k → r ≡ kind_of Service k
+pub same_below : (k : ℕ) {r : Option (Port × Name)} → k < 128 → r ≡ kind_of Host k → r ≡ kind_of Service k
 unfolding table_rules
 same_below k l e =
     e
@@ -71,7 +69,7 @@ same_below k l e =
       ne_eqb k 142 (λ (e : k ≡ 142). omega arith),
     )
 
-pub unknown_service : (k : ℕ) → 128 ≤ k → Apart k (142 ∷ 141 ∷ 140 ∷ 134 ∷ 133 ∷ 132 ∷ 131 ∷ 130 ∷ 129 ∷ []) → Unknown ≡ kind_of Service k
+pub unknown_service : (k : ℕ) → 128 ≤ k → Apart k (142 ∷ 141 ∷ 140 ∷ 134 ∷ 133 ∷ 132 ∷ 131 ∷ 130 ∷ 129 ∷ []) → None ≡ kind_of Service k
 unfolding table_rules
 unknown_service k l h =
     rw (
@@ -136,12 +134,11 @@ pub operands_most : (call : ℕ) {r : ℕ} → r ≡ operands_at call → r ≤ 
 unfolding operands_at
 operands_most call e = omega (arith, part_most (has_credential call) 19 refl, behind_most call refl, without_most call refl)
 
-pub known_length : (wire : Port) (k : ℕ) {l : Lengths} {r : Kind} {port : Port} {name : Name}
-    → r ≡ kind_of wire k → r ≡ Known port name → l ≡ lengths_at k
-    → Bytes l.body ≡ body_length wire k
+pub known_length : (wire : Port) (k : ℕ) {l : Lengths} {known : Port × Name}
+    → Some known ≡ kind_of wire k → l ≡ lengths_at k → Some l.body ≡ body_length wire k
 unfolding body_length kind_length lengths_of
-known_length wire k e q h = rw (← e, q, kind_lengths wire k e q h)
+known_length wire k {known = known} e h = rw (← e, kind_lengths wire k {port = known.0} {name = known.1} e h)
 
-pub unknown_length : (wire : Port) (k : ℕ) {r : Kind} → r ≡ kind_of wire k → r ≡ Unknown → UnknownLength ≡ body_length wire k
+pub unknown_length : (wire : Port) (k : ℕ) → None ≡ kind_of wire k → None ≡ body_length wire k
 unfolding body_length kind_length
-unknown_length wire k e q = rw (← e, q)
+unknown_length wire k e = ap kind_length e

@@ -8,7 +8,7 @@ ghost use Rattle.kinds.specs.Kinds.{kind_of, body_length};
 ghost use Rattle.kinds.specs.Arithmetic.{number_of, has_credential, part_of, behind_credential, without_credential, operands_at, lengths_at};
 
 use card::Port;
-use kinds::{Kind, Length, Lengths, Name};
+use kinds::{Lengths, Name};
 
 // ---- the sizes of the fields of a body, in bytes
 
@@ -36,50 +36,50 @@ const DATA: usize = 512;
 
 // ---- the call of a kind
 
-// A kind that arrives at the host port: a host's, or none.
-fn host_kind_of(kind: u8) -> Kind
+// A kind that arrives at the host port: a host's, or none. No `TryFrom`: what a byte says depends on the port where it arrives.
+fn host_kind_of(kind: u8) -> Option<(Port, Name)>
     ensures { result ≡ kind_of Host kind }
 {
     match kind {
-        1 => Kind::Known(Port::Host, Name::Read),
-        2 => Kind::Known(Port::Host, Name::Write),
-        3 => Kind::Known(Port::Host, Name::Alloc),
-        4 => Kind::Known(Port::Host, Name::Create),
-        5 => Kind::Known(Port::Host, Name::Delete),
-        6 => Kind::Known(Port::Host, Name::KeyRead),
-        7 => Kind::Known(Port::Host, Name::Renew),
-        8 => Kind::Known(Port::Host, Name::Force),
-        9 => Kind::Known(Port::Host, Name::Free),
-        10 => Kind::Known(Port::Host, Name::Tick),
-        11 => Kind::Known(Port::Host, Name::Audit),
-        12 => Kind::Known(Port::Host, Name::AllocContig),
-        13 => Kind::Known(Port::Host, Name::KeyWrite),
-        14 => Kind::Known(Port::Host, Name::DeleteTree),
-        _ => Kind::Unknown,
+        1 => Some((Port::Host, Name::Read)),
+        2 => Some((Port::Host, Name::Write)),
+        3 => Some((Port::Host, Name::Alloc)),
+        4 => Some((Port::Host, Name::Create)),
+        5 => Some((Port::Host, Name::Delete)),
+        6 => Some((Port::Host, Name::KeyRead)),
+        7 => Some((Port::Host, Name::Renew)),
+        8 => Some((Port::Host, Name::Force)),
+        9 => Some((Port::Host, Name::Free)),
+        10 => Some((Port::Host, Name::Tick)),
+        11 => Some((Port::Host, Name::Audit)),
+        12 => Some((Port::Host, Name::AllocContig)),
+        13 => Some((Port::Host, Name::KeyWrite)),
+        14 => Some((Port::Host, Name::DeleteTree)),
+        _ => None,
     }
 }
 
 // From 128 on a kind is one of the service port, and exists there alone.
-fn service_kind_of(kind: u8) -> Kind
+fn service_kind_of(kind: u8) -> Option<(Port, Name)>
     requires { 128 ≤ kind }
     ensures { result ≡ kind_of Service kind }
 {
     match kind {
-        129 => Kind::Known(Port::Service, Name::Read),
-        130 => Kind::Known(Port::Service, Name::Write),
-        131 => Kind::Known(Port::Service, Name::Alloc),
-        132 => Kind::Known(Port::Service, Name::Create),
-        133 => Kind::Known(Port::Service, Name::Delete),
-        134 => Kind::Known(Port::Service, Name::KeyRead),
-        140 => Kind::Known(Port::Service, Name::AllocContig),
-        141 => Kind::Known(Port::Service, Name::KeyWrite),
-        142 => Kind::Known(Port::Service, Name::DeleteTree),
-        _ => Kind::Unknown,
+        129 => Some((Port::Service, Name::Read)),
+        130 => Some((Port::Service, Name::Write)),
+        131 => Some((Port::Service, Name::Alloc)),
+        132 => Some((Port::Service, Name::Create)),
+        133 => Some((Port::Service, Name::Delete)),
+        134 => Some((Port::Service, Name::KeyRead)),
+        140 => Some((Port::Service, Name::AllocContig)),
+        141 => Some((Port::Service, Name::KeyWrite)),
+        142 => Some((Port::Service, Name::DeleteTree)),
+        _ => None,
     }
 }
 
 // The port and the call of a byte of kind that arrives at a port.
-pub fn kind_of(wire: Port, kind: u8) -> Kind
+pub fn kind_of(wire: Port, kind: u8) -> Option<(Port, Name)>
     ensures { result ≡ kind_of wire kind }
 {
     match wire {
@@ -161,12 +161,9 @@ pub fn lengths_at(kind: u8) -> Lengths
 }
 
 // The length of a kind's body, where there is such a kind at the port.
-pub fn body_length(wire: Port, kind: u8) -> Length
+pub fn body_length(wire: Port, kind: u8) -> Option<usize>
     ensures { result ≡ body_length wire kind }
 {
-    let known = kind_of(wire, kind);
-    match known {
-        Kind::Known(_, _) => Length::Bytes(lengths_at(kind).body),
-        Kind::Unknown => Length::Unknown,
-    }
+    kind_of(wire, kind)?;
+    Some(lengths_at(kind).body)
 }

@@ -1,4 +1,5 @@
 -- Laws of a line that is written piece by piece.
+use Rattle.std.specs.Prelude.{Some, None, Ok, Err}
 use Prim.Native.Nat.{ℕ, ◌+◌, ◌≤◌}
 use mathlib.Core.Path.{◌≡◌, refl, sym, ap, subst}
 use mathlib.Core.List.{List, [], ◌∷◌, ◌++◌, append_assoc, append-nil}
@@ -8,8 +9,8 @@ use Rattle.card.specs.Calls.{refusal_number}
 use Rattle.card.specs.Session.{Reply, traits, shown_values, reported}
 use Rattle.card.specs.declared.Refusal.{Refusal}
 use Rattle.card.specs.declared.Refusal.TheVariants.{Misshapen, Unsound, NotAllocated, BadOperand, NotOpened, IsRoot, CannotPoint, NoPointer, HasPointers, TooFewBlocks, TooFewPlaces, TimeEnds, BadRecord, NoRun, HasWriteKey, PriceTooHigh}
-use Rattle.card.specs.declared.Answer.{Answer}
-use Rattle.card.specs.declared.Answer.TheVariants.{Refused, Done, Value}
+use Rattle.card.specs.Answers.{Answer}
+use Rattle.card.specs.Answers.{Refused, Done, Value}
 use Rattle.card.specs.declared.Call.{Call}
 use Rattle.card.specs.declared.Call.TheVariants.{Read, Write, Alloc, AllocContig, Create, Delete, DeleteTree, KeyRead, KeyWrite, Renew, Force, Free, Tick, Audit, Rent, Sweep}
 use Rattle.lines.specs.declared.Filled.{Filled}
@@ -133,13 +134,13 @@ module _ (call : Call) (answer : Answer) (out places : List ℕ) where
 -- ---- a line
 
 answer_length : (call : Call) (r : Reply) → BuffersFit r.out r.places → (answer : Answer) → r.answer ≡ answer → length (spaced (reported call r)) ≤ 1386
-answer_length call r fit (Refused x) e =
+answer_length call r fit (Err x) e =
     rw (ap (λ (a : Answer). length (spaced (reported call (replied a r.out r.places)))) e, reported_refused call x r.out r.places, spaced_single)
     (omega (arith, spaced_one (refusal_number x)))
-answer_length call r fit Done e =
+answer_length call r fit (Ok None) e =
     rw (ap (λ (a : Answer). length (spaced (reported call (replied a r.out r.places)))) e, reported_done call r.out r.places, spaced_cons)
     (omega (arith, length-append (space ∷ decimal 0) (spaced (values_of (filled_by call) r.out r.places)), spaced_one 0, values_length (filled_by call) fit))
-answer_length call r fit (Value v) e =
+answer_length call r fit (Ok (Some v)) e =
     let values : List ℕ = values_of (filled_by call) r.out r.places in
     rw (ap (λ (a : Answer). length (spaced (reported call (replied a r.out r.places)))) e, reported_value call v r.out r.places, spaced_cons, spaced_cons)
     (omega

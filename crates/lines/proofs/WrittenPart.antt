@@ -4,9 +4,10 @@ use mathlib.Core.Path.{◌≡◌, refl, sym, ap, ◌∙◌, subst}
 use mathlib.Core.List.{List, [], ◌∷◌, ◌++◌}
 use native.Mathlib.Nat.{mul-suc, sub-zero}
 use native.Mathlib.Omega.{arith}
-use native.Mathlib.Numerals.{add-one}
 use lib.ListN.{length, take, get_or, length-append}
-use lib.Seq.{take-suc, take_all}
+use lib.Seq.{take_all, drop-drop}
+use borrow.Rule.Slice.PartMut.{put_mid}
+use Rattle.card.specs.Contents.{overwrite}
 use Rattle.lines.specs.Lines.{digit, space, decimal, spaced}
 use Rattle.lines.specs.LinesLaws.{decimal_small, decimal_large, spaced_one, spaced_more}
 use Rattle.lines.specs.Written.{Written}
@@ -55,10 +56,6 @@ module _ (each count : ℕ) (bytes : ℕ → List ℕ) (before : List ℕ) (at :
         room = omega (arith, w.ends, f.room, written_length w fits);
       }
 
--- One more byte of a text.
-pub take_more : (xs : List ℕ) (i : ℕ) → i < length xs → take (i + 1) xs ≡ take i xs ++ (get_or xs i 0 ∷ [])
-take_more xs i h = rw add-one (take-suc xs i 0 h)
-
 -- ---- numbers of a table, each behind a space
 
 abbrev pub Spacing : List ℕ → List ℕ → ℕ → List ℕ → ℕ → ℕ → Type 0
@@ -83,19 +80,8 @@ spacing_done values {before} {to} {at} {next} {i} f h =
 
 -- ---- a text
 
-abbrev pub Copying : List ℕ → List ℕ → ℕ → List ℕ → ℕ → ℕ → Type 0
-Copying text = WrittenPart 1 (length text) (λ k. take k text)
-
-pub copying_none : (text before : List ℕ) (at : ℕ) → at + length text ≤ length before → Copying text before at before at 0
-copying_none text before at h = part_none 1 (length text) (λ k. take k text) before at refl (omega arith)
-
-pub copying_room : {text before to : List ℕ} {at next i : ℕ} → Copying text before at to next i → i < length text → next + 1 ≤ length to
-copying_room f h = omega (arith, f.room)
-
-pub copying_more : (text before : List ℕ) (at : ℕ) {to after : List ℕ} {next behind i : ℕ} → Copying text before at to next i → i < length text
-    → Written to next (get_or text i 0 ∷ []) after behind → Copying text before at after behind (i + 1)
-copying_more text before at {i = i} f h w =
-    part_more 1 (length text) (λ k. take k text) before at (get_or text i 0 ∷ []) f h (omega arith) (take_more text i h) w
-
-pub copying_done : {text before to : List ℕ} {at next i : ℕ} → Copying text before at to next i → length text ≤ i → Written before at text to next
-copying_done {text} {before} {to} {at} {next} {i} f h = subst (λ (xs : List ℕ). Written before at xs to next) (take_all i text h) f.written
+pub written_text : (xs : List ℕ) (at : ℕ) {ys zs : List ℕ} → ys ≡ zs → Written xs at zs (put_mid at (at + length zs - at) xs ys) (at + length zs)
+unfolding overwrite
+written_text xs at {zs = zs} e =
+    let size : at + length zs - at ≡ length zs = omega arith in
+    record { holds = rw (e, size, drop-drop (length zs) at xs); ends = refl }

@@ -1,5 +1,5 @@
 // Lines of text in a lent buffer: numbers in decimal with single spaces between.
-// Each function writes from a place on and returns the place behind what it wrote.
+// Each function writes from a place on and returns the place behind what it wrote. No `Write`, whose contract leaves open what stands before the place.
 #![tactic(auto)]
 
 ghost use Rattle.std.specs.Prelude.{◌≡◌, [], ◌∷◌, ◌+◌, ◌*◌, ◌≤◌, length, take};
@@ -19,6 +19,7 @@ pub fn put_byte(to: &mut [u8], at: usize, byte: u8) -> usize
     at + 1
 }
 
+// No `Display`: a formatter's contract says nothing of the bytes in a lent buffer.
 pub fn put_number(to: &mut [u8], at: usize, n: u64) -> usize
     requires { at + length (decimal n) ≤ length to.old }
     ensures { Written to.old at (decimal n) to.new result }
@@ -40,42 +41,27 @@ pub fn put_spaced(to: &mut [u8], at: usize, n: u64) -> usize
     put_number(to, next, n)
 }
 
-fn of_byte(x: u8) -> u64
-    ensures { result ≡ x }
-{
-    x as u64
-}
-
-pub fn of_block(x: u16) -> u64
-    ensures { result ≡ x }
-{
-    x as u64
-}
-
 // Each byte of a table as a number behind a space.
 pub fn put_bytes(to: &mut [u8], at: usize, values: &[u8]) -> usize
     requires { at + 21 * length values.now ≤ length to.old }
     ensures { Written to.old at (spaced values.now) to.new result }
 {
     let mut next = at;
-    let mut i = 0;
-    while i < values.len() {
-        next = put_spaced(to, next, of_byte(values[i]));
-        i += 1;
+    for byte in values {
+        next = put_spaced(to, next, u64::from(*byte));
     }
     next
 }
 
 // Each block number of a table behind a space.
+// Not one function with a bound `T: Into<u64>`: its contract would need what each element converts to, and is no plainer.
 pub fn put_blocks(to: &mut [u8], at: usize, values: &[u16]) -> usize
     requires { at + 21 * length values.now ≤ length to.old }
     ensures { Written to.old at (spaced values.now) to.new result }
 {
     let mut next = at;
-    let mut i = 0;
-    while i < values.len() {
-        next = put_spaced(to, next, of_block(values[i]));
-        i += 1;
+    for block in values {
+        next = put_spaced(to, next, u64::from(*block));
     }
     next
 }
@@ -85,18 +71,15 @@ pub fn put_text(to: &mut [u8], at: usize, text: &[u8]) -> usize
     requires { at + length text.now ≤ length to.old }
     ensures { Written to.old at text.now to.new result }
 {
-    let mut next = at;
-    let mut i = 0;
-    while i < text.len() {
-        next = put_byte(to, next, text[i]);
-        i += 1;
-    }
-    next
+    let end = at + text.len();
+    to[at..end].copy_from_slice(text);
+    end
 }
 
 // ---- the lines of a player
 
 // The number of a refusal, of document 01 or of a request.
+// No plainer by a derive: the numbers are the documents', and each stands here beside its refusal.
 pub fn refusal_number(r: Refusal) -> u64
     ensures { result ≡ refusal_number r }
 {
@@ -180,12 +163,12 @@ fn put_answer(
     ensures { Written to.old at (spaced (reported call (replied answer out.now places.now))) to.new result }
 {
     match answer {
-        Answer::Refused(r) => put_spaced(to, at, refusal_number(r)),
-        Answer::Done => {
+        Err(r) => put_spaced(to, at, refusal_number(r)),
+        Ok(None) => {
             let next = put_spaced(to, at, 0);
             put_filled(to, next, filled_by(call), out, places)
         }
-        Answer::Value(v) => {
+        Ok(Some(v)) => {
             let next = put_spaced(to, at, 0);
             let last = put_spaced(to, next, v);
             put_filled(to, last, filled_by(call), out, places)

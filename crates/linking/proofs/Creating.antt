@@ -2,7 +2,7 @@
 use Prim.Native.Nat.{ℕ, ◌<◌}
 use mathlib.Core.Path.{◌≡◌, refl, ap, ◌∙◌, subst}
 use mathlib.Core.Bool.{Bool, true, false, not, ◌&&◌, ◌||◌}
-use mathlib.Core.List.{List, []}
+use mathlib.Core.List.{[]}
 use native.Mathlib.Omega.{arith}
 use lib.Dec.{eqb}
 use lib.ListN.{length, get_or}
@@ -16,23 +16,19 @@ use Rattle.card.specs.Access.{admits}
 use Rattle.card.specs.Plan.{here, later, change, changes, out_after, places_after}
 use Rattle.card.specs.Calls.{missing, root_at_host, create_plan}
 use Rattle.card.specs.Promises.{Is}
+use Rattle.laws.specs.PromisesLaws.{is_done}
 use Rattle.card.specs.Session.{Request, request, plan, perform_sound}
-use Rattle.card.specs.declared.Info.{Info}
-use Rattle.card.specs.declared.Outcome.{Outcome}
 use Rattle.card.specs.declared.Port.{Port}
 use Rattle.card.specs.declared.Mode.TheVariants.{Writing}
 use Rattle.card.specs.declared.Call.TheVariants.{Create}
 use Rattle.card.specs.declared.CreateOperands.{CreateOperands}
 use Rattle.card.specs.declared.Refusal.TheVariants.{NotAllocated, IsRoot, NotOpened, CannotPoint, TooFewPlaces}
-use Rattle.card.specs.declared.Answer.TheVariants.{Done}
+use Rattle.card.specs.Answers.{Done}
 use Rattle.tables.specs.InUseLaws.{sound_sorted, sound_paired, count_low_law}
 use Rattle.laws.proofs.PointerSteps.{times_high}
 use Rattle.changes.specs.OnTables.{CanMakePointer, made_by}
-use Rattle.outcomes.specs.Outcomes.{outcome}
-use Rattle.outcomes.proofs.Returned.{finishes}
 use Rattle.checks.specs.Checked.{Refuses, Passes}
-use Rattle.access.specs.Accessible.{bare}
-use Rattle.access.proofs.Blocks.{flagged, missing_told, root_told, closed_told}
+use Rattle.access.proofs.Blocks.{missing_told, root_told, closed_told}
 use Rattle.linking.proofs.Points.{Times, times_whole, points_whole, told_or, not_not}
 
 -- No condition holds but maybe the last, and the pointer's multiplicity is this.
@@ -49,12 +45,12 @@ module _ (port : Port) (c : Card) (o : CreateOperands) where
   abbrev create_request : Request
   create_request = request (Create o) [] [] []
 
-  module _ {t1 : Bool} (e1 : t1 ≡ missing (flagged c.public) o.source) where
+  module _ {t1 : Bool} (e1 : t1 ≡ missing c.public o.source) where
     pub create_source_missing : t1 ≡ true → Refuses port c create_request NotAllocated
     unfolding plan create_plan
     create_source_missing h = here (missing_told c.public _ e1 h)
 
-    module _ (h1 : t1 ≡ false) {t2 : Bool} (e2 : t2 ≡ missing (flagged c.public) o.destination) where
+    module _ (h1 : t1 ≡ false) {t2 : Bool} (e2 : t2 ≡ missing c.public o.destination) where
       pub create_destination_missing : t2 ≡ true → Refuses port c create_request NotAllocated
       unfolding plan create_plan
       create_destination_missing h = later (missing_told c.public _ e1 h1) (here (missing_told c.public _ e2 h))
@@ -66,7 +62,7 @@ module _ (port : Port) (c : Card) (o : CreateOperands) where
             later (missing_told c.public _ e1 h1) (later (missing_told c.public _ e2 h2)
             (here (told_or (is_root c.public o.destination) (root_told port c.public _ e3 refl) h)))
 
-        module _ (h3 : is_root c.public o.destination || t3 ≡ false) {t4 : Bool} (e4 : t4 ≡ admits port (bare c) Writing o.source o.credential) where
+        module _ (h3 : is_root c.public o.destination || t3 ≡ false) {t4 : Bool} (e4 : t4 ≡ admits port c Writing o.source o.credential) where
           pub create_source_shut : not t4 ≡ true → Refuses port c create_request NotOpened
           unfolding plan create_plan
           create_source_shut h =
@@ -74,7 +70,7 @@ module _ (port : Port) (c : Card) (o : CreateOperands) where
               (later (told_or (is_root c.public o.destination) (root_told port c.public _ e3 refl) h3)
               (here (closed_told port c Writing _ _ e4 h))))
 
-          module _ (h4 : not t4 ≡ false) {t5 : Bool} (e5 : t5 ≡ admits port (bare c) Writing o.destination o.second) where
+          module _ (h4 : not t4 ≡ false) {t5 : Bool} (e5 : t5 ≡ admits port c Writing o.destination o.second) where
             pub destination_shut : not t5 ≡ true → Refuses port c create_request NotOpened
             unfolding plan create_plan
             destination_shut h =
@@ -151,9 +147,8 @@ module _ (port : Port) (c : Card) (o : CreateOperands) where
         ),
       )
 
-  pub create_done : {r : Outcome} {info : Info} {counts pointers multiplicities : List ℕ} → Passes port c create_request → r ≡ outcome Done info
-      → card info c.public.flags c.keys counts pointers multiplicities c.public.windows c.contents
-      ≡ change c (made_by c.public.pointers c.public.info.used o.source o.destination)
-      → Is (perform_sound port c create_request) r.answer (card r.info c.public.flags c.keys counts pointers multiplicities c.public.windows c.contents) [] []
+  pub create_done : {after : Card} → Passes port c create_request
+      → after ≡ change c (made_by c.public.pointers c.public.info.used o.source o.destination)
+      → Is (perform_sound port c create_request) Done after [] []
   unfolding perform_sound plan create_plan changes out_after places_after points_to
-  create_done h e f = finishes c create_request.lent (plan port c create_request.call create_request.lent) e h f refl refl
+  create_done h f = is_done c create_request.lent (plan port c create_request.call create_request.lent) h f refl refl

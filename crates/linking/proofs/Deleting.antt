@@ -8,12 +8,12 @@ use lib.Dec.{eqb}
 use lib.ListN.{length, get_or}
 use borrow.Author.Tests.{eq-eqb, ne_eqb, not-false}
 use Rattle.laws.specs.ListsLaws.{and_true, and_false_left, and_false_right}
-use Rattle.card.specs.Pointers.{pointer, points_from}
-use Rattle.card.specs.Card.{Card, card, allocated, in_use, multiplicity, points_to, has_pointers}
+use Rattle.card.specs.Pointers.{pointer, points_from, beside}
+use Rattle.card.specs.Card.{Card, card, allocated, in_use, times_in_use, multiplicity, points_to, has_pointers}
 use Rattle.card.specs.SoundCard.{SoundCard}
 use Rattle.laws.specs.SoundnessLaws.{allocated_below, multiplicity_right_low}
 use Rattle.card.specs.Access.{admits}
-use Rattle.card.specs.Plan.{Check, ◌⇒◌, FirstHolds, here, later, NoneHolds, Change, free_block, change, changes, out_after, places_after}
+use Rattle.card.specs.Plan.{Check, ◌⇒◌, FirstHolds, here, later, NoneHolds, Change, free_block, drop_pointer, lower_pointer, change_public, change_keys, change, changes, out_after, places_after}
 use Rattle.laws.specs.PlanLaws.{holds_front, holds_behind, none_append}
 use Rattle.card.specs.Calls.{missing, root_at_host, delete_plan}
 use Rattle.card.specs.Promises.{Is}
@@ -25,24 +25,23 @@ use Rattle.card.specs.declared.Call.TheVariants.{Delete}
 use Rattle.card.specs.declared.DeleteOperands.{DeleteOperands}
 use Rattle.card.specs.declared.Refusal.{Refusal}
 use Rattle.card.specs.declared.Refusal.TheVariants.{NotAllocated, IsRoot, NotOpened, NoPointer, HasPointers}
-use Rattle.card.specs.declared.Answer.TheVariants.{Value}
+use Rattle.card.specs.Answers.{Value}
 use Rattle.laws.proofs.PointerSteps.{times_right_law, times_counted}
 use Rattle.tables.specs.InUseLaws.{sound_sorted, sound_paired}
 use Rattle.changes.specs.OnTables.{CanTakePointer, taken_by}
 use Rattle.checks.specs.Checked.{Refuses, Passes}
-use Rattle.access.specs.Accessible.{bare}
-use Rattle.access.proofs.Blocks.{flagged, missing_told, root_told, closed_told}
+use Rattle.access.proofs.Blocks.{missing_told, root_told, closed_told}
 use Rattle.linking.specs.Removal.{removal}
 use Rattle.linking.proofs.Points.{Times, points_whole, not_not}
 
 -- ---- the checks that DELETE and DELETE_TREE have in common
 
 module _ (port : Port) (c : Card) (o : DeleteOperands) where
-  module _ {t1 : Bool} (e1 : t1 ≡ missing (flagged c.public) o.source) where
+  module _ {t1 : Bool} (e1 : t1 ≡ missing c.public o.source) where
     pub source_missing : t1 ≡ true → FirstHolds (removal port c o) NotAllocated
     source_missing h = here (missing_told c.public _ e1 h)
 
-    module _ (h1 : t1 ≡ false) {t2 : Bool} (e2 : t2 ≡ missing (flagged c.public) o.destination) where
+    module _ (h1 : t1 ≡ false) {t2 : Bool} (e2 : t2 ≡ missing c.public o.destination) where
       pub destination_missing : t2 ≡ true → FirstHolds (removal port c o) NotAllocated
       destination_missing h = later (missing_told c.public _ e1 h1) (here (missing_told c.public _ e2 h))
 
@@ -50,7 +49,7 @@ module _ (port : Port) (c : Card) (o : DeleteOperands) where
         pub root_source : t3 ≡ true → FirstHolds (removal port c o) IsRoot
         root_source h = later (missing_told c.public _ e1 h1) (later (missing_told c.public _ e2 h2) (here (root_told port c.public _ e3 h)))
 
-        module _ (h3 : t3 ≡ false) {t4 : Bool} (e4 : t4 ≡ admits port (bare c) Writing o.source o.credential) where
+        module _ (h3 : t3 ≡ false) {t4 : Bool} (e4 : t4 ≡ admits port c Writing o.source o.credential) where
           pub source_shut : not t4 ≡ true → FirstHolds (removal port c o) NotOpened
           source_shut h =
               later (missing_told c.public _ e1 h1) (later (missing_told c.public _ e2 h2)
@@ -149,20 +148,31 @@ module _ (port : Port) (c : Card) (o : DeleteOperands) where
           ),
         )
 
-    -- What freeing the block asks.
-    pub freeable : (o.destination < length c.public.flags)
-        × ((4 * o.destination + 4 ≤ length c.keys) × (2 * o.destination + 2 ≤ length c.public.windows))
-    freeable = (
-      omega (arith, below, s.shaped.has_lengths.flags),
-      (
-        omega (arith, below, s.shaped.has_lengths.keys),
-        omega (arith, below, s.shaped.has_lengths.windows),
-      ),
-    )
-
   -- What DELETE does to the pointer.
   abbrev taking : Change
   taking = taken_by c.public.pointers c.public.multiplicities c.public.info.used o.source o.destination
+
+  -- It leaves the flags, the keys and the windows.
+  spared : (t : Bool) → let d = change c (cond t (drop_pointer o.source o.destination) (lower_pointer o.source o.destination)) in
+      (d.public.flags ≡ c.public.flags) × ((d.keys ≡ c.keys) × (d.public.windows ≡ c.public.windows))
+  unfolding change change_public change_keys
+  spared true = (refl, (refl, refl))
+  spared false = (refl, (refl, refl))
+
+  -- What freeing the block asks, of the card that is left.
+  pub freeable : SoundCard c → Passes port c delete_request → {after : Card} → after ≡ change c taking
+      → (o.destination < length after.public.flags)
+      × ((4 * o.destination + 4 ≤ length after.keys) × (2 * o.destination + 2 ≤ length after.public.windows))
+  freeable s h e =
+      let left = spared (eqb (beside (pointer o.source o.destination) (in_use c.public) (times_in_use c.public)) 1) in
+      let low = below s h in
+      rw (e, left.0, left.1.0, left.1.1) (
+        omega (arith, low, s.shaped.has_lengths.flags),
+        (
+          omega (arith, low, s.shaped.has_lengths.keys),
+          omega (arith, low, s.shaped.has_lengths.windows),
+        ),
+      )
 
   deleted : {after : Card} (t : Bool) → eqb counted 1 ≡ t → Passes port c delete_request
       → after ≡ changes (change c taking) (cond t (free_block o.destination ∷ []) [])

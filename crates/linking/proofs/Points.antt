@@ -2,15 +2,14 @@
 use Prim.Native.Nat.{ℕ}
 use mathlib.Core.Path.{◌≡◌, refl, sym, ap, ◌∙◌}
 use mathlib.Core.Bool.{Bool, true, false, not, ◌||◌}
-use mathlib.Core.List.{[]}
 use lib.Dec.{eqb}
-use Rattle.card.specs.Card.{Card, card, multiplicity, points_to}
+use Rattle.card.specs.Card.{Card, multiplicity, points_to}
 use Rattle.card.specs.SoundCard.{SoundCard}
 use Rattle.laws.proofs.PointerSteps.{points_times}
 
 -- The number is the multiplicity of a pointer, by the tables that hold it.
 abbrev pub Times : Card → ℕ → ℕ → ℕ → Type 0
-Times c n a b = n ≡ multiplicity (card c.public.info [] [] [] c.public.pointers c.public.multiplicities [] []).public a b
+Times c n a b = n ≡ multiplicity c.public a b
 
 module _ (c : Card) {n : ℕ} (a b : ℕ) (e : Times c n a b) where
   pub times_whole : multiplicity c.public a b ≡ n

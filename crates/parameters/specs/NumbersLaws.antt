@@ -1,19 +1,17 @@
 -- Laws of the record and of ports as numbers.
-use Rattle.std.specs.Prelude.{ℕ, ◌<◌, ◌≡◌, refl, List, [], ◌∷◌, length, get_or, set}
+use Rattle.std.specs.Prelude.{ℕ, ◌<◌, ◌≡◌, refl, List, [], ◌∷◌, length, get_or, set, Ok, Err, Option, Some, None, Result}
 use Rattle.std.proofs.Common.{ap, ◌∙◌, arith, length-set}
 use Rattle.card.specs.Plan.{with_used, with_time}
 use Rattle.card.specs.Calls.{fresh_info}
 use Rattle.card.specs.declared.Info.{Info}
 use Rattle.card.specs.declared.Port.{Port}
 use Rattle.card.specs.declared.Call.{Call}
-use Rattle.decoding.specs.Decode.{decode_body}
+use Rattle.decoding.specs.Decode.{call_of, Decoding, decode_body}
 use Rattle.decoding.specs.Parsed.{ParsedIs}
-use Rattle.decoding.specs.declared.Decoding.{Decoding}
-use Rattle.decoding.specs.declared.Decoding.TheVariants.{Decoded, Bad}
 use Rattle.decoding.specs.declared.Parsed.{Parsed}
 use Rattle.parameters.specs.Numbers.{record_length, record_of, numbers_of, wire_of, call_at, at_port, decode_at}
-use Rattle.parameters.specs.declared.Wire.{Wire}
-use Rattle.parameters.specs.declared.Wire.TheVariants.{At, Nowhere}
+use Rattle.fields.specs.Fields.{bad_record}
+use Rattle.fields.specs.declared.BadRecord.{BadRecord}
 
 pub loaded : (xs : List ℕ) {fresh used timed : Info} → fresh ≡ fresh_info (get_or xs 0 0) (get_or xs 1 0) (get_or xs 2 0) → used ≡ with_used fresh (get_or xs 3 0) → timed ≡ with_time used (get_or xs 4 0) (get_or xs 5 0)
     → timed ≡ record_of xs
@@ -50,24 +48,31 @@ numbers_record (a ∷ b ∷ c ∷ d ∷ e ∷ f ∷ g ∷ xs) h = absurd (omega 
 
 -- ---- ports
 
-module _ (port : ℕ) {w : Wire} (found : w ≡ wire_of port) where
-  pub call_nowhere : {d : Decoding} {at : Port} {call : Call} → d ≡ Decoded at call → w ≡ Nowhere → Bad ≡ at_port port d
-  unfolding at_port call_at
-  call_nowhere e n = rw (e, ← found, n)
+module _ (port : ℕ) {w : Option Port} (found : w ≡ wire_of port) where
+  pub call_nowhere : (call : Call) → w ≡ None → Err bad_record ≡ call_at (wire_of port) call
+  unfolding call_at
+  call_nowhere call n = rw (← found, n)
 
-  pub call_at_law : {d : Decoding} {at wire : Port} {call : Call} → d ≡ Decoded at call → w ≡ At wire → Decoded wire call ≡ at_port port d
-  unfolding at_port call_at
-  call_at_law e a = rw (e, ← found, a)
+  pub call_at_law : (call : Call) {wire : Port} → w ≡ Some wire → Ok (wire, call) ≡ call_at (wire_of port) call
+  unfolding call_at
+  call_at_law call a = rw (← found, a)
 
-  pub decodes_nowhere : (kind : ℕ) (xs : List ℕ) → w ≡ Nowhere → Bad ≡ decode_at (wire_of port) kind xs
+  pub decodes_nowhere : (kind : ℕ) (xs : List ℕ) → w ≡ None → Err bad_record ≡ decode_at (wire_of port) kind xs
   unfolding decode_at
   decodes_nowhere kind xs n = rw (← found, n)
 
-  pub decodes_at : (kind : ℕ) (xs : List ℕ) {wire : Port} {r : Parsed} → w ≡ At wire → ParsedIs (decode_body wire kind xs) xs r → ParsedIs (decode_at (wire_of port) kind xs) xs r
+  pub decodes_at : (kind : ℕ) (xs : List ℕ) {wire : Port} {r : Parsed} → w ≡ Some wire → ParsedIs (decode_body wire kind xs) xs r → ParsedIs (decode_at (wire_of port) kind xs) xs r
   unfolding decode_at
   decodes_at kind xs a p = rw (← found, a) p
 
--- There is no call.
-pub call_bad : (port : ℕ) {d : Decoding} → d ≡ Bad → Bad ≡ at_port port d
-unfolding at_port
-call_bad port e = rw e
+-- ---- the call of operands
+
+module _ {A : Type 0} (port : ℕ) (at : Port) (make : A → Call) {r : Result A BadRecord} where
+  pub made : {o : A} {d : Decoding} → Ok o ≡ r → d ≡ call_at (wire_of port) (make o) → d ≡ at_port port (call_of at make r)
+  unfolding at_port call_of
+  made e h = rw (← e) h
+
+  -- There is no call.
+  pub not_made : {bad : BadRecord} {d : Decoding} → d ≡ Err bad → Err bad ≡ r → d ≡ at_port port (call_of at make r)
+  unfolding at_port call_of
+  not_made b e = rw (← e) b

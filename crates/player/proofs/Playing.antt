@@ -1,33 +1,33 @@
 -- The loop of a player: what it has reached, and what one turn more makes of it.
+use Rattle.std.specs.Prelude.{Option, Some, None}
 use Prim.Native.Nat.{ℕ, ◌+◌, ◌-◌, ◌≤◌, ◌<◌}
 use mathlib.Core.Path.{◌≡◌, refl, sym, ap, ap₂, ◌∙◌, subst}
-use mathlib.Core.Bool.{Bool, true, false}
+use Rattle.std.proofs.lemmas.Option.{none-some}
 use mathlib.Core.List.{List, [], ◌++◌, append_assoc}
 use native.Mathlib.Omega.{arith}
 use lib.ListN.{length, drop, length-append, length-drop}
-use Rattle.card.specs.Card.{Card, card}
-use Rattle.card.specs.declared.Info.{Info}
+use Rattle.card.specs.Card.{Card}
+use Rattle.card.specs.Lent.{SameTables, lent_card}
+use Rattle.card.specs.declared.LentCard.{LentCard}
 use Rattle.decoding.specs.Decode.{Next, ended, refused, sent, decode}
 use Rattle.lines.specs.Lines.{line_room}
 use Rattle.lines.specs.Written.{Written}
 use Rattle.lines.specs.WrittenLaws.{written_none, written_join, written_length}
 use Rattle.input.specs.Play.{player_port, Turn, turn_of, turn, Play, output_before, play}
 use Rattle.input.proofs.PlayLaws.{play_full, play_went, play_stopped, turn_left}
-use Rattle.input.specs.Played.{TurnIs, PlayedIs, is_went}
-use Rattle.input.proofs.PlayedLaws.{is_went_law, not_went}
-use Rattle.input.proofs.SameTables.{SameTables}
+use Rattle.input.specs.Played.{TurnIs, PlayedIs}
 use Rattle.input.specs.declared.Stop.{Stop}
-use Rattle.input.specs.declared.Stop.TheVariants.{Went, Full}
+use Rattle.input.specs.declared.Stop.TheVariants.{Full}
 
--- ---- a turn that did not go changes nothing
+-- ---- a turn that stops the play changes nothing
 
-next_halts : (ordinal : ℕ) (c : Card) (xs : List ℕ) (n : Next) → is_went (turn_of ordinal c xs n).stop ≡ false → ((turn_of ordinal c xs n).after ≡ c) × ((turn_of ordinal c xs n).left ≡ xs) × ((turn_of ordinal c xs n).output ≡ [])
+next_halts : (ordinal : ℕ) (c : Card) (xs : List ℕ) (n : Next) {stop : Stop} → (turn_of ordinal c xs n).stop ≡ Some stop → ((turn_of ordinal c xs n).after ≡ c) × ((turn_of ordinal c xs n).left ≡ xs) × ((turn_of ordinal c xs n).output ≡ [])
 unfolding turn_of
 next_halts ordinal c xs ended e = (refl, refl, refl)
 next_halts ordinal c xs refused e = (refl, refl, refl)
-next_halts ordinal c xs (sent port call payload rest) e = absurd (mathlib.Core.Bool.true≢false e)
+next_halts ordinal c xs (sent port call payload rest) {stop} e = absurd (none-some stop e)
 
-turn_halts : (ordinal : ℕ) (c : Card) (xs : List ℕ) → is_went (turn ordinal c xs).stop ≡ false → ((turn ordinal c xs).after ≡ c) × ((turn ordinal c xs).left ≡ xs) × ((turn ordinal c xs).output ≡ [])
+turn_halts : (ordinal : ℕ) (c : Card) (xs : List ℕ) {stop : Stop} → (turn ordinal c xs).stop ≡ Some stop → ((turn ordinal c xs).after ≡ c) × ((turn ordinal c xs).left ≡ xs) × ((turn ordinal c xs).output ≡ [])
 unfolding turn
 turn_halts ordinal c xs e = next_halts ordinal c xs (decode player_port xs) e
 
@@ -69,16 +69,16 @@ module _ (records₀ : ℕ) (c₀ : Card) (xs out₀ : List ℕ) where
         let e = p.total ∙ ap (output_before p.done) (play_full count c (drop from xs) (length out₀ - length p.done) (omega (arith, reached, kept))) in
         rw e (record { stops = refl; counts = refl; leaves = refl; rests = refl; within = p.within; writes = rw (mathlib.Core.List.append-nil p.done) p.written })
 
-    module _ {stop : Stop} {after : Card} {next next-at : ℕ} {to : List ℕ} (room : line_room ≤ length out - at)
-        (t : TurnIs (turn (count + 1) c (drop from xs)) line_room stop after xs next out at to next-at) where
+    module _ {told : Option Stop} {after : Card} {next next-at : ℕ} {to : List ℕ} (room : line_room ≤ length out - at)
+        (t : TurnIs (turn (count + 1) c (drop from xs)) line_room told after xs next out at to next-at) where
       here : line_room ≤ length out₀ - length p.done
       here = omega (arith, reached, kept, room)
 
-      -- The turn did not go: so the play stops.
-      pub playing_stopped : is_went stop ≡ false → PlayedIs (play records₀ c₀ xs (length out₀)) stop count after xs next out₀ to next-at
-      playing_stopped n =
-          let halts = turn_halts (count + 1) c (drop from xs) (ap is_went (sym t.stops) ∙ n) in
-          let e = p.total ∙ ap (output_before p.done) (play_stopped count c (drop from xs) (length out₀ - length p.done) here stop (not_went stop n) (sym t.stops) halts.0 halts.1) in
+      -- The turn stops the play.
+      pub playing_stopped : {stop : Stop} → told ≡ Some stop → PlayedIs (play records₀ c₀ xs (length out₀)) stop count after xs next out₀ to next-at
+      playing_stopped {stop} n =
+          let halts = turn_halts (count + 1) c (drop from xs) (sym t.stops ∙ n) in
+          let e = p.total ∙ ap (output_before p.done) (play_stopped count c (drop from xs) (length out₀ - length p.done) here stop (sym t.stops ∙ n) halts.0 halts.1) in
           rw e
           (record {
             stops = refl;
@@ -89,17 +89,17 @@ module _ (records₀ : ℕ) (c₀ : Card) (xs out₀ : List ℕ) where
             writes = written_join p.written (subst (λ (ls : List ℕ). Written out at ls to next-at) halts.2 t.writes) (omega (arith, p.fits));
           })
 
-      went : is_went stop ≡ true → (turn (count + 1) c (drop from xs)).stop ≡ Went
-      went w = sym t.stops ∙ is_went_law stop w
+      played_next : told ≡ None → (turn (count + 1) c (drop from xs)).stop ≡ None
+      played_next w = sym t.stops ∙ w
 
       -- Each record takes a byte at least.
-      pub playing_further : is_went stop ≡ true → from < next
+      pub playing_further : told ≡ None → from < next
       playing_further w =
-          let shorter = turn_left (count + 1) c (drop from xs) (went w) in
+          let shorter = turn_left (count + 1) c (drop from xs) (played_next w) in
           omega (arith, shorter, ap length t.rests, length-drop next xs, length-drop from xs, t.within, p.within)
 
-      -- The turn went: its line stands behind the others.
-      pub playing_more : is_went stop ≡ true → Playing records₀ c₀ xs out₀ (count + 1) after next next-at to
+      -- The turn plays its record: the line stands behind the others.
+      pub playing_more : told ≡ None → Playing records₀ c₀ xs out₀ (count + 1) after next next-at to
       playing_more w =
           let one : Turn = turn (count + 1) c (drop from xs) in
           let rest : Play = play (count + 1) one.after one.left (length out₀ - length p.done - length one.output) in
@@ -116,16 +116,15 @@ module _ (records₀ : ℕ) (c₀ : Card) (xs out₀ : List ℕ) where
             written = written_join p.written t.writes (omega (arith, here, p.fits, t.short));
             total =
                 p.total
-                ∙ ap (output_before p.done) (play_went count c (drop from xs) (length out₀ - length p.done) here (went w))
+                ∙ ap (output_before p.done) (play_went count c (drop from xs) (length out₀ - length p.done) here (played_next w))
                 ∙ ap (λ (ls : List ℕ). record { stop = rest.stop; output = ls; records = rest.records; after = rest.after; left = rest.left }) (sym (append_assoc p.done one.output rest.output))
                 ∙ ap (output_before (p.done ++ one.output)) same;
           }
 
 -- ---- the loop's invariant
 
--- The tables and the output keep their lengths, and the play has come so far.
-pub record PlayLoop (info₀ : Info) (flags₀ keys₀ counts₀ pointers₀ multiplicities₀ windows₀ contents₀ : List ℕ) (records₀ : ℕ) (input output₀ : List ℕ)
-    (info : Info) (flags keys counts pointers multiplicities windows contents output : List ℕ) (count from at : ℕ) : Type 0 where
-  pub tables : SameTables flags₀ keys₀ counts₀ pointers₀ multiplicities₀ windows₀ contents₀ flags keys counts pointers multiplicities windows contents
+-- The tables are those that were lent, the output keeps its length, and the play has come so far.
+pub record PlayLoop (before now : LentCard) (records₀ : ℕ) (input output₀ output : List ℕ) (count from at : ℕ) : Type 0 where
+  pub same : SameTables before now
   pub same_output : length output ≡ length output₀
-  pub playing : Playing records₀ (card info₀ flags₀ keys₀ counts₀ pointers₀ multiplicities₀ windows₀ contents₀) input output₀ count (card info flags keys counts pointers multiplicities windows contents) from at output
+  pub playing : Playing records₀ (lent_card before) input output₀ count (lent_card now) from at output

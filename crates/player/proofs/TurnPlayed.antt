@@ -1,4 +1,5 @@
 -- One call played, and one turn of a player: the card that it leaves and the line that it writes.
+use Rattle.std.specs.Prelude.{Ok, Err, Some, None}
 use Prim.Native.Nat.{ℕ, ◌-◌, ◌≤◌}
 use mathlib.Core.Path.{◌≡◌, subst}
 use mathlib.Core.List.{List}
@@ -9,7 +10,7 @@ use Rattle.card.specs.Plan.{Result}
 use Rattle.card.specs.Promises.{Is}
 use Rattle.card.specs.Session.{Reply, reply}
 use Rattle.card.specs.declared.Call.{Call}
-use Rattle.card.specs.declared.Answer.{Answer}
+use Rattle.card.specs.Answers.{Answer}
 use Rattle.lines.specs.Lines.{line, line_room}
 use Rattle.lines.specs.Replied.{BuffersFit, replied}
 use Rattle.lines.proofs.AnswersWritten.{line_short}
@@ -17,12 +18,9 @@ use Rattle.lines.specs.Written.{Written}
 use Rattle.input.specs.Play.{player_port, played, turn_of, turn}
 use Rattle.input.specs.Played.{WroteIs, TurnIs}
 use Rattle.input.proofs.PlayedLaws.{turn_nothing, turn_whole}
-use Rattle.input.specs.Found.{WholeIs, FoundIs}
+use Rattle.input.specs.Found.{Found, WholeIs, FoundIs}
 use Rattle.input.specs.declared.Stop.{Stop}
-use Rattle.input.specs.declared.Stop.TheVariants.{Went}
 use Rattle.input.specs.declared.Record.{Record}
-use Rattle.input.specs.declared.Found.{Found}
-use Rattle.input.specs.declared.Found.TheVariants.{Whole, Nothing}
 
 pub call_played : (ordinal kind : ℕ) (call : Call) {want : Result} {answer : Answer} {after : Card} {out places before to : List ℕ} {at behind : ℕ} → BuffersFit out places
     → Is want answer after out places → Written before at (line ordinal kind call (replied answer out places)) to behind
@@ -38,14 +36,14 @@ call_played ordinal kind call {want} {answer} {after} {out} {places} {before} {t
 -- ---- a turn, by what was found
 
 module _ (ordinal : ℕ) (c : Card) (input : List ℕ) (from : ℕ) (fits : from ≤ length input) (before : List ℕ) (at : ℕ) where
-  pub nothing_played : {found : Found} {stop : Stop} → FoundIs player_port input from found → found ≡ Nothing stop → TurnIs (turn ordinal c (drop from input)) line_room stop c input from before at before at
+  pub nothing_played : {found : Found} {stop : Stop} → FoundIs player_port input from found → found ≡ Err stop → TurnIs (turn ordinal c (drop from input)) line_room (Some stop) c input from before at before at
   unfolding turn turn_of
   nothing_played f e = turn_nothing player_port (turn ordinal c (drop from input)) line_room c input from fits before at (λ d. rw d) (λ d. rw d) f e
 
-  pub whole_played : {found : Found} {r : Record} {after : Card} {to : List ℕ} {behind : ℕ} → FoundIs player_port input from found → found ≡ Whole r
+  pub whole_played : {found : Found} {r : Record} {after : Card} {to : List ℕ} {behind : ℕ} → FoundIs player_port input from found → found ≡ Ok r
       → let want = played r.port c r.call (take (r.next - r.payload) (drop r.payload input)) in
       WroteIs want.after (line ordinal r.kind r.call (reply want)) line_room after before at to behind
-      → TurnIs (turn ordinal c (drop from input)) line_room Went after input r.next before at to behind
+      → TurnIs (turn ordinal c (drop from input)) line_room None after input r.next before at to behind
   unfolding turn turn_of
   whole_played {r = r} f e h =
       let w : WholeIs player_port input from r = subst (FoundIs player_port input from) e f in

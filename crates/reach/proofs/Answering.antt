@@ -11,8 +11,8 @@ use Rattle.card.specs.Card.{Card}
 use Rattle.card.specs.Plan.{here, later, judge_sound}
 use Rattle.card.specs.Promises.{Is}
 use Rattle.laws.specs.PromisesLaws.{is_refused}
-use Rattle.card.specs.declared.Answer.{Answer}
-use Rattle.card.specs.declared.Answer.TheVariants.{Refused, Value}
+use Rattle.card.specs.Answers.{Answer}
+use Rattle.card.specs.Answers.{Refused, Value}
 use Rattle.card.specs.declared.Refusal.TheVariants.{BadOperand}
 use Rattle.report.specs.Report.{given, bad_keys, within_reach, listing, reach_plan, lent_places}
 use Rattle.report.proofs.ReportLaws.{listing_done}

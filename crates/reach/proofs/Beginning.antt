@@ -6,26 +6,27 @@ use mathlib.Core.Bool.{true, false, cond}
 use mathlib.Core.List.{List}
 use native.Mathlib.Nat.{not-suc-le-zero}
 use native.Mathlib.Omega.{arith}
-use lib.ListN.{length, get_or, set, length-set, length-replicate}
+use lib.ListN.{length, get_or, set, replicate, length-set, length-replicate}
 use lib.Seq.{get_or-set_same, get_or-set_other}
 use Rattle.laws.specs.ListsLaws.{absurd_test, same_or_other}
 use Rattle.card.specs.Card.{Card}
 use Rattle.card.specs.Reach.{sealed}
 use Rattle.report.specs.Report.{given, within_by_itself}
-use Rattle.walks.specs.Walk.{mark, Walking, Entered}
+use Rattle.walks.specs.Walk.{mark, Walking, NoneReached, Entered}
+use Rattle.walks.specs.declared.Reached.{Reached}
 use Rattle.walks.specs.WalkLaws.{walking_none, walking_room, walking_enter, entered_marks, entered_kept, entered_cases}
-use Rattle.reach.specs.Within.{Fresh, StandingOf, Shut, Begun}
+use Rattle.reach.specs.Within.{StandingOf, Shut, Begun}
 use Rattle.reach.specs.declared.Standing.{Standing}
 
-begun_none : (words : List ℕ) (c : Card) {shut marks queue : List ℕ} → Fresh shut marks queue → Begun words c 0 shut marks queue 0
-begun_none words c {marks = marks} f =
-    let w : Walking (λ a b. ⊥) marks _ 0 0 = walking_none f.none_marked f.has_queue in
+begun_none : (words : List ℕ) (c : Card) {shut : List ℕ} {r : Reached} → shut ≡ replicate 4096 0 → NoneReached r → Begun words c 0 shut r.marks r.queue r.count
+begun_none words c {r = r} e f =
+    let w : Walking (λ a b. ⊥) r.marks r.queue 0 r.count = rw f.none_queued (walking_none f.none_marked f.has_queue) in
     record {
-      has_shut = ap length f.none_shut ∙ length-replicate {A = ℕ} 4096 0;
+      has_shut = ap length e ∙ length-replicate {A = ℕ} 4096 0;
       shut_below = record { is_shut = λ b l e. absurd (not-suc-le-zero l); is_open = λ b l e. absurd (not-suc-le-zero l) };
       walking = w;
       is_marked = λ b l e. absurd (not-suc-le-zero l);
-      only = λ b e. absurd (not-suc-le-zero (w.queued b e).low);
+      only = λ b m. absurd (not-suc-le-zero (rw f.none_queued at (w.queued b m).low));
     }
 
 module _ {words : List ℕ} {c : Card} {b : ℕ} {shut marks queue : List ℕ} {tail : ℕ} (h : Begun words c b shut marks queue tail) (l : b < 4096) {r : Standing}
@@ -92,8 +93,9 @@ pub record Beginning (words : List ℕ) (c : Card) (n b : ℕ) (shut marks queue
   pub few : n ≤ 4096
   pub begun : Begun words c b shut marks queue tail
 
-pub beginning_none : (words : List ℕ) (c : Card) (n : ℕ) {shut marks queue : List ℕ} → n ≤ 4096 → Fresh shut marks queue → Beginning words c n 0 shut marks queue 0
-beginning_none words c n few f = record { most = omega arith; few = few; begun = begun_none words c f }
+pub beginning_none : (words : List ℕ) (c : Card) (n : ℕ) {shut : List ℕ} {r : Reached} → n ≤ 4096 → shut ≡ replicate 4096 0 → NoneReached r
+    → Beginning words c n 0 shut r.marks r.queue r.count
+beginning_none words c n few e f = record { most = omega arith; few = few; begun = begun_none words c e f }
 
 module _ {words : List ℕ} {c : Card} {n b : ℕ} {shut marks queue : List ℕ} {tail : ℕ} (h : Beginning words c n b shut marks queue tail) where
   pub beginning_low : b < n → b < 4096

@@ -9,9 +9,8 @@ use lib.ListN.{length, drop, get_or, length-drop}
 use borrow.Author.Tests.{not-true, not-false, lt-ltb}
 use mir.Val.{bool_byte}
 use Rattle.laws.specs.ListsLaws.{or_left}
-use Rattle.card.specs.Card.{Card, card, allocated_flag, key_flag, allocated, has_key, window_open, key_high, key_low}
+use Rattle.card.specs.Card.{Card, allocated_flag, key_flag, allocated, has_key, window_open, key_high, key_low}
 use Rattle.card.specs.Reach.{key_presented, sealed}
-use Rattle.card.specs.declared.Info.{Info}
 use Rattle.card.specs.declared.Mode.{Mode}
 use Rattle.card.specs.declared.Mode.TheVariants.{Reading, Writing}
 use Rattle.reach.specs.Within.{StandingOf}
@@ -91,21 +90,21 @@ module _ (words keys : List ℕ) (flag b : ℕ) where
 -- ---- a block by itself
 
 -- What is computed of a block is what the rules say of it.
-pub looked_at : (words : List ℕ) (info : Info) (flags keys windows : List ℕ) (b : ℕ) → b < info.blocks
+pub looked_at : (words : List ℕ) (c : Card) (b : ℕ) → b < c.public.info.blocks
     → {read write hasRead hasWrite openRead openWrite held : Bool}
-    → read ≡ key_presented (given words) (card info flags keys [] [] [] windows []) Reading b
-    → write ≡ key_presented (given words) (card info flags keys [] [] [] windows []) Writing b
-    → hasRead ≡ key_flag Reading (get_or flags b 0) → hasWrite ≡ key_flag Writing (get_or flags b 0)
-    → openRead ≡ window_open (card info [] [] [] [] [] windows []).public Reading b → openWrite ≡ window_open (card info [] [] [] [] [] windows []).public Writing b
-    → held ≡ allocated_flag (get_or flags b 0)
-    → StandingOf words (card info flags keys [] [] [] windows []) b (record {
+    → read ≡ key_presented (given words) c Reading b
+    → write ≡ key_presented (given words) c Writing b
+    → hasRead ≡ has_key c.public Reading b → hasWrite ≡ has_key c.public Writing b
+    → openRead ≡ window_open c.public Reading b → openWrite ≡ window_open c.public Writing b
+    → held ≡ allocated_flag (get_or c.public.flags b 0)
+    → StandingOf words c b (record {
       shut = bool_byte ((hasRead && hasWrite) && (not read && not write));
-      within = held && ((ltb b info.roots && not ((hasRead && hasWrite) && (not read && not write))) || ((read || write) || (openRead || openWrite)));
+      within = held && ((ltb b c.public.info.roots && not ((hasRead && hasWrite) && (not read && not write))) || ((read || write) || (openRead || openWrite)));
     })
-unfolding sealed has_key within_by_itself allocated root_unsealed some_key some_window window_open
-looked_at words info flags keys windows b l r w hr hw or' ow a = record {
-  is_shut = rw (r, w, hr, hw) (byte (sealed (given words) (card info flags keys [] [] [] windows []) b));
-  is_within = rw (r, w, hr, hw, or', ow, a, lt-ltb b info.blocks l);
+unfolding sealed within_by_itself allocated root_unsealed some_key some_window
+looked_at words c b l r w hr hw or' ow a = record {
+  is_shut = rw (r, w, hr, hw) (byte (sealed (given words) c b));
+  is_within = rw (r, w, hr, hw, or', ow, a, lt-ltb b c.public.info.blocks l);
 }
   where
     byte : (t : Bool) → bool_byte t ≡ cond t 1 0

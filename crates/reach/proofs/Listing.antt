@@ -13,7 +13,7 @@ use borrow.Author.Tests.{eq-eqb, ne_eqb}
 use Rattle.laws.specs.ListsLaws.{below_or_not}
 use Rattle.card.specs.Lists.{numbers_below}
 use Rattle.card.specs.Contents.{overwrite}
-use Rattle.laws.specs.NumbersLaws.{numbers_more, numbers_most}
+use Rattle.laws.specs.NumbersLaws.{numbers_more}
 use Rattle.walks.specs.Walk.{mark, marked_below}
 
 -- ---- places
@@ -61,9 +61,6 @@ listed_none marks places₀ n few fits = record { most = omega arith; few = few;
 module _ {marks places₀ places : List ℕ} {n b listed : ℕ} (h : Listed marks places₀ places n b listed) (l : b < n) where
   more : mark marks b ≡ 1 → length (marked_below marks (b + 1)) ≡ listed + 1
   more e = ap length (below_in marks b e) ∙ length-append (marked_below marks b) (b ∷ []) ∙ ap (λ (k : ℕ). k + 1) (sym h.counted)
-
-  pub listed_few : listed ≤ 4096
-  listed_few = omega (arith, h.counted, numbers_most (λ x. eqb (mark marks x) 1) b, h.few)
 
   pub listed_room : mark marks b ≡ 1 → listed < length places
   listed_room e = omega (arith, more e, numbers_grow (λ x. eqb (mark marks x) 1) (b + 1) n (omega arith), h.fits, h.same_places)

@@ -2,7 +2,7 @@
 use Prim.Native.Nat.{ℕ, ◌≤◌, ◌<◌}
 use mathlib.Core.Path.{◌≡◌, ap, ◌∙◌}
 use mathlib.Core.Bool.{true}
-use mathlib.Core.List.{List, []}
+use mathlib.Core.List.{List}
 use native.Mathlib.Nat.{not-suc-le-zero}
 use native.Mathlib.Omega.{arith}
 use lib.Dec.{eqb}
@@ -10,11 +10,9 @@ use lib.ListN.{length}
 use borrow.Author.Tests.{eq-eqb, eqb-true}
 use Rattle.laws.specs.ListsLaws.{same_test}
 use Rattle.card.specs.Pointers.{contains}
-use Rattle.card.specs.Card.{Card, card, allocated, has_key, window_open, in_use}
+use Rattle.card.specs.Card.{Card, in_use}
 use Rattle.card.specs.SoundCard.{SoundCard}
-use Rattle.card.specs.Reach.{key_presented, sealed}
-use Rattle.card.specs.declared.Info.{Info}
-use Rattle.report.specs.Report.{given, root_unsealed, some_key, some_window, within_by_itself, within_reach}
+use Rattle.report.specs.Report.{given, within_reach}
 use Rattle.report.proofs.ReportLaws.{within_itself, within_step, within_in, within_own}
 use Rattle.walks.specs.Walk.{Edge, mark, marked_below, Walking, Led, begins, leads, Spread}
 use Rattle.walks.specs.WalkLaws.{marked_below_law}
@@ -34,18 +32,6 @@ walking_start h = record {
   settled = λ k b l e. absurd (not-suc-le-zero l);
 }
 
--- What is said of a block by itself looks at no other tables.
-begun_card : (words : List ℕ) (info : Info) (flags keys counts pointers multiplicities windows contents : List ℕ) (n : ℕ) {shut marks queue : List ℕ} {tail : ℕ}
-    → Begun words (card info flags keys [] [] [] windows []) n shut marks queue tail → Begun words (card info flags keys counts pointers multiplicities windows contents) n shut marks queue tail
-unfolding sealed key_presented has_key within_by_itself root_unsealed some_key some_window allocated window_open
-begun_card words info flags keys counts pointers multiplicities windows contents n h = record {
-  has_shut = h.has_shut;
-  shut_below = record { is_shut = h.shut_below.is_shut; is_open = h.shut_below.is_open };
-  walking = h.walking;
-  is_marked = h.is_marked;
-  only = h.only;
-}
-
 module _ {words : List ℕ} {c : Card} (s : SoundCard c) {shut marks queue : List ℕ} {tail : ℕ} (h : Begun words c c.public.info.blocks shut marks queue tail) where
   led_within : {b : ℕ} → Led (Edge Along shut (in_use c.public)) marks b → contains b (within_reach (given words) c) ≡ true
   led_within (begins {b = b} e) = within_itself (given words) c b (h.only b e).1
@@ -62,7 +48,7 @@ module _ {words : List ℕ} {c : Card} (s : SoundCard c) {shut marks queue : Lis
   below : (b : ℕ) → contains b (within_reach (given words) c) ≡ true → b < c.public.info.blocks
   below = within_in (given words) c (λ b. b < c.public.info.blocks) (λ b l e. l) (λ a b l r p held open'. l)
 
-  walked : {marks' queue' : List ℕ} {count : ℕ} → Spread (Edge Along shut (in_use c.public)) marks marks' queue' count → Within words c shut marks' count
+  pub walked : {marks' queue' : List ℕ} {count : ℕ} → Spread (Edge Along shut (in_use c.public)) marks marks' queue' count → Within words c shut marks' count
   walked {marks'} w =
       let list : marked_below marks' c.public.info.blocks ≡ within_reach (given words) c =
       within_own (given words) c (λ b. eqb (mark marks' b) 1)
@@ -76,9 +62,3 @@ module _ {words : List ℕ} {c : Card} (s : SoundCard c) {shut marks queue : Lis
         is_marked = list;
         counted = w.walking.counted ∙ marked_below_law marks' c.public.info.blocks few (λ b e. below b (led_within (w.led b e))) ∙ ap length list;
       }
-
-pub walked_within : (words : List ℕ) (info : Info) (flags keys counts pointers multiplicities windows contents : List ℕ) {shut marks marks' queue queue' : List ℕ} {tail count : ℕ}
-    → SoundCard (card info flags keys counts pointers multiplicities windows contents) → Begun words (card info flags keys [] [] [] windows []) info.blocks shut marks queue tail
-    → Spread (Edge Along shut (in_use (card info flags keys counts pointers multiplicities windows contents).public)) marks marks' queue' count
-    → Within words (card info flags keys counts pointers multiplicities windows contents) shut marks' count
-walked_within words info flags keys counts pointers multiplicities windows contents s h w = walked s (begun_card words info flags keys counts pointers multiplicities windows contents info.blocks h) w

@@ -1,24 +1,10 @@
 -- What the walk of the first list asks and leaves.
-use Rattle.std.specs.Prelude.{ℕ, ◌*◌, ◌≤◌, ◌<◌, ◌≡◌, true, false, cond, List, length, get_or, replicate}
+use Rattle.std.specs.Prelude.{ℕ, ◌<◌, ◌≡◌, true, false, cond, List, length, get_or}
 use Rattle.card.specs.Card.{Card}
 use Rattle.card.specs.Reach.{sealed}
-use Rattle.card.specs.declared.Info.{Info}
 use Rattle.report.specs.Report.{given, within_by_itself, within_reach}
 use Rattle.walks.specs.Walk.{mark, marked_below, Walking}
 use Rattle.reach.specs.declared.Standing.{Standing}
-
--- The tables that are looked at have the card's lengths.
-pub record Sized (info : Info) (flags keys windows : List ℕ) : Type 0 where
-  pub blocks_high : info.blocks ≤ 4096
-  pub has_flags : length flags ≡ info.blocks
-  pub has_keys : length keys ≡ 4 * info.blocks
-  pub has_windows : length windows ≡ 2 * info.blocks
-
--- No block is shut, marked or queued yet.
-pub record Fresh (shut marks queue : List ℕ) : Type 0 where
-  pub none_shut : shut ≡ replicate 4096 0
-  pub none_marked : marks ≡ replicate 4096 0
-  pub has_queue : length queue ≡ 4096
 
 pub record StandingOf (words : List ℕ) (c : Card) (b : ℕ) (r : Standing) : Type 0 where
   pub is_shut : r.shut ≡ cond (sealed (given words) c b) 1 0

@@ -1,19 +1,19 @@
 // The first list of the reach report: the blocks within reach of some keys, found by one walk along the pointers.
 #![tactic(auto)]
 
-ghost use Rattle.std.specs.Prelude.{◌≡◌, [], ◌+◌, ◌*◌, ◌≤◌, ◌<◌, length, get_or};
-ghost use Rattle.card.specs.Card.{Card, card};
+ghost use Rattle.std.specs.Prelude.{◌≡◌, ◌+◌, ◌*◌, ◌≤◌, ◌<◌, length, get_or, replicate};
+ghost use Rattle.card.specs.Card.{Card};
 ghost use Rattle.card.specs.Contents.{overwrite};
-ghost use Rattle.card.specs.Lent.{lent, kept, changed};
+ghost use Rattle.card.specs.Lent.{shared_card};
 ghost use Rattle.card.specs.SoundCard.{SoundCard};
 ghost use Rattle.card.specs.Reach.{key_presented};
 ghost use Rattle.report.specs.Report.{given, bad_keys, reach_report};
 ghost use Rattle.report.specs.Reporting.{reach_sound, Reports};
-ghost use Rattle.walks.specs.Walk.{marked_below};
-ghost use Rattle.reach.specs.Within.{StandingOf, Sized, Begun, Within, Fresh};
+ghost use Rattle.walks.specs.Walk.{marked_below, NoneReached};
+ghost use Rattle.reach.specs.Within.{StandingOf, Begun, Within};
 
-use card::{Answer, Info, Mode, Refusal, Verdict};
-use walks::Direction;
+use card::{Answer, Mode, Refusal, SharedCard, Verdict};
+use walks::{Direction, Reached};
 
 // How many words 64 keys have.
 const MOST_WORDS: usize = 128;
@@ -32,13 +32,10 @@ pub fn bad_keys(words: &[u64]) -> bool
 fn given(words: &[u64], high: u64, low: u64) -> bool
     ensures { result ≡ given words.now high low }
 {
-    let keys = words.len() / 2;
-    let mut key = 0;
-    while key < keys {
+    for key in 0..words.len() / 2 {
         if (high == words[2 * key]) & (low == words[2 * key + 1]) {
             return true;
         }
-        key += 1;
     }
     false
 }
@@ -68,91 +65,58 @@ struct Standing {
 }
 
 // 1 for a sealed block, else 0; and whether the block is within reach whatever points to it.
-fn look_at(
-    info: Info,
-    flags: &[u8],
-    keys: &[u64],
-    windows: &[u64],
-    words: &[u64],
-    block: usize,
-) -> Standing
-    requires sized { Sized info flags.now keys.now windows.now }
-    requires block_lt_blocks { block < info.blocks }
-    ensures { StandingOf words.now (card info flags.now keys.now [] [] [] windows.now []) block result }
+fn look_at(card: SharedCard, words: &[u64], block: usize) -> Standing
+    requires sound_card { SoundCard (shared_card card) }
+    requires block_lt_blocks { block < card.info.blocks }
+    ensures { StandingOf words.now (shared_card card.entry) block result }
 {
-    let flag = flags[block];
-    let read = key_given(flag, keys, words, Mode::Reading, block);
-    let write = key_given(flag, keys, words, Mode::Writing, block);
+    let flag = card.flags[block];
+    let read = key_given(flag, card.keys, words, Mode::Reading, block);
+    let write = key_given(flag, card.keys, words, Mode::Writing, block);
     let both = flags::has_key(flag, Mode::Reading) & flags::has_key(flag, Mode::Writing);
     let sealed = both & (!read & !write);
-    let open = access::window_open(info, windows, Mode::Reading, block)
-        | access::window_open(info, windows, Mode::Writing, block);
-    let root = (block < info.roots) & !sealed;
+    let open = access::window_open(card.info, card.windows, Mode::Reading, block)
+        | access::window_open(card.info, card.windows, Mode::Writing, block);
+    let root = (block < card.info.roots) & !sealed;
     Standing {
         shut: sealed as u8,
         within: flags::allocated(flag) & (root | ((read | write) | open)),
     }
 }
 
-// Each sealed block is shut; each that is within reach by itself is marked and queued. How many those are.
-fn begin(
-    info: Info,
-    flags: &[u8],
-    keys: &[u64],
-    windows: &[u64],
-    words: &[u64],
-    shut: &mut [u8; 4096],
-    marks: &mut [u8; 4096],
-    queue: &mut [u16; 4096],
-) -> usize
-    requires sized { Sized info flags.now keys.now windows.now }
-    requires fresh { Fresh shut.old marks.old queue.old }
-    ensures { Begun words.now (card info flags.now keys.now [] [] [] windows.now []) info.blocks shut.new marks.new queue.new result }
+// Each sealed block is shut; each that is within reach by itself is marked and queued.
+fn begin(card: SharedCard, words: &[u64], shut: &mut [u8; 4096], reached: &mut Reached)
+    requires sound_card { SoundCard (shared_card card) }
+    requires shut_value { shut.old ≡ replicate 4096 0 }
+    requires none_reached { NoneReached reached.old }
+    ensures { Begun words.now (shared_card card.entry) card.entry.info.blocks shut.new reached.new.marks reached.new.queue reached.new.count }
 {
-    let mut tail = 0;
-    let mut block = 0;
-    while block < info.blocks {
-        let found = look_at(info, flags, keys, windows, words, block);
+    for block in 0..card.info.blocks {
+        let found = look_at(card, words, block);
         shut[block] = found.shut;
         if found.within {
-            tail = walks::enter(marks, queue, tail, block as u16);
+            reached.enter(block as u16);
         }
-        block += 1;
     }
-    tail
 }
 
 // ---- the walk
 
-// The blocks within reach of the given keys are marked, and the sealed ones shut. How many are within reach.
-pub fn mark_within(
-    info: Info,
-    flags: &[u8],
-    keys: &[u64],
-    counts: &[u32],
-    pointers: &[u32],
-    multiplicities: &[u16],
-    windows: &[u64],
-    contents: &[u8],
-    words: &[u64],
-    shut: &mut [u8; 4096],
-    marks: &mut [u8; 4096],
-    queue: &mut [u16; 4096],
-) -> usize
-    requires sound_card { SoundCard (lent info flags.now keys.now counts.now pointers.now multiplicities.now windows.now contents.now) }
-    requires fresh { Fresh shut.old marks.old queue.old }
-    ensures { Within words.now (lent info flags.now keys.now counts.now pointers.now multiplicities.now windows.now contents.now) shut.new marks.new result }
+// The blocks within reach of the given keys are marked, and the sealed ones shut.
+pub fn mark_within(card: SharedCard, words: &[u64], shut: &mut [u8; 4096], reached: &mut Reached)
+    requires sound_card { SoundCard (shared_card card) }
+    requires shut_value { shut.old ≡ replicate 4096 0 }
+    requires none_reached { NoneReached reached.old }
+    ensures { Within words.now (shared_card card.entry) shut.new reached.new.marks reached.new.count }
 {
-    let begun = begin(info, flags, keys, windows, words, shut, marks, queue);
+    begin(card, words, shut, reached);
     walks::walk(
-        pointers,
-        info.used,
+        card.pointers,
+        card.info.used,
         Direction::Along,
         shut,
-        marks,
-        queue,
-        begun,
-    )
+        reached,
+    );
 }
 
 // ---- the list
@@ -164,97 +128,39 @@ pub fn list(marks: &[u8; 4096], blocks: usize, places: &mut [u16])
     ensures { places.new ≡ overwrite places.old 0 (marked_below marks.now blocks) }
 {
     let mut listed = 0;
-    let mut block = 0;
-    while block < blocks {
+    for block in 0..blocks {
         if marks[block] == 1 {
             places[listed] = block as u16;
             listed += 1;
         }
-        block += 1;
     }
 }
 
 // The report on a sound card.
-fn reach_sound(
-    info: Info,
-    flags: &[u8],
-    keys: &[u64],
-    counts: &[u32],
-    pointers: &[u32],
-    multiplicities: &[u16],
-    windows: &[u64],
-    contents: &[u8],
-    words: &[u64],
-    places: &mut [u16],
-) -> Answer
-    requires { SoundCard (lent info flags.now keys.now counts.now pointers.now multiplicities.now windows.now contents.now) }
-    ensures { Reports (reach_sound words.now) info (kept flags.now) (kept keys.now) (kept counts.now) (kept pointers.now) (kept multiplicities.now) (kept windows.now) (kept contents.now) (changed places.old places.new) result }
+fn reach_sound(card: SharedCard, words: &[u64], places: &mut [u16]) -> Answer
+    requires { SoundCard (shared_card card) }
+    ensures { Reports (reach_sound words.now) card.entry places.old places.new result }
 {
     if bad_keys(words) {
-        return Answer::Refused(Refusal::BadOperand);
+        return Err(Refusal::BadOperand);
     }
     let mut shut = [0u8; 4096];
-    let mut marks = [0u8; 4096];
-    let mut queue = [0u16; 4096];
-    let count = mark_within(
-        info,
-        flags,
-        keys,
-        counts,
-        pointers,
-        multiplicities,
-        windows,
-        contents,
-        words,
-        &mut shut,
-        &mut marks,
-        &mut queue,
-    );
-    if places.len() < count {
-        return Answer::Refused(Refusal::BadOperand);
+    let mut reached = Reached::none();
+    mark_within(card, words, &mut shut, &mut reached);
+    if places.len() < reached.count {
+        return Err(Refusal::BadOperand);
     }
-    list(&marks, info.blocks, places);
-    Answer::Value(count as u64)
+    list(&reached.marks, card.info.blocks, places);
+    Ok(Some(reached.count as u64))
 }
 
 // The report on any record and tables: audited first.
-pub fn reach(
-    info: Info,
-    flags: &[u8],
-    keys: &[u64],
-    counts: &[u32],
-    pointers: &[u32],
-    multiplicities: &[u16],
-    windows: &[u64],
-    contents: &[u8],
-    words: &[u64],
-    places: &mut [u16],
-) -> Answer
-    ensures { Reports (reach_report words.now) info (kept flags.now) (kept keys.now) (kept counts.now) (kept pointers.now) (kept multiplicities.now) (kept windows.now) (kept contents.now) (changed places.old places.new) result }
+pub fn reach(card: SharedCard, words: &[u64], places: &mut [u16]) -> Answer
+    ensures { Reports (reach_report words.now) card.entry places.old places.new result }
 {
-    match audit::audit(
-        info,
-        flags,
-        keys,
-        counts,
-        pointers,
-        multiplicities,
-        windows,
-        contents,
-    ) {
-        Verdict::Misshapen => Answer::Refused(Refusal::Misshapen),
-        Verdict::Unsound => Answer::Refused(Refusal::Unsound),
-        Verdict::Sound => reach_sound(
-            info,
-            flags,
-            keys,
-            counts,
-            pointers,
-            multiplicities,
-            windows,
-            contents,
-            words,
-            places,
-        ),
+    match audit::audit(card) {
+        Verdict::Misshapen => Err(Refusal::Misshapen),
+        Verdict::Unsound => Err(Refusal::Unsound),
+        Verdict::Sound => reach_sound(card, words, places),
     }
 }

@@ -2,363 +2,219 @@
 // What is right is defined in specs/, after document 01, "Call records and the player", and the requests.
 #![tactic(auto)]
 
-ghost use Rattle.std.specs.Prelude.{◌≡◌, ◌≤◌, length};
+ghost use Rattle.std.specs.Prelude.{◌≡◌, ◌≤◌, length, drop, get_or};
+ghost use Rattle.fields.specs.Bytes.{number};
+ghost use Rattle.fields.specs.Fields.{credential, new_key};
 ghost use Rattle.kinds.specs.Kinds.{length_of};
-ghost use Rattle.decoding.specs.Decode.{read_with, write_with, alloc_operands, alloc_with, alloc_contig_with, create_with, delete_operands, delete_with, delete_tree_with, key_with, renew_with, decode_key, decode_call, decode_body};
+ghost use Rattle.decoding.specs.Decode.{transfer_operands, alloc_operands, create_operands, delete_operands, key_operands, renew_operands, decode_call, decode_body};
 ghost use Rattle.decoding.specs.Parsed.{parsed_bad, ParsedIs};
 
 use card::{
     AllocOperands, Call, CreateOperands, Credential, DeleteOperands, ForceOperands, KeyOperands,
-    Mode, Port, ReadOperands, RenewOperands, TickOperands, WriteOperands,
+    Port, RenewOperands, TickOperands, TransferOperands,
 };
-use decoding::{Decoding, Parsed};
-use fields::{ParsedCredential, ParsedKey};
-use kinds::{Kind, Name};
+use decoding::Parsed;
+use fields::BadRecord;
+use kinds::Name;
 
-// ---- the calls of their operands, however these are passed
+// ---- operands, with a credential that is right or wrong, however they are passed
 
-pub fn read_with(port: Port, block: u16, parsed: ParsedCredential, interval: u32) -> Decoding
-    ensures { result ≡ read_with port block parsed interval }
+// Of READ and of WRITE.
+pub fn transfer_operands(
+    block: u16,
+    credential: Result<Credential, BadRecord>,
+    interval: u32,
+) -> Result<TransferOperands, BadRecord>
+    ensures { result ≡ transfer_operands block credential interval }
 {
-    match parsed {
-        ParsedCredential::Valid(credential) => Decoding::Decoded(
-            port,
-            Call::Read(ReadOperands {
-                block,
-                credential,
-                interval,
-            }),
-        ),
-        ParsedCredential::Invalid => Decoding::Bad,
-    }
+    Ok(TransferOperands {
+        block,
+        credential: credential?,
+        interval,
+    })
 }
 
-pub fn write_with(port: Port, block: u16, parsed: ParsedCredential, interval: u32) -> Decoding
-    ensures { result ≡ write_with port block parsed interval }
-{
-    match parsed {
-        ParsedCredential::Valid(credential) => Decoding::Decoded(
-            port,
-            Call::Write(WriteOperands {
-                block,
-                credential,
-                interval,
-            }),
-        ),
-        ParsedCredential::Invalid => Decoding::Bad,
-    }
-}
-
-// ALLOC and ALLOC_CONTIG have the same operands.
-fn alloc_operands(reference: u16, credential: Credential, hint: u16, count: u8) -> AllocOperands
+// Of ALLOC and of ALLOC_CONTIG.
+pub fn alloc_operands(
+    reference: u16,
+    credential: Result<Credential, BadRecord>,
+    hint: u16,
+    count: u8,
+) -> Result<AllocOperands, BadRecord>
     ensures { result ≡ alloc_operands reference credential hint count }
 {
-    AllocOperands {
+    Ok(AllocOperands {
         reference,
-        credential,
+        credential: credential?,
         hint,
         count,
-    }
+    })
 }
 
-pub fn alloc_with(
-    port: Port,
-    reference: u16,
-    parsed: ParsedCredential,
-    hint: u16,
-    count: u8,
-) -> Decoding
-    ensures { result ≡ alloc_with port reference parsed hint count }
-{
-    match parsed {
-        ParsedCredential::Valid(credential) => {
-            let o = alloc_operands(reference, credential, hint, count);
-            Decoding::Decoded(port, Call::Alloc(o))
-        }
-        ParsedCredential::Invalid => Decoding::Bad,
-    }
-}
-
-pub fn alloc_contig_with(
-    port: Port,
-    reference: u16,
-    parsed: ParsedCredential,
-    hint: u16,
-    count: u8,
-) -> Decoding
-    ensures { result ≡ alloc_contig_with port reference parsed hint count }
-{
-    match parsed {
-        ParsedCredential::Valid(credential) => {
-            let o = alloc_operands(reference, credential, hint, count);
-            Decoding::Decoded(port, Call::AllocContig(o))
-        }
-        ParsedCredential::Invalid => Decoding::Bad,
-    }
-}
-
-pub fn create_with(
-    port: Port,
+pub fn create_operands(
     source: u16,
-    first: ParsedCredential,
+    credential: Result<Credential, BadRecord>,
     destination: u16,
-    other: ParsedCredential,
-) -> Decoding
-    ensures { result ≡ create_with port source first destination other }
+    second: Result<Credential, BadRecord>,
+) -> Result<CreateOperands, BadRecord>
+    ensures { result ≡ create_operands source credential destination second }
 {
-    let ParsedCredential::Valid(credential) = first else {
-        return Decoding::Bad;
-    };
-    let ParsedCredential::Valid(second) = other else {
-        return Decoding::Bad;
-    };
-    Decoding::Decoded(
-        port,
-        Call::Create(CreateOperands {
-            source,
-            credential,
-            destination,
-            second,
-        }),
-    )
+    Ok(CreateOperands {
+        source,
+        credential: credential?,
+        destination,
+        second: second?,
+    })
 }
 
-// DELETE and DELETE_TREE have the same operands.
-fn delete_operands(source: u16, credential: Credential, destination: u16) -> DeleteOperands
+// Of DELETE and of DELETE_TREE.
+pub fn delete_operands(
+    source: u16,
+    credential: Result<Credential, BadRecord>,
+    destination: u16,
+) -> Result<DeleteOperands, BadRecord>
     ensures { result ≡ delete_operands source credential destination }
 {
-    DeleteOperands {
+    Ok(DeleteOperands {
         source,
-        credential,
+        credential: credential?,
         destination,
-    }
+    })
 }
 
-pub fn delete_with(port: Port, source: u16, parsed: ParsedCredential, destination: u16) -> Decoding
-    ensures { result ≡ delete_with port source parsed destination }
-{
-    match parsed {
-        ParsedCredential::Valid(credential) => {
-            let o = delete_operands(source, credential, destination);
-            Decoding::Decoded(port, Call::Delete(o))
-        }
-        ParsedCredential::Invalid => Decoding::Bad,
-    }
-}
-
-pub fn delete_tree_with(
-    port: Port,
-    source: u16,
-    parsed: ParsedCredential,
-    destination: u16,
-) -> Decoding
-    ensures { result ≡ delete_tree_with port source parsed destination }
-{
-    match parsed {
-        ParsedCredential::Valid(credential) => {
-            let o = delete_operands(source, credential, destination);
-            Decoding::Decoded(port, Call::DeleteTree(o))
-        }
-        ParsedCredential::Invalid => Decoding::Bad,
-    }
-}
-
-// KEY_READ or KEY_WRITE, by the mode whose key it sets.
-pub fn key_with(
-    port: Port,
-    mode: Mode,
+// Of KEY_READ and of KEY_WRITE.
+pub fn key_operands(
     block: u16,
-    parsed: ParsedCredential,
-    new: ParsedKey,
-) -> Decoding
-    ensures { result ≡ key_with port mode block parsed new }
+    credential: Result<Credential, BadRecord>,
+    key: Result<Option<(u64, u64)>, BadRecord>,
+) -> Result<KeyOperands, BadRecord>
+    ensures { result ≡ key_operands block credential key }
 {
-    let ParsedCredential::Valid(credential) = parsed else {
-        return Decoding::Bad;
-    };
-    let ParsedKey::Valid(key) = new else {
-        return Decoding::Bad;
-    };
-    let o = KeyOperands {
+    Ok(KeyOperands {
         block,
-        credential,
-        key,
-    };
-    match mode {
-        Mode::Reading => Decoding::Decoded(port, Call::KeyRead(o)),
-        Mode::Writing => Decoding::Decoded(port, Call::KeyWrite(o)),
-    }
+        credential: credential?,
+        key: key?,
+    })
 }
 
 // RENEW is by a key alone.
-pub fn renew_with(
-    port: Port,
+pub fn renew_operands(
     mode: u8,
     block: u16,
-    parsed: ParsedCredential,
+    credential: Result<Credential, BadRecord>,
     interval: u32,
-) -> Decoding
-    ensures { result ≡ renew_with port mode block parsed interval }
+) -> Result<RenewOperands, BadRecord>
+    ensures { result ≡ renew_operands mode block credential interval }
 {
-    let ParsedCredential::Valid(credential) = parsed else {
-        return Decoding::Bad;
-    };
-    match credential {
-        Credential::Nothing => Decoding::Bad,
-        Credential::Reference(_) => Decoding::Bad,
-        Credential::Key(high, low) => Decoding::Decoded(
-            port,
-            Call::Renew(RenewOperands {
-                mode,
-                block,
-                high,
-                low,
-                interval,
-            }),
-        ),
+    match credential? {
+        Credential::Key(high, low) => Ok(RenewOperands {
+            mode,
+            block,
+            high,
+            low,
+            interval,
+        }),
+        Credential::Nothing => Err(BadRecord),
+        Credential::Reference(_) => Err(BadRecord),
     }
 }
 
 // ---- bodies
 
-// Each function for one call looks at a body that is not cut short.
+// Each function for the operands of a call looks at a body that is not cut short.
 
-fn decode_read(port: Port, body: &[u8]) -> Decoding
+// WRITE's data stay in the body, behind the bytes that are looked at here.
+fn decode_transfer(body: &[u8]) -> Result<TransferOperands, BadRecord>
     requires { 23 ≤ length body.now }
-    ensures { result ≡ decode_call port Name.Read body.now }
+    ensures { result ≡ transfer_operands (number 2 body.now) (credential (drop 2 body.now)) (number 4 (drop 19 body.now)) }
 {
     let block = fields::two(body, 0);
     let credential = fields::credential(body, 2);
     let interval = fields::four(body, 19);
-    read_with(port, block, credential, interval)
+    transfer_operands(block, credential, interval)
 }
 
-// The data stay in the body, behind the bytes that are looked at here.
-fn decode_write(port: Port, body: &[u8]) -> Decoding
-    requires { 535 ≤ length body.now }
-    ensures { result ≡ decode_call port Name.Write body.now }
-{
-    let block = fields::two(body, 0);
-    let credential = fields::credential(body, 2);
-    let interval = fields::four(body, 19);
-    write_with(port, block, credential, interval)
-}
-
-fn decode_alloc(port: Port, body: &[u8]) -> Decoding
+fn decode_alloc(body: &[u8]) -> Result<AllocOperands, BadRecord>
     requires { 22 ≤ length body.now }
-    ensures { result ≡ decode_call port Name.Alloc body.now }
+    ensures { result ≡ alloc_operands (number 2 body.now) (credential (drop 2 body.now)) (number 2 (drop 19 body.now)) (get_or body.now 21 0) }
 {
     let reference = fields::two(body, 0);
     let credential = fields::credential(body, 2);
     let hint = fields::two(body, 19);
-    let count = body[21];
-    alloc_with(port, reference, credential, hint, count)
+    alloc_operands(reference, credential, hint, body[21])
 }
 
-fn decode_alloc_contig(port: Port, body: &[u8]) -> Decoding
-    requires { 22 ≤ length body.now }
-    ensures { result ≡ decode_call port Name.AllocContig body.now }
-{
-    let reference = fields::two(body, 0);
-    let credential = fields::credential(body, 2);
-    let hint = fields::two(body, 19);
-    let count = body[21];
-    alloc_contig_with(port, reference, credential, hint, count)
-}
-
-fn decode_create(port: Port, body: &[u8]) -> Decoding
+fn decode_create(body: &[u8]) -> Result<CreateOperands, BadRecord>
     requires { 38 ≤ length body.now }
-    ensures { result ≡ decode_call port Name.Create body.now }
+    ensures { result ≡ create_operands (number 2 body.now) (credential (drop 2 body.now)) (number 2 (drop 19 body.now)) (credential (drop 21 body.now)) }
 {
     let source = fields::two(body, 0);
     let credential = fields::credential(body, 2);
     let destination = fields::two(body, 19);
     let second = fields::credential(body, 21);
-    create_with(port, source, credential, destination, second)
+    create_operands(source, credential, destination, second)
 }
 
-fn decode_delete(port: Port, body: &[u8]) -> Decoding
+fn decode_delete(body: &[u8]) -> Result<DeleteOperands, BadRecord>
     requires { 21 ≤ length body.now }
-    ensures { result ≡ decode_call port Name.Delete body.now }
+    ensures { result ≡ delete_operands (number 2 body.now) (credential (drop 2 body.now)) (number 2 (drop 19 body.now)) }
 {
     let source = fields::two(body, 0);
     let credential = fields::credential(body, 2);
     let destination = fields::two(body, 19);
-    delete_with(port, source, credential, destination)
+    delete_operands(source, credential, destination)
 }
 
-fn decode_delete_tree(port: Port, body: &[u8]) -> Decoding
-    requires { 21 ≤ length body.now }
-    ensures { result ≡ decode_call port Name.DeleteTree body.now }
-{
-    let source = fields::two(body, 0);
-    let credential = fields::credential(body, 2);
-    let destination = fields::two(body, 19);
-    delete_tree_with(port, source, credential, destination)
-}
-
-// KEY_READ and KEY_WRITE have the same body.
-fn decode_key(port: Port, mode: Mode, body: &[u8]) -> Decoding
+fn decode_key(body: &[u8]) -> Result<KeyOperands, BadRecord>
     requires { 36 ≤ length body.now }
-    ensures { result ≡ decode_key port mode body.now }
+    ensures { result ≡ key_operands (number 2 body.now) (credential (drop 2 body.now)) (new_key (drop 19 body.now)) }
 {
     let block = fields::two(body, 0);
     let credential = fields::credential(body, 2);
-    let new = fields::new_key(body, 19);
-    key_with(port, mode, block, credential, new)
+    let key = fields::new_key(body, 19);
+    key_operands(block, credential, key)
 }
 
-// A bare key.
-fn decode_renew(port: Port, body: &[u8]) -> Decoding
+// The key stands bare.
+fn decode_renew(body: &[u8]) -> RenewOperands
     requires { 23 ≤ length body.now }
-    ensures { result ≡ decode_call port Name.Renew body.now }
+    ensures { (port : Port) → Ok (port, Call.Renew result) ≡ decode_call port Name.Renew body.now }
 {
-    let mode = body[0];
-    let block = fields::two(body, 1);
-    let high = fields::eight(body, 3);
-    let low = fields::eight(body, 11);
-    let interval = fields::four(body, 19);
-    let key = ParsedCredential::Valid(Credential::Key(high, low));
-    renew_with(port, mode, block, key, interval)
-}
-
-fn decode_force(port: Port, body: &[u8]) -> Decoding
-    requires { 2 ≤ length body.now }
-    ensures { result ≡ decode_call port Name.Force body.now }
-{
-    let block = fields::two(body, 0);
-    Decoding::Decoded(port, Call::Force(ForceOperands { block }))
-}
-
-fn decode_tick(port: Port, body: &[u8]) -> Decoding
-    requires { 8 ≤ length body.now }
-    ensures { result ≡ decode_call port Name.Tick body.now }
-{
-    let seconds = fields::eight(body, 0);
-    Decoding::Decoded(port, Call::Tick(TickOperands { seconds }))
+    RenewOperands {
+        mode: body[0],
+        block: fields::two(body, 1),
+        high: fields::eight(body, 3),
+        low: fields::eight(body, 11),
+        interval: fields::four(body, 19),
+    }
 }
 
 // A body that is not cut short, by its call.
-fn decode_call(port: Port, name: Name, body: &[u8]) -> Decoding
+fn decode_call(port: Port, name: Name, body: &[u8]) -> Result<(Port, Call), BadRecord>
     requires { length_of name ≤ length body.now }
     ensures { result ≡ decode_call port name body.now }
 {
-    match name {
-        Name::Read => decode_read(port, body),
-        Name::Write => decode_write(port, body),
-        Name::Alloc => decode_alloc(port, body),
-        Name::Create => decode_create(port, body),
-        Name::Delete => decode_delete(port, body),
-        Name::KeyRead => decode_key(port, Mode::Reading, body),
-        Name::Renew => decode_renew(port, body),
-        Name::Force => decode_force(port, body),
-        Name::Free => Decoding::Decoded(port, Call::Free),
-        Name::Tick => decode_tick(port, body),
-        Name::Audit => Decoding::Decoded(port, Call::Audit),
-        Name::AllocContig => decode_alloc_contig(port, body),
-        Name::KeyWrite => decode_key(port, Mode::Writing, body),
-        Name::DeleteTree => decode_delete_tree(port, body),
-    }
+    let call = match name {
+        Name::Read => Call::Read(decode_transfer(body)?),
+        Name::Write => Call::Write(decode_transfer(body)?),
+        Name::Alloc => Call::Alloc(decode_alloc(body)?),
+        Name::Create => Call::Create(decode_create(body)?),
+        Name::Delete => Call::Delete(decode_delete(body)?),
+        Name::KeyRead => Call::KeyRead(decode_key(body)?),
+        Name::Renew => Call::Renew(decode_renew(body)),
+        Name::Force => Call::Force(ForceOperands {
+            block: fields::two(body, 0),
+        }),
+        Name::Free => Call::Free,
+        Name::Tick => Call::Tick(TickOperands {
+            seconds: fields::eight(body, 0),
+        }),
+        Name::Audit => Call::Audit,
+        Name::AllocContig => Call::AllocContig(decode_alloc(body)?),
+        Name::KeyWrite => Call::KeyWrite(decode_key(body)?),
+        Name::DeleteTree => Call::DeleteTree(decode_delete(body)?),
+    };
+    Ok((port, call))
 }
 
 // Refusal 13: there is no body.
@@ -366,7 +222,7 @@ pub fn bad() -> Parsed
     ensures { result ≡ parsed_bad }
 {
     Parsed {
-        decoding: Decoding::Bad,
+        decoding: Err(BadRecord),
         payload: 0,
         end: 0,
     }
@@ -376,17 +232,15 @@ pub fn bad() -> Parsed
 pub fn decode(wire: Port, kind: u8, body: &[u8]) -> Parsed
     ensures { ParsedIs (decode_body wire kind body.now) body.now result }
 {
-    let known = lengths::kind_of(wire, kind);
-    let Kind::Known(port, name) = known else {
+    let Some((port, name)) = lengths::kind_of(wire, kind) else {
         return bad();
     };
     let lengths = lengths::lengths_at(kind);
     if body.len() < lengths.body {
         return bad();
     }
-    let decoding = decode_call(port, name, body);
     Parsed {
-        decoding,
+        decoding: decode_call(port, name, body),
         payload: lengths.operands,
         end: lengths.body,
     }

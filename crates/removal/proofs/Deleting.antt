@@ -2,7 +2,8 @@
 use Prim.Native.Nat.{ℕ, ◌*◌, ◌≤◌, ◌<◌}
 use mathlib.Core.Path.{◌≡◌, refl, sym, ap, ◌∙◌, subst}
 use mathlib.Core.Bool.{Bool, true, false}
-use mathlib.Core.List.{List, [], ◌∷◌}
+use Rattle.std.specs.Prelude.{Result, Ok, Err}
+use mathlib.Core.List.{List, []}
 use native.Mathlib.Omega.{arith}
 use lib.ListN.{length, get_or}
 use lib.Seq.{get_or-take, length-take-le}
@@ -12,7 +13,7 @@ use Rattle.card.specs.Pointers.{pointer}
 use Rattle.card.specs.Card.{Card, key_flag, has_key, points_to}
 use Rattle.card.specs.SoundCard.{SoundCard, RightPointer}
 use Rattle.laws.specs.SoundnessLaws.{allocated_below}
-use Rattle.card.specs.Plan.{FirstHolds, here, NoneHolds, drop_pointer, drop_from, changes, out_after, places_after}
+use Rattle.card.specs.Plan.{FirstHolds, here, NoneHolds, change, change_public, change_keys, changes, out_after, places_after}
 use Rattle.laws.specs.PlanLaws.{holds_front, holds_behind}
 use Rattle.card.specs.Calls.{freed_with, free_each, delete_tree_plan}
 use Rattle.card.specs.Promises.{Is}
@@ -23,7 +24,7 @@ use Rattle.card.specs.declared.Mode.TheVariants.{Writing}
 use Rattle.card.specs.declared.DeleteOperands.{DeleteOperands}
 use Rattle.card.specs.declared.Refusal.{Refusal}
 use Rattle.card.specs.declared.Refusal.TheVariants.{HasWriteKey}
-use Rattle.card.specs.declared.Answer.TheVariants.{Value}
+use Rattle.card.specs.Answers.{Value}
 use Rattle.tables.specs.InUseLaws.{sound_sorted, sound_paired}
 use Rattle.checks.specs.Checked.{Refuses, Passes}
 use Rattle.walks.specs.Walk.{marked_below}
@@ -31,10 +32,8 @@ use Rattle.walks.specs.WalkLaws.{sound_walkable, sound_right}
 use Rattle.trees.specs.Freed.{Freed}
 use Rattle.linking.specs.Removal.{removal}
 use Rattle.linking.proofs.Deleting.{none_behind}
-use Rattle.removal.specs.Dropping.{CanDrop}
+use Rattle.removal.specs.Dropping.{CanDrop, dropped_with}
 use Rattle.removal.specs.TreeChecked.{tree_request, TreeFound, refuses, frees}
-use Rattle.removal.specs.declared.TreeChecked.{TreeChecked}
-use Rattle.removal.specs.declared.TreeChecked.TheVariants.{Refused, Frees}
 
 module _ (port : Port) (c : Card) (o : DeleteOperands) where
   -- ---- the checks
@@ -60,15 +59,15 @@ module _ (port : Port) (c : Card) (o : DeleteOperands) where
   -- ---- what they found
 
   module _ {marks : List ℕ} where
-    pub found_refused : {v : TreeChecked} {r : Refusal} → TreeFound port c o marks v → v ≡ Refused r → Refuses port c (tree_request o) r
+    pub found_refused : {v : Result ℕ Refusal} {r : Refusal} → TreeFound port c o marks v → v ≡ Err r → Refuses port c (tree_request o) r
     found_refused (refuses h) e = subst (λ (x : Refusal). Refuses port c (tree_request o) x) (cc) h
     found_refused (frees h f) e = let z : ◌≡◌ {A = ℕ} 0 1 = cc in absurd (omega arith)
 
-    pub found_passes : {v : TreeChecked} {count : ℕ} → TreeFound port c o marks v → v ≡ Frees count → Passes port c (tree_request o)
+    pub found_passes : {v : Result ℕ Refusal} {count : ℕ} → TreeFound port c o marks v → v ≡ Ok count → Passes port c (tree_request o)
     found_passes (refuses h) e = let z : ◌≡◌ {A = ℕ} 0 1 = cc in absurd (omega arith)
     found_passes (frees h f) e = h
 
-    pub found_freed : {v : TreeChecked} {count : ℕ} → TreeFound port c o marks v → v ≡ Frees count → Freed c.public o.source o.destination marks count
+    pub found_freed : {v : Result ℕ Refusal} {count : ℕ} → TreeFound port c o marks v → v ≡ Ok count → Freed c.public o.source o.destination marks count
     found_freed (refuses h) e = let z : ◌≡◌ {A = ℕ} 0 1 = cc in absurd (omega arith)
     found_freed (frees h f) e = subst (λ (n : ℕ). Freed c.public o.source o.destination marks n) (cc) f
 
@@ -95,17 +94,16 @@ module _ (port : Port) (c : Card) (o : DeleteOperands) where
       source_below = λ k l. allocated_below c.public _ (right k l).source_allocated;
     }
 
-    pub freeable : (c.public.info.blocks ≤ 4096)
-        × ((c.public.info.blocks ≤ length c.public.flags)
-        × ((4 * c.public.info.blocks ≤ length c.keys) × (2 * c.public.info.blocks ≤ length c.public.windows)))
-    freeable = (
-      s.shaped.in_ranges.blocks_high,
+    -- The dropped pointers leave the flags, the keys and the windows.
+    pub freeable : {between : Card} (blocks : List ℕ) → between ≡ changes c (dropped_with o.source o.destination blocks)
+        → (c.public.info.blocks ≤ length between.public.flags)
+        × ((4 * c.public.info.blocks ≤ length between.keys) × (2 * c.public.info.blocks ≤ length between.public.windows))
+    unfolding changes change change_public change_keys
+    freeable blocks e = rw e (
+      omega (arith, s.shaped.has_lengths.flags),
       (
-        omega (arith, s.shaped.has_lengths.flags),
-        (
-          omega (arith, s.shaped.has_lengths.keys),
-          omega (arith, s.shaped.has_lengths.windows),
-        ),
+        omega (arith, s.shaped.has_lengths.keys),
+        omega (arith, s.shaped.has_lengths.windows),
       ),
     )
 
@@ -113,7 +111,7 @@ module _ (port : Port) (c : Card) (o : DeleteOperands) where
 
   -- The blocks are freed on the card that the dropped pointers leave.
   pub tree_deleted : {marks : List ℕ} {count : ℕ} {between after : Card} → Passes port c (tree_request o) → Freed c.public o.source o.destination marks count
-      → between ≡ changes c (drop_pointer o.source o.destination ∷ (drop_from (marked_below marks c.public.info.blocks) ∷ []))
+      → between ≡ changes c (dropped_with o.source o.destination (marked_below marks c.public.info.blocks))
       → after ≡ changes between (free_each (marked_below marks c.public.info.blocks))
       → Is (perform_sound port c (tree_request o)) (Value count) after [] []
   unfolding perform_sound plan delete_tree_plan changes out_after places_after

@@ -1,5 +1,4 @@
 pub mod Marked
 pub mod Closing
-pub mod Blanking
 pub mod Dropped
 pub mod Deleting

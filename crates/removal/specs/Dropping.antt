@@ -2,12 +2,9 @@
 use Rattle.std.specs.Prelude.{ℕ, ◌-◌, ◌<◌, ◌≡◌, Bool, true, ◌||◌, not, List, [], ◌∷◌, ◌++◌, eqb, length, take, drop, get_or}
 use Rattle.card.specs.Pointers.{source, destination, contains, pointers_to, keep, keep_beside}
 use Rattle.card.specs.Contents.{zeros}
-use Rattle.card.specs.Card.{card}
-use Rattle.card.specs.Lent.{Lent}
-use Rattle.card.specs.Plan.{drop_pointer, drop_from, changes}
-use Rattle.card.specs.declared.Info.{Info}
+use Rattle.card.specs.Plan.{Change, drop_pointer, drop_from}
 use Rattle.tables.specs.InUse.{Sorted, Paired}
-use Rattle.walks.specs.Walk.{Walkable, mark, marked_below}
+use Rattle.walks.specs.Walk.{Walkable, mark}
 
 -- The pointer is not the one that goes, and starts at no marked block.
 unfoldable pub stays : List ℕ → ℕ → ℕ → Bool
@@ -47,11 +44,6 @@ pub record CanDrop (counts pointers multiplicities : List ℕ) (used blocks w : 
   pub present : contains w (take used pointers) ≡ true
   pub source_below : (k : ℕ) → k < used → source (get_or pointers k 0) < blocks
 
--- The pointer from a to b is dropped, and each pointer that starts at a marked block, whatever the other tables hold.
-abbrev pub DropsPointers : ℕ → ℕ → List ℕ → Info → Lent → Lent → Lent → Info → Type 0
-DropsPointers a b marks info counts pointers multiplicities after =
-    (flags keys windows contents : List ℕ)
-    → card after flags keys counts.exit pointers.exit multiplicities.exit windows contents
-    ≡ changes
-    (card info flags keys counts.entry pointers.entry multiplicities.entry windows contents)
-    (drop_pointer a b ∷ (drop_from (marked_below marks info.blocks) ∷ []))
+-- The pointer from a to b is dropped, and each pointer that starts at one of the blocks.
+abbrev pub dropped_with : ℕ → ℕ → List ℕ → List Change
+dropped_with a b blocks = drop_pointer a b ∷ (drop_from blocks ∷ [])

@@ -5,26 +5,19 @@ ghost use Rattle.std.specs.Prelude.{◌≡◌, [], ◌*◌, ◌≤◌, length, g
 ghost use Rattle.card.specs.Lists.{any};
 ghost use Rattle.card.specs.Pointers.{pointer};
 ghost use Rattle.card.specs.Card.{key_flag};
-ghost use Rattle.card.specs.Lent.{Performs, lent, kept, changed};
+ghost use Rattle.card.specs.Lent.{Performs, SameTables, lent_card, changed};
+ghost use Rattle.card.specs.Plan.{changes};
 ghost use Rattle.card.specs.SoundCard.{SoundCard};
 ghost use Rattle.card.specs.Session.{request, perform_sound};
 ghost use Rattle.card.specs.declared.Call.TheVariants.{DeleteTree};
 ghost use Rattle.card.specs.declared.Mode.TheVariants.{Writing};
-ghost use Rattle.walks.specs.Walk.{marked_below};
-ghost use Rattle.removal.specs.Dropping.{Countable, ClosedUp, Blanked, CanDrop, DropsPointers};
+ghost use Rattle.walks.specs.Walk.{marked_below, NoneReached};
+ghost use Rattle.removal.specs.Dropping.{Countable, ClosedUp, Blanked, CanDrop, dropped_with};
 ghost use Rattle.removal.specs.Freeing.{FreesEach};
 ghost use Rattle.removal.specs.TreeChecked.{TreeFound};
 
-use card::{Answer, DeleteOperands, Info, Mode, Outcome, Port, Refusal};
-use checks::Checked;
-
-// What the checks of DELETE_TREE find: the refusal, or how many blocks are freed.
-#[derive(Drop)]
-#[derive(Clone, Copy)]
-pub enum TreeChecked {
-    Refused(Refusal),
-    Frees(usize),
-}
+use card::{Answer, DeleteOperands, LentCard, Mode, Port, Refusal};
+use walks::Reached;
 
 // ---- the checks
 
@@ -34,67 +27,31 @@ fn some_write_key(flags: &[u8], marks: &[u8; 4096], blocks: usize) -> bool
     requires blocks_bound { blocks ≤ 4096 }
     ensures { result ≡ any (λ b. key_flag Writing (get_or flags.now b 0)) (marked_below marks.now blocks) }
 {
-    let mut at = 0;
-    while at < blocks {
+    for at in 0..blocks {
         if (marks[at] == 1) & flags::has_key(flags[at], Mode::Writing) {
             return true;
         }
-        at += 1;
     }
     false
 }
 
-// The checks of DELETE_TREE. The blocks that are freed are marked.
+// The checks of DELETE_TREE. The blocks that are freed are marked: how many.
 fn tree_check(
-    info: Info,
-    flags: &[u8],
-    keys: &[u64],
-    counts: &[u32],
-    pointers: &[u32],
-    multiplicities: &[u16],
-    windows: &[u64],
-    contents: &[u8],
+    card: &LentCard,
     port: Port,
     o: DeleteOperands,
-    marks: &mut [u8; 4096],
-) -> TreeChecked
-    requires sound_card { SoundCard (lent info flags.now keys.now counts.now pointers.now multiplicities.now windows.now contents.now) }
-    requires marks_value { marks.old ≡ replicate 4096 0 }
-    ensures { TreeFound port (lent info flags.now keys.now counts.now pointers.now multiplicities.now windows.now contents.now) o marks.new result }
+    reached: &mut Reached,
+) -> Result<usize, Refusal>
+    requires sound_card { SoundCard (lent_card card.now) }
+    requires none_reached { NoneReached reached.old }
+    ensures { TreeFound port (lent_card card.now) o reached.new.marks result }
 {
-    match linking::removal_check(
-        info,
-        flags,
-        keys,
-        counts,
-        pointers,
-        multiplicities,
-        windows,
-        contents,
-        port,
-        o,
-    ) {
-        Checked::Refused(why) => TreeChecked::Refused(why),
-        Checked::Passed => {
-            let count = trees::freed_with(
-                info,
-                flags,
-                keys,
-                counts,
-                pointers,
-                multiplicities,
-                windows,
-                contents,
-                o.source,
-                o.destination,
-                marks,
-            );
-            if some_write_key(flags, marks, info.blocks) {
-                return TreeChecked::Refused(Refusal::HasWriteKey);
-            }
-            TreeChecked::Frees(count)
-        }
+    linking::removal_check(card, port, o)?;
+    trees::freed_with(card, o.source, o.destination, reached);
+    if some_write_key(card.flags, &reached.marks, card.info.blocks) {
+        return Err(Refusal::HasWriteKey);
     }
+    Ok(reached.count)
 }
 
 // ---- the pointers
@@ -112,20 +69,18 @@ fn close_up(
     ensures { ClosedUp marks.now gone used counts.old pointers.old multiplicities.old counts.new pointers.new multiplicities.new result }
 {
     let mut kept: usize = 0;
-    let mut at: usize = 0;
-    while at < used {
+    for at in 0..used {
         let pointer = pointers[at];
         let times = multiplicities[at];
         let from = (pointer / 65536) as usize;
         if (pointer == gone) | (marks[from] == 1) {
             let to = (pointer % 65536) as usize;
-            counts[to] = counts[to] - (times as u32);
+            counts[to] -= times as u32;
         } else {
             pointers[kept] = pointer;
             multiplicities[kept] = times;
             kept += 1;
         }
-        at += 1;
     }
     kept
 }
@@ -137,32 +92,28 @@ fn blank(pointers: &mut [u32], multiplicities: &mut [u16], from: usize, to: usiz
     requires to_in_bounds_2 { to ≤ length multiplicities.old }
     ensures { Blanked pointers.old multiplicities.old from to pointers.new multiplicities.new }
 {
-    let mut at = from;
-    while at < to {
-        pointers[at] = 0;
-        multiplicities[at] = 0;
-        at += 1;
-    }
+    pointers[from..to].fill(0);
+    multiplicities[from..to].fill(0);
 }
 
 // The pointer is dropped, and each pointer that starts at a marked block.
-fn drop_pointers(
-    info: Info,
-    counts: &mut [u32],
-    pointers: &mut [u32],
-    multiplicities: &mut [u16],
-    marks: &[u8; 4096],
-    source: u16,
-    destination: u16,
-) -> Info
-    requires { CanDrop counts.old pointers.old multiplicities.old info.used info.blocks (pointer source destination) }
-    ensures { DropsPointers source destination marks.now info (changed counts.old counts.new) (changed pointers.old pointers.new) (changed multiplicities.old multiplicities.new) result }
+fn drop_pointers(card: &mut LentCard, marks: &[u8; 4096], source: u16, destination: u16)
+    requires { CanDrop card.old.counts.now card.old.pointers.now card.old.multiplicities.now card.old.info.used card.old.info.blocks (pointer source destination) }
+    ensures same { SameTables card.old card.new }
+    ensures drops { lent_card card.new ≡ changes (lent_card card.old) (dropped_with source destination (marked_below marks.now card.old.info.blocks)) }
 {
-    let used = info.used;
+    let used = card.info.used;
     let gone = (source as u32) * 65536 + (destination as u32);
-    let kept = close_up(counts, pointers, multiplicities, used, marks, gone);
-    blank(pointers, multiplicities, kept, used);
-    tables::with_used(info, kept)
+    let kept = close_up(
+        card.counts,
+        card.pointers,
+        card.multiplicities,
+        used,
+        marks,
+        gone,
+    );
+    blank(card.pointers, card.multiplicities, kept, used);
+    card.info.used = kept;
 }
 
 // ---- the blocks
@@ -181,57 +132,25 @@ fn free_marked(
     requires blocks_in_bounds_3 { 2 * blocks ≤ length windows.old }
     ensures { FreesEach (marked_below marks.now blocks) (changed flags.old flags.new) (changed keys.old keys.new) (changed windows.old windows.new) }
 {
-    let mut at = 0;
-    while at < blocks {
+    for at in 0..blocks {
         if marks[at] == 1 {
             changes::free_block(flags, keys, windows, at as u16);
         }
-        at += 1;
     }
 }
 
 // ---- the call
 
 // DELETE_TREE on a card that has been audited.
-pub fn delete_tree_sound(
-    info: Info,
-    flags: &mut [u8],
-    keys: &mut [u64],
-    counts: &mut [u32],
-    pointers: &mut [u32],
-    multiplicities: &mut [u16],
-    windows: &mut [u64],
-    contents: &[u8],
-    port: Port,
-    o: DeleteOperands,
-) -> Outcome
-    requires { SoundCard (lent info flags.old keys.old counts.old pointers.old multiplicities.old windows.old contents.now) }
-    ensures { Performs (λ c. perform_sound port c (request (DeleteTree o) [] [] [])) info (changed flags.old flags.new) (changed keys.old keys.new) (changed counts.old counts.new) (changed pointers.old pointers.new) (changed multiplicities.old multiplicities.new) (changed windows.old windows.new) (kept contents.now) result [] [] }
+pub fn delete_tree_sound(card: &mut LentCard, port: Port, o: DeleteOperands) -> Answer
+    requires { SoundCard (lent_card card.old) }
+    ensures same { SameTables card.old card.new }
+    ensures performs { Performs (λ c. perform_sound port c (request (DeleteTree o) [] [] [])) card.old card.new result [] [] }
 {
-    let mut marks = [0u8; 4096];
-    match tree_check(
-        info,
-        flags,
-        keys,
-        counts,
-        pointers,
-        multiplicities,
-        windows,
-        contents,
-        port,
-        o,
-        &mut marks,
-    ) {
-        TreeChecked::Refused(why) => outcomes::refused(info, why),
-        TreeChecked::Frees(count) => {
-            let from = o.source;
-            let to = o.destination;
-            let left = drop_pointers(info, counts, pointers, multiplicities, &marks, from, to);
-            free_marked(flags, keys, windows, &marks, info.blocks);
-            Outcome {
-                answer: Answer::Value(count as u64),
-                info: left,
-            }
-        }
-    }
+    let mut reached = Reached::none();
+    let count = tree_check(card, port, o, &mut reached)?;
+    let blocks = card.info.blocks;
+    drop_pointers(card, &reached.marks, o.source, o.destination);
+    free_marked(card.flags, card.keys, card.windows, &reached.marks, blocks);
+    Ok(Some(count as u64))
 }

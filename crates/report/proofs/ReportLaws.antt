@@ -18,7 +18,7 @@ use Rattle.card.specs.Calls.{missing}
 use Rattle.card.specs.Reach.{key_presented, sealed, Reach, unsealed_root, by_key, open_window, pointed}
 use Rattle.card.specs.declared.Mode.{Mode}
 use Rattle.card.specs.declared.Mode.TheVariants.{Reading, Writing}
-use Rattle.card.specs.declared.Answer.TheVariants.{Value}
+use Rattle.card.specs.Answers.{Value}
 use Rattle.card.proofs.Computed.Bounds.{reach_allocated}
 use Rattle.laws.specs.NumbersLaws.{numbers_most, numbers_none}
 use Rattle.laws.specs.LeastLaws.{Some, any_member, member_any, any_within, Monotone, least_in, least_closed, least_own, least_ascends, least_most}

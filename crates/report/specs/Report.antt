@@ -9,7 +9,7 @@ use Rattle.card.specs.Reach.{key_presented, sealed}
 use Rattle.card.specs.Least.{least}
 use Rattle.card.specs.declared.Mode.TheVariants.{Reading, Writing}
 use Rattle.card.specs.declared.Refusal.TheVariants.{NotAllocated, BadOperand}
-use Rattle.card.specs.declared.Answer.TheVariants.{Value}
+use Rattle.card.specs.Answers.{Value}
 
 -- ---- the keys
 

@@ -12,7 +12,7 @@ use Rattle.card.specs.Reach.{presented, sealed, Reach, Hidden}
 use Rattle.card.specs.Statements.Refusals.{RefusedBy}
 use Rattle.card.specs.declared.Mode.TheVariants.{Writing}
 use Rattle.card.specs.declared.Refusal.TheVariants.{Misshapen, Unsound, NotAllocated, BadOperand}
-use Rattle.card.specs.declared.Answer.TheVariants.{Refused, Value}
+use Rattle.card.specs.Answers.{Refused, Value}
 use Rattle.report.specs.Report.{given, within_reach, unlocking, reach_report, unlocking_report}
 
 -- ---- what the lists are

@@ -8,12 +8,11 @@ use native.Mathlib.Omega.{arith}
 use lib.Dec.{ltb}
 use lib.ListN.{length, get_or}
 use borrow.Author.Tests.{lt-ltb, le-ltb}
+use Rattle.std.specs.Prelude.{Option, None, Some}
 use Rattle.card.specs.Lists.{numbers_below}
 use Rattle.laws.specs.ListsLaws.{and_true, and_false_left, and_false_right, absurd_test, false_unless, all_below_true, true_all_below, same_or_other}
 use Rattle.card.specs.Card.{free_flag}
 use Rattle.card.specs.Calls.{distance, nearest}
-use Rattle.runs.specs.declared.NearestRun.{NearestRun}
-use Rattle.runs.specs.declared.NearestRun.TheVariants.{Absent, From}
 use Rattle.runs.specs.Runs.{run_in, starts_in, nearest_of, nearer_of, since_after}
 
 -- ---- the nearest, one more
@@ -29,21 +28,21 @@ unfolding nearest_of nearer_of nearest
 nearest_more want [] s = refl
 nearest_more want (x ∷ xs) s = go (ltb (distance want s) (distance want (nearest want x xs))) (nearest_last want x xs s)
   where
-    go : (t : Bool) → nearest want x (xs ++ (s ∷ [])) ≡ cond t s (nearest want x xs) → From (nearest want x (xs ++ (s ∷ []))) ≡ cond t (From s) (From (nearest want x xs))
-    go true e = ap From e
-    go false e = ap From e
+    go : (t : Bool) → nearest want x (xs ++ (s ∷ [])) ≡ cond t s (nearest want x xs) → Some (nearest want x (xs ++ (s ∷ []))) ≡ cond t (Some s) (Some (nearest want x xs))
+    go true e = ap Some e
+    go false e = ap Some e
 
-module _ (want start : ℕ) {best : NearestRun} where
-  pub nearer_none : best ≡ Absent → From start ≡ nearer_of want best start
+module _ (want start : ℕ) {best : Option ℕ} where
+  pub nearer_none : best ≡ None → Some start ≡ nearer_of want best start
   unfolding nearer_of
   nearer_none e = rw e
 
-  module _ (first : ℕ) {d k : ℕ} (e : best ≡ From first) (toStart : d ≡ distance want start) (toFirst : k ≡ distance want first) where
-    pub nearer_taken : d < k → From start ≡ nearer_of want best start
+  module _ (first : ℕ) {d k : ℕ} (e : best ≡ Some first) (toStart : d ≡ distance want start) (toFirst : k ≡ distance want first) where
+    pub nearer_taken : d < k → Some start ≡ nearer_of want best start
     unfolding nearer_of
     nearer_taken l = rw (e, lt-ltb (distance want start) (distance want first) (omega arith))
 
-    pub nearer_kept : k ≤ d → From first ≡ nearer_of want best start
+    pub nearer_kept : k ≤ d → Some first ≡ nearer_of want best start
     unfolding nearer_of
     nearer_kept l = rw (e, le-ltb (distance want start) (distance want first) (omega arith))
 
@@ -80,14 +79,14 @@ module _ (flags : List ℕ) (count : ℕ) where
 -- ---- the walk
 
 -- Before `block`: the blocks from `since` on are free and the one before them is not, and of the runs that end before the block the nearest is known.
-pub record Met (flags : List ℕ) (want count : ℕ) (best : NearestRun) (since block : ℕ) : Type 0 where
+pub record Met (flags : List ℕ) (want count : ℕ) (best : Option ℕ) (since block : ℕ) : Type 0 where
   pub most : block ≤ length flags
   pub inside : since ≤ block
   pub free : (b : ℕ) → since ≤ b → b < block → free_flag (get_or flags b 0) ≡ true
   pub not_free : (b : ℕ) → b + 1 ≡ since → free_flag (get_or flags b 0) ≡ false
   pub known : best ≡ nearest_of want (numbers_below (run_in flags count) (block + 1 - count))
 
-pub met_start : (flags : List ℕ) (want : ℕ) {count : ℕ} → 1 ≤ count → Met flags want count Absent 0 0
+pub met_start : (flags : List ℕ) (want : ℕ) {count : ℕ} → 1 ≤ count → Met flags want count None 0 0
 unfolding nearest_of numbers_below
 met_start flags want {count} some =
     let none : 0 + 1 - count ≡ 0 = omega arith in
@@ -131,7 +130,7 @@ further flags since block l free not_free = go (free_flag (get_or flags block 0)
       not_free = λ b f. let same : b ≡ block = omega arith in rw same e;
     }
 
-module _ {flags : List ℕ} {want count : ℕ} {best : NearestRun} {since block : ℕ} (m : Met flags want count best since block) (some : 1 ≤ count) (l : block < length flags)
+module _ {flags : List ℕ} {want count : ℕ} {best : Option ℕ} {since block : ℕ} (m : Met flags want count best since block) (some : 1 ≤ count) (l : block < length flags)
     {next : ℕ} (e : next ≡ since_after since block (get_or flags block 0)) where
   after : Further flags next (block + 1)
   after = subst (λ (n : ℕ). Further flags n (block + 1)) (sym e) (further flags since block m.inside m.free m.not_free)
@@ -140,7 +139,7 @@ module _ {flags : List ℕ} {want count : ℕ} {best : NearestRun} {since block 
   met_inside = after.inside
 
   -- A run ends with the block.
-  pub met_run : count ≤ (block + 1) - next → {found : NearestRun} → found ≡ nearer_of want best ((block + 1) - count) → Met flags want count found next (block + 1)
+  pub met_run : count ≤ (block + 1) - next → {found : Option ℕ} → found ≡ nearer_of want best ((block + 1) - count) → Met flags want count found next (block + 1)
   unfolding numbers_below
   met_run enough {found} f =
       let start : ℕ = (block + 1) - count in
@@ -154,20 +153,20 @@ module _ {flags : List ℕ} {want count : ℕ} {best : NearestRun} {since block 
         not_free = after.not_free;
         known =
             f
-            ∙ ap (λ (n : NearestRun). nearer_of want n ((block + 1) - count)) m.known
+            ∙ ap (λ (n : Option ℕ). nearer_of want n ((block + 1) - count)) m.known
             ∙ sym (nearest_more want (numbers_below (run_in flags count) (block + 1 - count)) ((block + 1) - count))
             ∙ rw (one, run);
       }
 
   -- None does.
-  pub met_none : (block + 1) - next < count → Met flags want count best next (block + 1)
+  pub met_none : (block + 1) - next < count → {found : Option ℕ} → found ≡ best → Met flags want count found next (block + 1)
   unfolding numbers_below
-  met_none few = record {
+  met_none few f = record {
     most = omega arith;
     inside = after.inside;
     free = after.free;
     not_free = after.not_free;
-    known = m.known ∙ ap (nearest_of want) (sym same);
+    known = f ∙ m.known ∙ ap (nearest_of want) (sym same);
   }
     where
       same : numbers_below (run_in flags count) (block + 1 + 1 - count) ≡ numbers_below (run_in flags count) (block + 1 - count)
@@ -178,7 +177,7 @@ module _ {flags : List ℕ} {want count : ℕ} {best : NearestRun} {since block 
           (and_false_right (ltb (next - 1) (length flags)) _ (after.not_free (next - 1) (omega (arith, after.inside)))))
 
 -- The whole table is walked: no run starts so high that it would end past the last block.
-pub met_whole : {flags : List ℕ} {want count : ℕ} {best : NearestRun} {since block : ℕ} → Met flags want count best since block → 1 ≤ count → length flags ≤ block
+pub met_whole : {flags : List ℕ} {want count : ℕ} {best : Option ℕ} {since block : ℕ} → Met flags want count best since block → 1 ≤ count → length flags ≤ block
     → best ≡ nearest_of want (starts_in flags count)
 unfolding starts_in
 met_whole {flags} {want} {count} {best} {since} {block} m some l =

@@ -1,10 +1,8 @@
 -- What is found of the runs in a table of flags.
-use Rattle.std.specs.Prelude.{ℕ, ◌+◌, Bool, ◌&&◌, cond, List, [], ◌∷◌, ltb, length, get_or}
+use Rattle.std.specs.Prelude.{Option, None, Some, ℕ, ◌+◌, Bool, ◌&&◌, cond, List, [], ◌∷◌, ltb, length, get_or}
 use Rattle.card.specs.Lists.{all_below, numbers_below}
 use Rattle.card.specs.Card.{free_flag}
 use Rattle.card.specs.Calls.{distance, nearest}
-use Rattle.runs.specs.declared.NearestRun.{NearestRun}
-use Rattle.runs.specs.declared.NearestRun.TheVariants.{Absent, From}
 
 -- So many free blocks from `first` on, as the rule's `is_run` has it.
 unfoldable pub run_in : List ℕ → ℕ → ℕ → Bool
@@ -15,14 +13,14 @@ unfoldable pub starts_in : List ℕ → ℕ → List ℕ
 starts_in flags count = numbers_below (run_in flags count) (length flags)
 
 -- The nearest of them.
-unfoldable pub nearest_of : ℕ → List ℕ → NearestRun
-nearest_of want [] = Absent
-nearest_of want (x ∷ xs) = From (nearest want x xs)
+unfoldable pub nearest_of : ℕ → List ℕ → Option ℕ
+nearest_of want [] = None
+nearest_of want (x ∷ xs) = Some (nearest want x xs)
 
 -- The nearest of those so far and of one more, which is higher.
-unfoldable pub nearer_of : ℕ → NearestRun → ℕ → NearestRun
-nearer_of want Absent start = From start
-nearer_of want (From first) start = cond (ltb (distance want start) (distance want first)) (From start) (From first)
+unfoldable pub nearer_of : ℕ → Option ℕ → ℕ → Option ℕ
+nearer_of want None start = Some start
+nearer_of want (Some first) start = cond (ltb (distance want start) (distance want first)) (Some start) (Some first)
 
 -- Where the free blocks start that end with a block.
 unfoldable pub since_after : ℕ → ℕ → ℕ → ℕ

@@ -1,11 +1,10 @@
 -- Laws of the runs in a table of flags: on a card of the right shape they are the rule's, and so is the nearest.
-use Rattle.std.specs.Prelude.{ℕ, suc, ◌≡◌, refl, false, List, [], ◌∷◌, eqb, length}
+use Rattle.std.specs.Prelude.{None, Some, ℕ, suc, ◌≡◌, refl, false, List, [], ◌∷◌, eqb, length}
 use Rattle.std.proofs.Common.{ap, ◌∙◌, arith, ne_eqb}
 use Rattle.card.specs.Lists.{numbers_below, numbers_from}
 use Rattle.laws.specs.ListsLaws.{numbers_below_same}
 use Rattle.card.specs.Card.{Public, free}
 use Rattle.card.specs.Calls.{nearest, is_run, run_starts, nearest_run}
-use Rattle.runs.specs.declared.NearestRun.TheVariants.{Absent, From}
 use Rattle.runs.specs.Runs.{run_in, starts_in, nearest_of}
 
 -- ---- the rule's runs
@@ -22,12 +21,12 @@ starts_in_law p e count =
 
 -- ---- the nearest of them
 
-pub nearest_absent : (want : ℕ) (starts : List ℕ) → nearest_of want starts ≡ Absent → length starts ≡ 0
+pub nearest_absent : (want : ℕ) (starts : List ℕ) → nearest_of want starts ≡ None → length starts ≡ 0
 unfolding nearest_of
 nearest_absent want [] e = refl
 nearest_absent want (x ∷ xs) e = let z : ◌≡◌ {A = ℕ} 0 1 = cc in absurd (omega arith)
 
-pub nearest_from : (want count : ℕ) (starts : List ℕ) {first : ℕ} → nearest_of want starts ≡ From first
+pub nearest_from : (want count : ℕ) (starts : List ℕ) {first : ℕ} → nearest_of want starts ≡ Some first
     → (nearest_run want count starts ≡ numbers_from first count) × (eqb (length starts) 0 ≡ false)
 unfolding nearest_of nearest_run
 nearest_from want count [] e = let z : ◌≡◌ {A = ℕ} 0 1 = cc in absurd (omega arith)

@@ -1,5 +1,6 @@
 -- Any sequence of C functions, at either port and on any record and tables: what is returned and left is what the calls return and leave by the rules, each on
 -- the card that the one before left.
+use Rattle.std.specs.Prelude.{Ok, Err, Option, Some, None}
 use Prim.Native.Nat.{ℕ, ◌-◌, ◌≤◌}
 use mathlib.Core.Path.{◌≡◌, refl, sym, ap, ap₂, ◌∙◌}
 use mathlib.Core.Bool.{Bool, true, false, cond}
@@ -16,20 +17,17 @@ use Rattle.card.specs.Session.{Sent, request, perform, after_all, each}
 use Rattle.laws.specs.SessionLaws.{after_all_append}
 use Rattle.card.specs.Statements.Safe.{SafeCall}
 use Rattle.guarantees.proofs.Safe.{safe_call}
-use Rattle.decoding.specs.declared.Decoding.{Decoding}
-use Rattle.decoding.specs.declared.Decoding.TheVariants.{Decoded, Bad}
 use Rattle.input.specs.Play.{Play}
 use Rattle.input.specs.Played.{PlayedIs}
 use Rattle.serving.specs.Serve.{serve}
 use Rattle.serving.proofs.BytesSafe.{left_by_calls}
 use Rattle.parameters.specs.Numbers.{wire_of}
 use Rattle.adapter.specs.Effects.{Effect, effect_of, refused_effect, effect, Does, Gives}
-use Rattle.parameters.specs.declared.Wire.{Wire}
-use Rattle.parameters.specs.declared.Wire.TheVariants.{At, Nowhere}
 use Rattle.interface.specs.Functions.{Function, Lending, lending_of, effect_by}
 use Rattle.interface.specs.Batch.{stop_number, BatchState, BatchServed, BatchIs}
 use Rattle.sequences.specs.Statements.{SafeCalls, CallsSafe}
 use Rattle.sequences.specs.Sequence.{Memory, card_of, Step, calls, batches, Returned, from_call, from_batch, state_of, Called, none, called, batched, is_whole, sent_of, sent_at, calls_of, calls_in, call_returns, by_play, batch_returns, returns_of, returns_in}
+use Rattle.decoding.specs.Decode.{Decoding}
 
 -- ---- one step
 
@@ -59,15 +57,15 @@ no_calls c false = refl
 
 module _ (info : List ℕ) (c : Card) (l : Lending) where
   decoded_safe : (port : Port) (call : Call) (t : Bool) → is_whole info ≡ t
-      → EffectSafe info c (Decoded port call) l (cond t (effect_of (perform port c (request call l.input l.out l.places)) l.value) (refused_effect 1 l.out l.places l.value info c))
+      → EffectSafe info c (Ok (port, call)) l (cond t (effect_of (perform port c (request call l.input l.out l.places)) l.value) (refused_effect 1 l.out l.places l.value info c))
   unfolding call_returns sent_of after_all
   decoded_safe port call true e = record { returns = rw e; leaves = rw e; whole = sym e; not_whole = λ f. absurd_test e f }
   decoded_safe port call false e = record { returns = rw e; leaves = rw e; whole = refl; not_whole = λ f. refl }
 
   effect_safe : (d : Decoding) → EffectSafe info c d l (effect d l.input l.out l.places l.value info c)
   unfolding effect call_returns sent_of
-  effect_safe (Decoded port call) = decoded_safe port call (is_whole info) refl
-  effect_safe Bad = record { returns = refl; leaves = no_calls c (is_whole info); whole = refl; not_whole = λ f. refl }
+  effect_safe (Ok (port, call)) = decoded_safe port call (is_whole info) refl
+  effect_safe (Err bad) = record { returns = refl; leaves = no_calls c (is_whole info); whole = refl; not_whole = λ f. refl }
 
 call_safe : (m n : Memory) (f : Function) {number value : ℕ} {out places : List ℕ} → Gives (effect_by f m.info (card_of m)) number value n.info (card_of n) out places
     → StepSafe m (calls f) (from_call number value out places) n
@@ -97,7 +95,7 @@ module _ (m n : Memory) (input answers answers' : List ℕ) (records read writte
   abbrev after : BatchState
   after = state_of n answers' records' read' written'
 
-  record PlainSafe (w : Wire) : Type 0 where
+  record PlainSafe (w : Option Port) : Type 0 where
     pub returns : from_batch number records' read' written' answers' ≡ batch_returns (is_whole m.info) (card_of m) w input answers records read written
     pub leaves : card_of n ≡ after_all (card_of m) (cond (is_whole m.info) (sent_at w (card_of m) input (length answers)) [])
     pub whole : is_whole n.info ≡ is_whole m.info
@@ -107,7 +105,7 @@ module _ (m n : Memory) (input answers answers' : List ℕ) (records read writte
   unchanged refusal e s =
       ap₂ (λ (k : ℕ) (b : BatchState). from_batch k b.records b.read b.written b.answers) e s
 
-  served_safe : (wire : Port) (t : Bool) → is_whole m.info ≡ t → BatchIs (At wire) before input number after → PlainSafe (At wire)
+  served_safe : (wire : Port) (t : Bool) → is_whole m.info ≡ t → BatchIs (Some wire) before input number after → PlainSafe (Some wire)
   unfolding BatchIs batch_returns sent_at after_all
   served_safe wire true e b =
       let s : BatchServed wire before input number after = b.serves (eqb-true _ _ e) in
@@ -133,10 +131,10 @@ module _ (m n : Memory) (input answers answers' : List ℕ) (records read writte
         not_whole = λ f. ap (λ (s : BatchState). s.info) r.1;
       }
 
-  batch_safe : (w : Wire) → BatchIs w before input number after → PlainSafe w
+  batch_safe : (w : Option Port) → BatchIs w before input number after → PlainSafe w
   unfolding BatchIs batch_returns sent_at
-  batch_safe (At wire) b = served_safe wire (is_whole m.info) refl b
-  batch_safe Nowhere b = record {
+  batch_safe (Some wire) b = served_safe wire (is_whole m.info) refl b
+  batch_safe None b = record {
     returns = unchanged 13 b.0 b.1;
     leaves = ap (λ (s : BatchState). s.card) b.1 ∙ no_calls (card_of m) (is_whole m.info);
     whole = ap (λ (s : BatchState). is_whole s.info) b.1;

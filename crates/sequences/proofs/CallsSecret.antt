@@ -1,4 +1,5 @@
 -- Demand 3 of any sequence of C functions at the host port: calls by their operands, records one by one, and batches.
+use Rattle.std.specs.Prelude.{Ok, Err, Result, Option, Some}
 use Prim.Native.Nat.{ℕ, ◌-◌}
 use mathlib.Core.Path.{◌≡◌, refl, sym, ap, ap₂, ◌∙◌, subst}
 use mathlib.Core.Bool.{Bool, true, false, cond}
@@ -17,13 +18,9 @@ use Rattle.card.specs.declared.Call.{Call}
 use Rattle.card.specs.declared.Credential.TheVariants.{Nothing, Reference, Key as KeyCredential}
 use Rattle.card.specs.Statements.Secrecy.{EqualBut, HiddenOrUnallocated, StillDiffers, Secret}
 use Rattle.guarantees.proofs.Secrecy.Acts.{Act, held_by, made_by, answers_by, ActsSecret, acts_secret}
-use Rattle.fields.specs.declared.ParsedCredential.{ParsedCredential}
-use Rattle.fields.specs.declared.ParsedCredential.TheVariants.{Valid as ValidCredential, Invalid as InvalidCredential}
 use Rattle.kinds.proofs.KindsLaws.{host_kinds}
-use Rattle.decoding.specs.Decode.{renew_with, decode_body}
+use Rattle.decoding.specs.Decode.{Decoding, call_of, renew_with, decode_body, renew_operands}
 use Rattle.decoding.proofs.DecodeLaws.{decoded_kind}
-use Rattle.decoding.specs.declared.Decoding.{Decoding}
-use Rattle.decoding.specs.declared.Decoding.TheVariants.{Decoded, Bad}
 use Rattle.input.specs.Arrivals.{arrivals, request_with, sent_with}
 use Rattle.input.proofs.ArrivalsLaws.{host_arrivals}
 use Rattle.serving.specs.Serve.{lent_size, serve}
@@ -31,35 +28,36 @@ use Rattle.serving.specs.Held.{requests_in}
 use Rattle.serving.proofs.BytesSecret.{Told, told, batch_act, take_hosts, only}
 use Rattle.parameters.specs.Numbers.{numbers_of, record_of, wire_of, call_at, at_port, decode_at}
 use Rattle.parameters.specs.NumbersLaws.{numbers_record}
-use Rattle.parameters.specs.declared.Wire.{Wire}
-use Rattle.parameters.specs.declared.Wire.TheVariants.{At}
 use Rattle.interface.specs.Functions.{Function, read, write, alloc, alloc_contig, create, delete, delete_tree, key_read, key_write, renew, force, tick, free, audit, rent, sweep, serve as serveRecord, Lending, lending_of, function_port}
 use Rattle.interface.specs.Batch.{stop_number}
 use Rattle.sequences.specs.Statements.{SafeCalls, calls_made, SecretCalls, CallsSecret}
 use Rattle.sequences.specs.Sequence.{Memory, card_of, Step, calls, batches, Returned, from_call, from_batch, Called, is_whole, sent_of, sent_at, calls_of, calls_in, by_reply, call_returns, batch_returns, returns_of, returns_in, port_number, AllAtHost, request_of, requests_of, requests_by, keys_by}
 use Rattle.sequences.proofs.CallsSafe.{called_safe}
+use Rattle.fields.specs.Fields.{bad_record}
+use Rattle.fields.specs.declared.BadRecord.{BadRecord}
+use Rattle.card.specs.declared.Credential.{Credential}
 
 -- ---- what a function makes at the host port is a host's call
 
 abbrev AtHost : Decoding → Type 0
-AtHost (Decoded port call) = port ≡ Host
-AtHost Bad = Unit {0}
+AtHost (Ok (port, call)) = port ≡ Host
+AtHost (Err bad) = Unit {0}
 
 at_port_law : (port : ℕ) → port ≡ 0 → (d : Decoding) → AtHost (at_port port d)
 unfolding at_port call_at wire_of
-at_port_law port e (Decoded at call) = rw e refl
-at_port_law port e Bad = tt
+at_port_law port e (Ok (at, call)) = rw e refl
+at_port_law port e (Err bad) = tt
 
-at_renew : (mode block : ℕ) (p : ParsedCredential) (interval : ℕ) → AtHost (renew_with Host mode block p interval)
-unfolding renew_with
-at_renew mode block (ValidCredential Nothing) interval = tt
-at_renew mode block (ValidCredential (Reference r)) interval = tt
-at_renew mode block (ValidCredential (KeyCredential high low)) interval = refl
-at_renew mode block InvalidCredential interval = tt
+at_renew : (mode block : ℕ) (p : Result Credential BadRecord) (interval : ℕ) → AtHost (renew_with Host mode block p interval)
+unfolding call_of renew_operands
+at_renew mode block (Ok Nothing) interval = tt
+at_renew mode block (Ok (Reference r)) interval = tt
+at_renew mode block (Ok (KeyCredential high low)) interval = refl
+at_renew mode block (Err bad) interval = tt
 
 at_record : (kind : ℕ) (xs : List ℕ) (d : Decoding) → d ≡ decode_body Host kind xs → AtHost d
-at_record kind xs (Decoded port call) e = host_kinds kind (decoded_kind Host kind xs port call e).kind
-at_record kind xs Bad e = tt
+at_record kind xs (Ok (port, call)) e = host_kinds kind (decoded_kind Host kind xs port call e).kind
+at_record kind xs (Err bad) e = tt
 
 at_wire : (port kind : ℕ) (xs : List ℕ) → port ≡ 0 → AtHost (decode_at (wire_of port) kind xs)
 unfolding decode_at wire_of
@@ -110,7 +108,7 @@ module _ (bytes : ℕ) (whole : Bool) where
     unfolding replies call_returns
     one_act call = record {
       held = asked call ∷ [];
-      answer = λ c. call_returns whole c (Decoded Host call) l;
+      answer = λ c. call_returns whole c (Ok (Host, call)) l;
       made = λ c. cond whole 1 0;
       told = λ c d sc sd h. (ap (λ (r : Reply). cond whole (by_reply r l.value) (from_call 1 l.value l.out l.places)) (only h), refl);
     }
@@ -125,14 +123,14 @@ module _ (bytes : ℕ) (whole : Bool) where
 
     call_act : (d : Decoding) → AtHost d → CallAct d
     unfolding one_act request_of call_returns sent_of
-    call_act (Decoded port call) h = record {
+    call_act (Ok (port, call)) h = record {
       act = one_act call;
       holds = refl;
-      returns = λ c. ap (λ (p : Port). call_returns whole c (Decoded p call) l) (sym h);
+      returns = λ c. ap (λ (p : Port). call_returns whole c (Ok (p, call)) l) (sym h);
       makes = λ c. one_made whole port call h;
     }
-    call_act Bad h = record {
-      act = record { held = []; answer = λ c. call_returns whole c Bad l; made = λ c. 0; told = λ c d sc sd e. (refl, refl) };
+    call_act (Err bad) h = record {
+      act = record { held = []; answer = λ c. call_returns whole c (Err bad_record) l; made = λ c. 0; told = λ c d sc sd e. (refl, refl) };
       holds = refl;
       returns = λ c. refl;
       makes = λ c. none_made whole;
@@ -157,7 +155,7 @@ module _ (bytes : ℕ) (whole : Bool) where
     unfolding batch_act batch_returns
     batch_act_law = record {
       held = requests_in bytes input;
-      answer = λ c. batch_returns whole c (At Host) input answers records taken written;
+      answer = λ c. batch_returns whole c (Some Host) input answers records taken written;
       made = λ c. cond whole (serve Host c input room).records 0;
       told = λ c d sc sd h.
           let same : told (serve Host c input room) ≡ told (serve Host d input room) = ((batch_act bytes input room).told c d sc sd h).0 in
@@ -165,7 +163,7 @@ module _ (bytes : ℕ) (whole : Bool) where
     }
 
     batch_made : (t : Bool) (c : Card) → c.public.info.bytes ≡ bytes
-        → host_session (take (cond t (serve Host c input room).records 0) (requests_in bytes input)) ≡ cond t (sent_at (At Host) c input room) []
+        → host_session (take (cond t (serve Host c input room).records 0) (requests_in bytes input)) ≡ cond t (sent_at (Some Host) c input room) []
     unfolding requests_in sent_at
     batch_made true c sc =
         let n : ℕ = (serve Host c input room).records in
@@ -177,12 +175,12 @@ module _ (bytes : ℕ) (whole : Bool) where
     batch_step : (port : ℕ) → port ≡ 0 → StepAct bytes whole (batches port input answers records taken written)
     unfolding batch_act_law requests_of returns_of calls_of wire_of
     batch_step port e =
-        let w : wire_of port ≡ At Host = rw e refl in
+        let w : wire_of port ≡ Some Host = rw e refl in
         record {
           act = batch_act_law;
           holds = refl;
-          returns = λ c. ap (λ (v : Wire). batch_returns whole c v input answers records taken written) (sym w);
-          makes = λ c sc. batch_made whole c sc ∙ ap (λ (v : Wire). cond whole (sent_at v c input room) []) (sym w);
+          returns = λ c. ap (λ (v : Option Port). batch_returns whole c v input answers records taken written) (sym w);
+          makes = λ c sc. batch_made whole c sc ∙ ap (λ (v : Option Port). cond whole (sent_at v c input room) []) (sym w);
         }
 
   step_act : (s : Step) → port_number s ≡ 0 → StepAct bytes whole s

@@ -1,5 +1,6 @@
 -- For each theorem on sequences of C functions a test that follows from it, and a row for each mistake in the rules of sequences that a must-fail edit makes:
 -- true by the theorem, and false with the mistake. That the functions return and leave what a row says is shown beside it.
+use Rattle.std.specs.Prelude.{Some}
 use Prim.Native.Nat.{ℕ}
 use mathlib.Core.Path.{◌≡◌, refl, ap}
 use mathlib.Core.Bool.{Bool, true, ◌&&◌}
@@ -26,7 +27,6 @@ use Rattle.serving.specs.Serve.{serve}
 use Rattle.serving.proofs.BytesExample.{read_bytes, by_key_bytes}
 use Rattle.serving.proofs.Rows.{batching, service_read_bytes}
 use Rattle.parameters.specs.Numbers.{wire_of}
-use Rattle.parameters.specs.declared.Wire.TheVariants.{At}
 use Rattle.adapter.specs.Effects.{effect}
 use Rattle.interface.specs.Functions.{tick}
 use Rattle.interface.specs.Batch.{BatchIs}
@@ -163,10 +163,10 @@ module _ (byte : ℕ) where
   abbrev Shows : Port → List ℕ → Type 0
   Shows wire input = PlayedIs (serve wire (card_of (nested_with byte)) input 513) Ended 1 (card_of (nested_with byte)) input 24 (zeros 513) (0 ∷ replicate 512 byte) 513
 
-  shows_called : (port : ℕ) (wire : Port) (input : List ℕ) → wire_of port ≡ At wire → Shows wire input → Called (nested_with byte) (shown_by port input) (shown byte) (nested_with byte)
+  shows_called : (port : ℕ) (wire : Port) (input : List ℕ) → wire_of port ≡ Some wire → Shows wire input → Called (nested_with byte) (shown_by port input) (shown byte) (nested_with byte)
   unfolding BatchIs
   shows_called port wire input e plays =
-      let served : BatchIs (At wire) (state_of (nested_with byte) (zeros 513) 0 0 0) input 0 (state_of (nested_with byte) (0 ∷ replicate 512 byte) 1 24 513) =
+      let served : BatchIs (Some wire) (state_of (nested_with byte) (zeros 513) 0 0 0) input 0 (state_of (nested_with byte) (0 ∷ replicate 512 byte) 1 24 513) =
       record { refuses = λ h. absurd (h refl); serves = λ f. record { stop = Ended; answers = refl; stores = refl; plays = plays } } in
       let at : BatchIs (wire_of port) (state_of (nested_with byte) (zeros 513) 0 0 0) input 0 (state_of (nested_with byte) (0 ∷ replicate 512 byte) 1 24 513) = rw e served in
       batched {n = nested_with byte} at none

@@ -1,22 +1,20 @@
 -- A sequence of the functions that C links, each with the record and the tables that the one before left and nobody else writing to them.
-use Rattle.std.specs.Prelude.{ℕ, ◌-◌, ◌≡◌, Bool, cond, List, [], ◌∷◌, ◌++◌, map, eqb, length, take}
+use Rattle.std.specs.Prelude.{ℕ, ◌-◌, ◌≡◌, Bool, cond, List, [], ◌∷◌, ◌++◌, map, eqb, length, take, Ok, Err, Option, Some, None}
 use Rattle.card.specs.Contents.{overwrite}
 use Rattle.card.specs.Card.{Card, card}
 use Rattle.card.specs.Calls.{answer_number}
 use Rattle.card.specs.Session.{Request, Sent, Reply, request, perform, reply, after_all}
 use Rattle.card.specs.Reach.{presented}
-use Rattle.decoding.specs.declared.Decoding.{Decoding}
-use Rattle.decoding.specs.declared.Decoding.TheVariants.{Decoded, Bad}
 use Rattle.input.specs.Play.{Play}
 use Rattle.input.specs.Arrivals.{arrivals, sent_with}
 use Rattle.serving.specs.Serve.{lent_size, serve}
 use Rattle.serving.specs.Held.{requests_in}
 use Rattle.parameters.specs.Numbers.{record_length, record_of, wire_of}
 use Rattle.adapter.specs.Effects.{value_after, Gives}
-use Rattle.parameters.specs.declared.Wire.{Wire}
-use Rattle.parameters.specs.declared.Wire.TheVariants.{At, Nowhere}
 use Rattle.interface.specs.Functions.{Function, Lending, lending_of, effect_by, function_port}
 use Rattle.interface.specs.Batch.{stop_number, BatchState, BatchIs, batch_state}
+use Rattle.decoding.specs.Decode.{Decoding}
+use Rattle.card.specs.declared.Port.{Port}
 
 -- What a caller lends to every function: the record and the seven tables.
 pub record Memory : Type 0 where
@@ -65,13 +63,13 @@ is_whole info = eqb (length info) record_length
 
 -- The call that a function makes of its operands, if they hold one, with what is lent with it.
 unfoldable pub sent_of : Decoding → Lending → List Sent
-sent_of (Decoded port call) l = record { port = port; request = request call l.input l.out l.places } ∷ []
-sent_of Bad l = []
+sent_of (Ok (port, call)) l = record { port = port; request = request call l.input l.out l.places } ∷ []
+sent_of (Err bad) l = []
 
 -- Those that a batch makes of the records of its bytes: as many as it counts.
-unfoldable pub sent_at : Wire → Card → List ℕ → ℕ → List Sent
-sent_at (At wire) c input room = take (serve wire c input room).records (map (sent_with (lent_size c.public.info.bytes)) (arrivals wire input).records)
-sent_at Nowhere c input room = []
+unfoldable pub sent_at : Option Port → Card → List ℕ → ℕ → List Sent
+sent_at (Some wire) c input room = take (serve wire c input room).records (map (sent_with (lent_size c.public.info.bytes)) (arrivals wire input).records)
+sent_at None c input room = []
 
 unfoldable pub calls_of : Bool → Card → Step → List Sent
 calls_of whole c (calls f) = cond whole (sent_of (lending_of f).decoding (lending_of f)) []
@@ -87,18 +85,18 @@ abbrev pub by_reply : Reply → ℕ → Returned
 by_reply r value = from_call (answer_number r.answer) (value_after r.answer value) r.out r.places
 
 unfoldable pub call_returns : Bool → Card → Decoding → Lending → Returned
-call_returns whole c (Decoded port call) l =
+call_returns whole c (Ok (port, call)) l =
     cond whole (by_reply (reply (perform port c (request call l.input l.out l.places))) l.value) (from_call 1 l.value l.out l.places)
-call_returns whole c Bad l = from_call 13 l.value l.out l.places
+call_returns whole c (Err bad) l = from_call 13 l.value l.out l.places
 
 -- What a batch returns, by what the rule makes of its bytes; or 13 at no port, and 1 where the record has not its numbers.
 abbrev pub by_play : Play → List ℕ → List ℕ → Returned
 by_play p input answers = from_batch (stop_number p.stop) p.records (length input - length p.left) (length p.output) (overwrite answers 0 p.output)
 
-unfoldable pub batch_returns : Bool → Card → Wire → List ℕ → List ℕ → ℕ → ℕ → ℕ → Returned
-batch_returns whole c (At wire) input answers records read written =
+unfoldable pub batch_returns : Bool → Card → Option Port → List ℕ → List ℕ → ℕ → ℕ → ℕ → Returned
+batch_returns whole c (Some wire) input answers records read written =
     cond whole (by_play (serve wire c input (length answers)) input answers) (from_batch 1 records read written answers)
-batch_returns whole c Nowhere input answers records read written = from_batch 13 records read written answers
+batch_returns whole c None input answers records read written = from_batch 13 records read written answers
 
 unfoldable pub returns_of : Bool → Card → Step → Returned
 returns_of whole c (calls f) = call_returns whole c (lending_of f).decoding (lending_of f)
@@ -123,8 +121,8 @@ AllAtHost (s ∷ steps) = (port_number s ≡ 0) × AllAtHost steps
 
 -- The requests that a step holds at the host port of a card with blocks of so many bytes: that of its operands, or those of its bytes.
 unfoldable pub request_of : Decoding → Lending → List Request
-request_of (Decoded port call) l = request call l.input l.out l.places ∷ []
-request_of Bad l = []
+request_of (Ok (port, call)) l = request call l.input l.out l.places ∷ []
+request_of (Err bad) l = []
 
 unfoldable pub requests_of : ℕ → Step → List Request
 requests_of bytes (calls f) = request_of (lending_of f).decoding (lending_of f)

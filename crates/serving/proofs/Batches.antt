@@ -8,7 +8,7 @@ use Rattle.card.specs.declared.Port.TheVariants.{Host, Service}
 use Rattle.fields.specs.Bytes.{number, bytes, zeroed}
 use Rattle.kinds.specs.Kinds.{row, data_length, names, kind_number, length_of, operands_length, among, kind_of, kind_length, body_length}
 use Rattle.fields.specs.Fields.{credential, new_key}
-use Rattle.decoding.specs.Decode.{with_credential, create_with, key_with, decode_call, decode_known, decode_body, name_of, data_of, next_of, decode}
+use Rattle.decoding.specs.Decode.{with_credential, decode_call, decode_known, decode_body, name_of, data_of, next_of, decode, call_of, create_operands, key_operands}
 use Rattle.input.specs.Play.{Play, go_on, is_short, fault}
 use Rattle.input.specs.declared.Stop.{Stop}
 use Rattle.input.specs.declared.Stop.TheVariants.{Ended, Short, Refused, Full}
@@ -107,5 +107,5 @@ abbrev told_of : BatchSample → BatchTold
 told_of s = told_by (serve s.wire s.start s.input s.room)
 
 pub batches_hold : map told_of batches ≡ map (λ s. s.gives) batches
-unfolding rules player_card number bytes zeroed row data_length names kind_number length_of operands_length among kind_of kind_length body_length credential new_key with_credential create_with key_with decode_call decode_known decode_body name_of data_of next_of decode go_on is_short fault pairs answer_bytes lent_size answer_room served serve_turn_of serve_turn serve_within serve batches
+unfolding rules player_card number bytes zeroed row data_length names kind_number length_of operands_length among kind_of kind_length body_length credential new_key with_credential create_operands call_of key_operands decode_call decode_known decode_body name_of data_of next_of decode go_on is_short fault pairs answer_bytes lent_size answer_room served serve_turn_of serve_turn serve_within serve batches
 batches_hold = refl

@@ -23,7 +23,7 @@ use Rattle.card.specs.declared.Port.TheVariants.{Host}
 use Rattle.fields.specs.Bytes.{number, bytes, zeroed}
 use Rattle.fields.specs.Fields.{credential}
 use Rattle.kinds.specs.Kinds.{row, data_length, names, kind_number, length_of, operands_length, among, kind_of}
-use Rattle.decoding.specs.Decode.{with_credential, renew_with, decode_call, decode_known, decode_body, name_of, data_of, next_of, decode}
+use Rattle.decoding.specs.Decode.{with_credential, decode_call, decode_known, decode_body, name_of, data_of, next_of, decode, renew_operands, call_of}
 use Rattle.input.specs.Play.{go_on}
 use Rattle.input.specs.Arrivals.{arrivals_of, arrivals_within, arrivals}
 use Rattle.input.specs.declared.Stop.TheVariants.{Ended}
@@ -34,7 +34,7 @@ use Rattle.serving.proofs.BytesSecret.{told, bytes_secret}
 
 -- To compute what bytes hold on these cards, a proof unfolds this one name.
 unfoldable holding : Unit {0}
-unfolding rules player_card prepared after_all number bytes zeroed row data_length names kind_number length_of operands_length among kind_of credential with_credential renew_with decode_call decode_known decode_body name_of data_of next_of decode lent_size
+unfolding rules player_card prepared after_all number bytes zeroed row data_length names kind_number length_of operands_length among kind_of credential call_of with_credential renew_operands decode_call decode_known decode_body name_of data_of next_of decode lent_size
 holding = tt
 
 -- And this one beside it, for what a batch makes of them.

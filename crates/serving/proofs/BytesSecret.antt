@@ -19,8 +19,7 @@ use Rattle.card.specs.declared.Port.{Port}
 use Rattle.card.specs.declared.Port.TheVariants.{Host}
 use Rattle.card.specs.declared.Call.{Call}
 use Rattle.decoding.specs.Decode.{Next, ended, refused, sent, decode}
-use Rattle.input.specs.Play.{halted, Turn, Play, go_on, output_before, fault}
-use Rattle.input.proofs.PlayLaws.{fault_stops, go_on_halts}
+use Rattle.input.specs.Play.{halted, Turn, Play, go_on, output_before}
 use Rattle.input.specs.Arrivals.{Arrivals, arrivals, request_with, sent_with}
 use Rattle.input.proofs.ArrivalsLaws.{arrivals_sent, host_arrivals}
 use Rattle.input.specs.declared.Stop.{Stop}
@@ -127,9 +126,7 @@ module _ (wire : Port) (bytes : ℕ) where
     turn_same : (n : Next) → decode wire xs ≡ n → replies c (calls_in xs) ≡ replies d (calls_in xs) → Alike (serve_turn_of wire room c xs n) (serve_turn_of wire room d xs n)
     unfolding serve_turn_of go_on
     turn_same ended e h = refl
-    turn_same refused e h =
-        ap told (go_on_halts (fault wire xs) (halted (fault wire xs) c xs) records room (serve_within wire k) (fault_stops wire xs))
-        ∙ sym (ap told (go_on_halts (fault wire xs) (halted (fault wire xs) d xs) records room (serve_within wire k) (fault_stops wire xs)))
+    turn_same refused e h = refl
     turn_same (sent port call payload rest) e h =
         room_same port call payload rest e h _ _ (ap (λ (n : ℕ). ltb room (answer_room n call)) (sc ∙ sym sd))
 

@@ -12,8 +12,7 @@ use Rattle.card.specs.Statements.Safe.{SafeCall}
 use Rattle.guarantees.proofs.Safe.{safe_call}
 use Rattle.card.specs.declared.Call.{Call}
 use Rattle.decoding.proofs.DecodeLaws.{decode_shorter}
-use Rattle.input.specs.Play.{Turn, halted, fault, Play, output_before, stopped, go_on}
-use Rattle.input.proofs.PlayLaws.{fault_stops, go_on_halts}
+use Rattle.input.specs.Play.{Turn, fault, Play, output_before, stopped, go_on}
 use Rattle.input.specs.Arrivals.{Arrived, Arrivals, held_before, arrivals, sent_with, written_of}
 use Rattle.input.proofs.ArrivalsLaws.{arrivals_ended, arrivals_refused, arrivals_sent}
 use Rattle.input.specs.Performed.{Manner, Ends, out_of_room, all_performed, PerformedBy, TurnIn, no_room, at_end, at_fault, performs}
@@ -95,9 +94,7 @@ module _ (m : Manner) where
     unfolding go_on
     by_turn k before c xs room _ (no_room h) more = out_of_room_law before c xs room h
     by_turn k before c xs room _ (at_end e) more = none_left before c xs room Ended (arrivals_ended m.wire xs e)
-    by_turn k before c xs room _ (at_fault e) more =
-        rw (go_on_halts (fault m.wire xs) (halted (fault m.wire xs) c xs) before room (within k) (fault_stops m.wire xs))
-        (none_left before c xs room (fault m.wire xs) (arrivals_refused m.wire xs e))
+    by_turn k before c xs room _ (at_fault e) more = none_left before c xs room (fault m.wire xs) (arrivals_refused m.wire xs e)
     by_turn k before c xs room _ (performs a rest is-kind e) more =
         one_more before c xs room a rest
         (arrivals_sent m.wire xs e ∙ ap (λ (kind : ℕ). held_before (record { kind = kind; port = a.port; call = a.call; payload = a.payload }) (arrivals m.wire rest)) (sym is-kind))

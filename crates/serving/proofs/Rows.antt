@@ -23,10 +23,10 @@ use Rattle.card.specs.declared.Port.TheVariants.{Host}
 use Rattle.fields.specs.Bytes.{number, bytes, zeroed}
 use Rattle.fields.specs.Fields.{credential}
 use Rattle.kinds.specs.Kinds.{row, data_length, names, kind_number, length_of, operands_length, among, kind_of, kind_length, body_length}
-use Rattle.decoding.specs.Decode.{with_credential, decode_call, decode_known, decode_body, name_of, data_of, next_of, decode}
+use Rattle.decoding.specs.Decode.{with_credential, decode_call, decode_known, decode_body, name_of, data_of, next_of, decode, call_of}
 use Rattle.input.specs.Play.{is_short, fault, go_on}
 use Rattle.input.specs.Arrivals.{arrivals_of, arrivals_within, arrivals}
-use Rattle.input.proofs.Rows.{stop_order, performed_test, performed_tests, tick_bytes}
+use Rattle.input.proofs.Rows.{turn_order, performed_test, performed_tests, tick_bytes}
 use Rattle.serving.specs.Serve.{pairs, answer_bytes, lent_size, answer_room, served, serve_turn_of, serve_turn, serve_within, serve}
 use Rattle.serving.specs.Held.{requests_in, keys_in}
 use Rattle.serving.proofs.BytesExample.{read_bytes, by_key_bytes}
@@ -65,12 +65,12 @@ bytes_secret_row c contents named xs room =
 
 abbrev pub room_by_record_test : Port → ℕ → Card → Card → List ℕ → Bool
 room_by_record_test wire room c d xs =
-    implies (eqb c.public.info.bytes d.public.info.bytes) (eqb (stop_order (serve_turn wire room c xs).stop) (stop_order (serve_turn wire room d xs).stop))
+    implies (eqb c.public.info.bytes d.public.info.bytes) (eqb (turn_order (serve_turn wire room c xs).stop) (turn_order (serve_turn wire room d xs).stop))
 
 pub room_by_record_tests : RoomByRecord → (wire : Port) (room : ℕ) (c d : Card) (xs : List ℕ) → room_by_record_test wire room c d xs ≡ true
 room_by_record_tests statement wire room c d xs =
     true_implies (eqb c.public.info.bytes d.public.info.bytes) _
-    (λ h. eq-eqb _ _ (ap stop_order (statement wire room c d (eqb-true _ _ h) xs)))
+    (λ h. eq-eqb _ _ (ap turn_order (statement wire room c d (eqb-true _ _ h) xs)))
 
 abbrev room_by_record_row : Port → ℕ → Card → Card → List ℕ → Row RoomByRecord
 room_by_record_row wire room c d xs = record { test = room_by_record_test wire room c d xs; follows = λ statement. room_by_record_tests statement wire room c d xs }
@@ -111,7 +111,7 @@ keys_counted_row c xs high low = record { test = keys_counted_test c xs high low
 
 -- To compute a row, its proof unfolds this one name. A wrong rule makes use of `zip_with`.
 unfoldable pub batching : Unit {0}
-unfolding zip_with computing number bytes zeroed credential row data_length names kind_number length_of operands_length among kind_of kind_length body_length with_credential decode_call decode_known decode_body name_of data_of next_of decode is_short fault go_on arrivals_of arrivals_within arrivals pairs answer_bytes lent_size answer_room served serve_turn_of serve_turn serve_within serve requests_in keys_in
+unfolding zip_with computing number bytes zeroed credential row data_length names kind_number length_of operands_length among kind_of kind_length body_length call_of with_credential decode_call decode_known decode_body name_of data_of next_of decode is_short fault go_on arrivals_of arrivals_within arrivals pairs answer_bytes lent_size answer_room served serve_turn_of serve_turn serve_within serve requests_in keys_in
 batching = tt
 
 abbrev by_nothing : List ℕ

@@ -1,13 +1,13 @@
 -- A batch of call records that arrive at a port: the card that it leaves and the bytes of its answers, every call with its own audit.
-use Rattle.std.specs.Prelude.{ℕ, zero, suc, ◌+◌, ◌-◌, ◌*◌, cond, List, [], ◌∷◌, ◌++◌, ltb, leb, length, take}
+use Rattle.std.specs.Prelude.{ℕ, zero, suc, ◌+◌, ◌-◌, ◌*◌, cond, List, [], ◌∷◌, ◌++◌, ltb, leb, length, Some, None, Ok, Err, take}
 use Rattle.card.specs.Contents.{zeros}
 use Rattle.card.specs.Card.{Card}
 use Rattle.card.specs.Plan.{Result}
 use Rattle.card.specs.Calls.{answer_number}
 use Rattle.card.specs.Session.{Reply, request, perform, reply}
 use Rattle.card.specs.declared.Port.{Port}
-use Rattle.card.specs.declared.Answer.{Answer}
-use Rattle.card.specs.declared.Answer.TheVariants.{Refused, Done, Value}
+use Rattle.card.specs.Answers.{Answer}
+use Rattle.card.specs.Answers.{Refused, Done, Value}
 use Rattle.card.specs.declared.Call.{Call}
 use Rattle.card.specs.declared.Call.TheVariants.{Read, Write, Alloc, AllocContig, Create, Delete, DeleteTree, KeyRead, KeyWrite, Renew, Force, Free, Tick, Audit, Rent, Sweep}
 use Rattle.fields.specs.Bytes.{bytes}
@@ -16,7 +16,7 @@ use Rattle.lines.specs.Replied.{filled_by}
 use Rattle.lines.specs.declared.Filled.{Filled}
 use Rattle.lines.specs.declared.Filled.TheVariants.{Neither, Bytes, Blocks}
 use Rattle.input.specs.Play.{Turn, halted, fault, Play, stopped, go_on}
-use Rattle.input.specs.declared.Stop.TheVariants.{Went, Ended, Full}
+use Rattle.input.specs.declared.Stop.TheVariants.{Ended, Full}
 
 -- ---- the bytes of an answer
 
@@ -33,9 +33,9 @@ filled_bytes (Blocks n) out places = pairs (take n places)
 
 -- A done call's results: what it left in a buffer, or its value in 8 bytes, big-endian.
 abbrev pub result_bytes : Answer → List ℕ → List ℕ
-result_bytes (Refused r) filled = []
-result_bytes Done filled = filled
-result_bytes (Value v) filled = bytes 8 v
+result_bytes (Err r) filled = []
+result_bytes (Ok None) filled = filled
+result_bytes (Ok (Some v)) filled = bytes 8 v
 
 -- The answer's number in one byte and, if done, the results.
 unfoldable pub answer_bytes : Call → Reply → List ℕ
@@ -86,7 +86,7 @@ served port c call payload = perform port c (request call payload (zeros (lent_s
 abbrev pub answering : Port → Card → Call → List ℕ → List ℕ → Turn
 answering port c call payload rest =
     let r = served port c call payload in
-    record { stop = Went; output = answer_bytes call (reply r); after = r.after; left = rest }
+    record { stop = None; output = answer_bytes call (reply r); after = r.after; left = rest }
 
 -- What an input's first record leads to where there is so much room for answers.
 unfoldable pub serve_turn_of : Port → ℕ → Card → List ℕ → Next → Turn

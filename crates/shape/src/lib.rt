@@ -2,11 +2,11 @@
 #![tactic(auto)]
 
 ghost use Rattle.std.specs.Prelude.{◌≡◌};
-ghost use Rattle.card.specs.Lent.{lent};
+ghost use Rattle.card.specs.Lent.{shared_card};
 ghost use Rattle.card.specs.Soundness.{ranges, shape};
 ghost use Rattle.card.specs.SoundCard.{InRanges};
 
-use card::{BLOCK_LIMIT, Info, PLACE_LIMIT, TIME_LIMIT};
+use card::{BLOCK_LIMIT, PLACE_LIMIT, SharedCard, TIME_LIMIT};
 
 fn in_ranges(blocks: usize, roots: usize, bytes: usize) -> bool
     ensures { result ≡ ranges blocks roots bytes }
@@ -24,57 +24,30 @@ fn in_ranges(blocks: usize, roots: usize, bytes: usize) -> bool
         & (65536 % bytes == 0)
 }
 
-fn has_lengths(
-    info: Info,
-    flags: &[u8],
-    keys: &[u64],
-    counts: &[u32],
-    pointers: &[u32],
-    multiplicities: &[u16],
-    windows: &[u64],
-    contents: &[u8],
-) -> bool
-    requires { InRanges info.blocks info.roots info.bytes }
-    ensures { result ≡ shape (lent info flags.now keys.now counts.now pointers.now multiplicities.now windows.now contents.now) }
+fn has_lengths(card: SharedCard) -> bool
+    requires { InRanges card.info.blocks card.info.roots card.info.bytes }
+    ensures { result ≡ shape (shared_card card.entry) }
 {
-    let blocks = info.blocks;
-    let places = pointers.len();
-    (info.time < TIME_LIMIT)
-        & (flags.len() == blocks)
-        & (keys.len() == 4 * blocks)
-        & (counts.len() == blocks)
+    let blocks = card.info.blocks;
+    let places = card.pointers.len();
+    (card.info.time < TIME_LIMIT)
+        & (card.flags.len() == blocks)
+        & (card.keys.len() == 4 * blocks)
+        & (card.counts.len() == blocks)
         & (1 <= places)
         & (places <= PLACE_LIMIT)
-        & (multiplicities.len() == places)
-        & (windows.len() == 2 * blocks)
-        & (contents.len() == blocks * info.bytes)
-        & (info.used <= places)
+        & (card.multiplicities.len() == places)
+        & (card.windows.len() == 2 * blocks)
+        & (card.contents.len() == blocks * card.info.bytes)
+        & (card.info.used <= places)
 }
 
 // The shape alone, as FORMAT asks it.
-pub fn shaped(
-    info: Info,
-    flags: &[u8],
-    keys: &[u64],
-    counts: &[u32],
-    pointers: &[u32],
-    multiplicities: &[u16],
-    windows: &[u64],
-    contents: &[u8],
-) -> bool
-    ensures { result ≡ shape (lent info flags.now keys.now counts.now pointers.now multiplicities.now windows.now contents.now) }
+pub fn shaped(card: SharedCard) -> bool
+    ensures { result ≡ shape (shared_card card.entry) }
 {
-    if in_ranges(info.blocks, info.roots, info.bytes) {
-        has_lengths(
-            info,
-            flags,
-            keys,
-            counts,
-            pointers,
-            multiplicities,
-            windows,
-            contents,
-        )
+    if in_ranges(card.info.blocks, card.info.roots, card.info.bytes) {
+        has_lengths(card)
     } else {
         false
     }

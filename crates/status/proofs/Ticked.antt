@@ -5,30 +5,28 @@ use mathlib.Core.List.{[]}
 use native.Mathlib.Omega.{arith}
 use lib.ListN.{length}
 use borrow.Author.Tests.{le-leb, lt-leb, lt-ltb, le-ltb}
-use Rattle.card.specs.Card.{Card}
+use Rattle.card.specs.Card.{Card, card}
 use Rattle.card.specs.Rent.{rented, rent_for, highest_price, cents}
 use Rattle.laws.specs.RentLaws.{rent_in_time}
 use Rattle.card.specs.Soundness.{time_limit}
 use Rattle.card.specs.SoundCard.{SoundCard}
 use Rattle.card.specs.Plan.{here, with_time, changes, change, change_public, change_keys, change_contents, out_after, places_after}
 use Rattle.card.specs.Promises.{Is}
-use Rattle.laws.specs.PromisesLaws.{is_done}
+use Rattle.laws.specs.PromisesLaws.{is_refused, is_done}
 use Rattle.card.specs.Calls.{free_plan, tick_plan, rent_plan}
 use Rattle.card.specs.Session.{plan, perform_sound, request}
 use Rattle.card.specs.declared.Info.{Info}
 use Rattle.card.specs.declared.Port.{Port}
-use Rattle.card.specs.declared.Outcome.{Outcome}
 use Rattle.card.specs.declared.TickOperands.{TickOperands}
 use Rattle.card.specs.declared.RentOperands.{RentOperands}
 use Rattle.card.specs.declared.Call.TheVariants.{Free, Tick, Rent}
 use Rattle.card.specs.declared.Refusal.TheVariants.{TimeEnds, PriceTooHigh}
-use Rattle.card.specs.declared.Answer.TheVariants.{Value}
+use Rattle.card.specs.Answers.{Value}
+use Rattle.std.specs.Prelude.{Err}
 use Rattle.tables.specs.Free.{free_below}
 use Rattle.tables.specs.FreeLaws.{flags_free}
 use Rattle.tables.specs.Rented.{rented_below}
 use Rattle.tables.specs.RentedLaws.{rented_ordinary}
-use Rattle.outcomes.specs.Outcomes.{refusing}
-use Rattle.outcomes.proofs.Returned.{with_info, refuses}
 
 pub free_done : {c : Card} (port : Port) → SoundCard c → {n : ℕ} → n ≡ length (free_below c.public.flags (length c.public.flags))
     → Is (perform_sound port c (request Free [] [] [])) (Value n) c [] []
@@ -40,10 +38,9 @@ free_done {c} port s e =
 -- ---- TICK
 
 module _ (c : Card) (o : TickOperands) where
-  pub tick_late : (port : Port) → time_limit - c.public.info.time ≤ o.seconds → {r : Outcome} → r ≡ refusing TimeEnds c.public.info
-      → Is (perform_sound port c (request (Tick o) [] [] [])) r.answer (with_info c r.info) [] []
+  pub tick_late : (port : Port) → time_limit - c.public.info.time ≤ o.seconds → Is (perform_sound port c (request (Tick o) [] [] [])) (Err TimeEnds) c [] []
   unfolding perform_sound plan tick_plan
-  tick_late port h a = refuses c _ _ a (here (le-leb time_limit (c.public.info.time + o.seconds) (omega arith)))
+  tick_late port h = is_refused c _ _ (here (le-leb time_limit (c.public.info.time + o.seconds) (omega arith)))
 
   module _ (s : SoundCard c) (h : o.seconds < time_limit - c.public.info.time) {n : ℕ}
       (e : n ≡ length (rented_below c.public.info.roots c.public.flags (length c.public.flags))) where
@@ -56,7 +53,7 @@ module _ (c : Card) (o : TickOperands) where
     total_fits = rw rented_here (omega (arith, rent_in_time c.public o.seconds s.shaped.in_ranges.blocks_high s.is_sound.total_low))
 
     pub tick_done : (port : Port) {left : Info} → left ≡ with_time c.public.info (c.public.info.time + o.seconds) (c.public.info.total + o.seconds * n)
-        → Is (perform_sound port c (request (Tick o) [] [] [])) (Value (c.public.info.time + o.seconds)) (with_info c left) [] []
+        → Is (perform_sound port c (request (Tick o) [] [] [])) (Value (c.public.info.time + o.seconds)) (card left c.public.flags c.keys c.public.counts c.public.pointers c.public.multiplicities c.public.windows c.contents) [] []
     unfolding perform_sound plan tick_plan rent_for changes change change_public change_keys change_contents out_after places_after
     tick_done port told =
         rw (told, rented_here)
@@ -66,10 +63,9 @@ module _ (c : Card) (o : TickOperands) where
 -- ---- RENT
 
 module _ (c : Card) (o : RentOperands) (port : Port) where
-  pub rent_high : highest_price < o.price → {r : Outcome} → r ≡ refusing PriceTooHigh c.public.info
-      → Is (perform_sound port c (request (Rent o) [] [] [])) r.answer (with_info c r.info) [] []
+  pub rent_high : highest_price < o.price → Is (perform_sound port c (request (Rent o) [] [] [])) (Err PriceTooHigh) c [] []
   unfolding perform_sound plan rent_plan
-  rent_high h a = refuses c _ _ a (here (lt-ltb highest_price o.price h))
+  rent_high h = is_refused c _ _ (here (lt-ltb highest_price o.price h))
 
   pub rent_done : o.price ≤ highest_price → {n : ℕ} → n ≡ cents c.public.info.total o.price
       → Is (perform_sound port c (request (Rent o) [] [] [])) (Value n) c [] []

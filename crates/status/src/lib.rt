@@ -2,66 +2,41 @@
 #![tactic(auto)]
 
 ghost use Rattle.std.specs.Prelude.{◌*◌, ◌^◌, ◌≤◌, ◌<◌, ◌≡◌, []};
-ghost use Rattle.card.specs.Lent.{Performs, lent, kept};
+ghost use Rattle.card.specs.Lent.{Keeps, Performs, SameTables, lent_card};
 ghost use Rattle.card.specs.Rent.{highest_price, half_rounded, rounded, cents};
 ghost use Rattle.card.specs.Soundness.{time_limit, most_blocks};
 ghost use Rattle.card.specs.SoundCard.{SoundCard};
 ghost use Rattle.card.specs.Session.{request, perform_sound};
 
 use card::{
-    Answer, Call, HIGHEST_PRICE, Info, Outcome, Port, Refusal, RentOperands, TIME_LIMIT,
-    TickOperands,
+    Answer, Call, HIGHEST_PRICE, LentCard, Port, Refusal, RentOperands, TIME_LIMIT, TickOperands,
 };
 
 // So many blocks times seconds cost a cent at a price of 1: 86,400 seconds in a day, 1,000 thousandths in a cent.
 const PER_CENT: u64 = 86400000;
 
-pub fn free_sound(
-    info: Info,
-    flags: &[u8],
-    keys: &[u64],
-    counts: &[u32],
-    pointers: &[u32],
-    multiplicities: &[u16],
-    windows: &[u64],
-    contents: &[u8],
-) -> Outcome
-    requires { SoundCard (lent info flags.now keys.now counts.now pointers.now multiplicities.now windows.now contents.now) }
-    ensures { (port : Port) → Performs (λ c. perform_sound port c (request (Call.Free) [] [] [])) info (kept flags.now) (kept keys.now) (kept counts.now) (kept pointers.now) (kept multiplicities.now) (kept windows.now) (kept contents.now) result [] [] }
+pub fn free_sound(card: &LentCard) -> Answer
+    requires { SoundCard (lent_card card.now) }
+    ensures { (port : Port) → Keeps (λ c. perform_sound port c (request (Call.Free) [] [] [])) card.now result }
 {
-    let free = tables::count_free(flags);
-    Outcome {
-        answer: Answer::Value(free as u64),
-        info,
-    }
+    Ok(Some(tables::count_free(card.flags) as u64))
 }
 
-pub fn tick_sound(
-    info: Info,
-    flags: &[u8],
-    keys: &[u64],
-    counts: &[u32],
-    pointers: &[u32],
-    multiplicities: &[u16],
-    windows: &[u64],
-    contents: &[u8],
-    o: TickOperands,
-) -> Outcome
-    requires { SoundCard (lent info flags.now keys.now counts.now pointers.now multiplicities.now windows.now contents.now) }
-    ensures { (port : Port) → Performs (λ c. perform_sound port c (request (Call.Tick o) [] [] [])) info (kept flags.now) (kept keys.now) (kept counts.now) (kept pointers.now) (kept multiplicities.now) (kept windows.now) (kept contents.now) result [] [] }
+pub fn tick_sound(card: &mut LentCard, o: TickOperands) -> Answer
+    requires { SoundCard (lent_card card.old) }
+    ensures same { SameTables card.old card.new }
+    ensures performs { (port : Port) → Performs (λ c. perform_sound port c (request (Call.Tick o) [] [] [])) card.old card.new result [] [] }
 {
     // Compared before it is added: the sum could wrap.
-    if TIME_LIMIT - info.time <= o.seconds {
-        return outcomes::refused(info, Refusal::TimeEnds);
+    if TIME_LIMIT - card.info.time <= o.seconds {
+        return Err(Refusal::TimeEnds);
     }
-    let time = info.time + o.seconds;
+    let time = card.info.time + o.seconds;
     // Nothing wraps: the new total is at most the new time times 4,096, as the old one was.
-    let rented = tables::count_rented(info.roots, flags) as u64;
-    let total = info.total + o.seconds * rented;
-    Outcome {
-        answer: Answer::Value(time),
-        info: tables::with_time(info, time, total),
-    }
+    let rented = tables::count_rented(card.info.roots, card.shared().flags) as u64;
+    let total = card.info.total + o.seconds * rented;
+    card.info = tables::with_time(card.info, time, total);
+    Ok(Some(time))
 }
 
 // ---- RENT
@@ -100,26 +75,12 @@ fn cents(total: u64, price: u32) -> u64
     rounded(total * price as u64, PER_CENT)
 }
 
-pub fn rent_sound(
-    info: Info,
-    flags: &[u8],
-    keys: &[u64],
-    counts: &[u32],
-    pointers: &[u32],
-    multiplicities: &[u16],
-    windows: &[u64],
-    contents: &[u8],
-    o: RentOperands,
-) -> Outcome
-    requires { SoundCard (lent info flags.now keys.now counts.now pointers.now multiplicities.now windows.now contents.now) }
-    ensures { (port : Port) → Performs (λ c. perform_sound port c (request (Call.Rent o) [] [] [])) info (kept flags.now) (kept keys.now) (kept counts.now) (kept pointers.now) (kept multiplicities.now) (kept windows.now) (kept contents.now) result [] [] }
+pub fn rent_sound(card: &LentCard, o: RentOperands) -> Answer
+    requires { SoundCard (lent_card card.now) }
+    ensures { (port : Port) → Keeps (λ c. perform_sound port c (request (Call.Rent o) [] [] [])) card.now result }
 {
     if HIGHEST_PRICE < o.price {
-        return outcomes::refused(info, Refusal::PriceTooHigh);
+        return Err(Refusal::PriceTooHigh);
     }
-    let asked = cents(info.total, o.price);
-    Outcome {
-        answer: Answer::Value(asked),
-        info,
-    }
+    Ok(Some(cents(card.info.total, o.price)))
 }

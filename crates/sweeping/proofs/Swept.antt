@@ -1,17 +1,15 @@
 -- The waiting blocks swept one after the other, over plain values, and what that leaves of a card.
 use Prim.Native.Nat.{ℕ, zero, suc, ◌+◌, ◌-◌, ◌*◌, ◌≤◌, ◌<◌}
 use mathlib.Core.Path.{◌≡◌, refl, sym, ap, ◌∙◌}
-use mathlib.Core.Logic.{⊎_elim}
-use mathlib.Core.Bool.{Bool, true, false, ◌&&◌, cond}
+use mathlib.Core.Logic.{◌⊎◌, ⊎_elim}
+use mathlib.Core.Bool.{Bool, true, false, cond}
 use mathlib.Core.List.{List, [], ◌∷◌, ◌++◌, append-nil, append_assoc}
 use native.Mathlib.Numerals.{add-one}
 use native.Mathlib.Omega.{arith}
-use lib.Dec.{ltb}
 use lib.ListN.{length, take, drop, get_or, set, length-set, length-append, length-replicate}
 use lib.Seq.{take_at, take_all, get_or-set_other}
-use borrow.Author.Tests.{lt-ltb, ltb-true, ltb-false}
 use Rattle.card.specs.Lists.{numbers_below}
-use Rattle.laws.specs.ListsLaws.{and_left, and_right, below_or_not, same_or_other}
+use Rattle.laws.specs.ListsLaws.{same_or_other}
 use Rattle.card.specs.Contents.{fill, zeros}
 use Rattle.laws.specs.ContentsLaws.{block_fits, fill_length}
 use Rattle.card.specs.Card.{Card, Public, card, waiting, waiting_blocks, waiting_flag}
@@ -25,7 +23,7 @@ use Rattle.card.specs.declared.Info.{Info}
 use Rattle.card.specs.declared.Port.{Port}
 use Rattle.card.specs.declared.SweepOperands.{SweepOperands}
 use Rattle.card.specs.declared.Call.TheVariants.{Sweep}
-use Rattle.card.specs.declared.Answer.TheVariants.{Value}
+use Rattle.card.specs.Answers.{Value}
 use Rattle.tables.specs.Cleared.{part_cleared}
 use Rattle.tables.specs.FreeLaws.{flags_state}
 use Rattle.sweeping.specs.Sweeping.{CanSweep, BlockSwept, swept_flags, swept_contents, is_waiting, waiting_below, lowest_in, LowestSwept}
@@ -80,13 +78,7 @@ walked_none bytes most flags contents = record {
 
 -- One turn: the block is there, and not enough are swept.
 module _ {bytes most : ℕ} {flags contents flags' contents' : List ℕ} {swept block : ℕ} (w : Walked bytes most flags contents flags' contents' swept block)
-    (turn : ltb block (length flags) && ltb swept most ≡ true) where
-  pub inside : block < length flags
-  inside = ltb-true _ _ (and_left (ltb block (length flags)) _ turn)
-
-  pub wanting : swept < most
-  wanting = ltb-true _ _ (and_right (ltb block (length flags)) _ turn)
-
+    (inside : block < length flags) (wanting : swept < most) where
   -- The block's own flags are those at the start.
   waits_at_first : {t : Bool} → t ≡ waiting_flag (get_or flags' block 0) → is_waiting flags block ≡ t
   waits_at_first e = sym (e ∙ ap waiting_flag (w.ahead block (omega arith)))
@@ -161,21 +153,20 @@ numbers_start p m (suc n) l =
     (same_or_other m (suc n))
 
 module _ {bytes most : ℕ} {flags contents flags' contents' : List ℕ} {swept block : ℕ} (w : Walked bytes most flags contents flags' contents' swept block)
-    (stop : ltb block (length flags) && ltb swept most ≡ false) where
+    (stop : (swept ≡ most) ⊎ (length flags ≤ block)) where
   -- Those that are swept are the lowest: all that wait, or as many as asked for.
   lowest_walked : lowest_in flags most ≡ waiting_below flags block
   unfolding lowest_in waiting_below
   lowest_walked =
       ⊎_elim
-      (λ (l : block < length flags).
-      let full : most ≤ swept = ltb-false swept most (rw (lt-ltb block (length flags) l) at stop) in
-      let long : length (waiting_below flags block) ≡ most = omega (arith, w.counted, w.few) in
+      (λ (full : swept ≡ most).
+      let long : length (waiting_below flags block) ≡ most = omega (arith, w.counted) in
       let s = numbers_start (is_waiting flags) block (length flags) w.within in
       ap (take most) s.split ∙ take_at (waiting_below flags block) s.rest most long)
       (λ (l : length flags ≤ block).
       let end : length flags ≡ block = omega (arith, w.within) in
       rw end (take_all most (waiting_below flags block) (omega (arith, w.counted, w.few))))
-      (below_or_not block (length flags))
+      stop
 
   pub walked_whole : LowestSwept bytes most flags contents flags' contents' swept
   walked_whole = record {
@@ -200,9 +191,6 @@ unfolding lowest_in lowest_waiting waiting_below waiting_blocks waiting
 lowest_waiting_law p most e = ap (take most) (flags_state waiting_flag p e)
 
 module _ {c : Card} (s : SoundCard c) where
-  pub contents_long : length c.contents ≡ length c.public.flags * c.public.info.bytes
-  contents_long = rw s.shaped.has_lengths.flags s.shaped.has_lengths.contents
-
   pub sweep_done : (port : Port) (o : SweepOperands) {flags contents : List ℕ} {n : ℕ}
       → LowestSwept c.public.info.bytes o.most c.public.flags c.contents flags contents n
       → Is (perform_sound port c (request (Sweep o) [] [] [])) (Value n) (card c.public.info flags c.keys c.public.counts c.public.pointers c.public.multiplicities c.public.windows contents) [] []

@@ -1,75 +1,71 @@
--- A count of the blocks that pass a test, one block a turn, from a first block on below which none passes.
-use Prim.Native.Nat.{ℕ, ◌+◌, ◌≤◌, ◌<◌}
-use mathlib.Core.Path.{◌≡◌, sym, ap, ◌∙◌}
-use mathlib.Core.Bool.{Bool, true, false, cond, and-true}
+-- The numbers below the length of a list at which a test of its elements holds, counted, from a first place on below which none counts.
+use Prim.Native.Nat.{ℕ, zero, suc, ◌+◌, ◌-◌, ◌≤◌, ◌<◌}
+use mathlib.Core.Path.{◌≡◌, refl, sym, ap, ◌∙◌, subst}
+use mathlib.Core.Bool.{Bool, true, false, and-true}
 use mathlib.Core.List.{List}
 use native.Mathlib.Nat.{not-suc-le-zero}
 use native.Mathlib.Numerals.{add-one}
 use native.Mathlib.Omega.{arith}
-use lib.ListN.{length, get_or}
+use lib.ListN.{length, get_or, take, drop, length-drop, drop_of_length-le}
+use lib.Seq.{get_or-drop, take_all}
 use borrow.Author.Tests.{lt-ltb, le-ltb}
+use Rattle.std.specs.Prelude.{min}
+use Rattle.std.specs.List.{count_by}
+use Rattle.std.proofs.Math.Logic.{⊎_elim}
+use Rattle.std.proofs.lemmas.List.Sums.{count_by_more_yes, count_by_more_no}
 use Rattle.card.specs.Lists.{numbers_below}
-use Rattle.laws.specs.ListsLaws.{and_false_right}
-use Rattle.laws.specs.NumbersLaws.{one, numbers_more, numbers_none, numbers_most}
+use Rattle.laws.specs.ListsLaws.{and_false_right, below_or_not}
+use Rattle.laws.specs.NumbersLaws.{one, numbers_more, numbers_none}
 use Rattle.card.specs.Card.{allocated_flag, free_flag}
 use Rattle.tables.specs.Free.{is_free, free_below}
 use Rattle.tables.specs.Rented.{is_rented, rented_below}
 
--- Those below i are tested.
-pub record Counted (test : List ℕ → ℕ → Bool) (flags : List ℕ) (first count i : ℕ) : Type 0 where
-  pub from : first ≤ i
-  pub few : count ≤ i
-  pub counted : count ≡ length (numbers_below (test flags) i)
-  pub whole : length flags ≤ i → count ≡ length (numbers_below (test flags) (length flags))
+count_more : (test : ℕ → Bool) (xs : List ℕ) (k : ℕ) → k < length xs → count_by test (take (suc k) xs) ≡ count_by test (take k xs) + one (test (get_or xs k 0))
+count_more test xs k l = go (test (get_or xs k 0)) refl
+  where
+    go : (t : Bool) → test (get_or xs k 0) ≡ t → count_by test (take (suc k) xs) ≡ count_by test (take k xs) + one t
+    go true e = rw add-one at (count_by_more_yes test xs k 0 l e)
+    go false e = rw add-one at (count_by_more_no test xs k 0 l e) ∙ omega arith
 
-counted_start : (test : List ℕ → ℕ → Bool) (flags : List ℕ) (first : ℕ) → ((b : ℕ) → b < first → test flags b ≡ false) → Counted test flags first 0 first
-counted_start test flags first f = record {
-  from = omega arith;
-  few = omega arith;
-  counted = sym (ap length (numbers_none (test flags) first f));
-  whole = λ l. sym (ap length (numbers_none (test flags) (length flags) (λ b h. f b (omega arith))));
-}
+module _ (p test : ℕ → Bool) (first : ℕ) (xs : List ℕ) (below : (b : ℕ) → b < first → p b ≡ false) (same : (b : ℕ) → first ≤ b → p b ≡ test (get_or xs b 0)) where
+  counted_to : (k : ℕ) → first + k ≤ length xs → length (numbers_below p (first + k)) ≡ count_by test (take k (drop first xs))
+  counted_to zero l = let none : first + 0 ≡ first = omega arith in rw (none, numbers_none p first below)
+  counted_to (suc k) l =
+      let next : first + suc k ≡ suc (first + k) = omega arith in
+      let told : p (first + k) ≡ test (get_or (drop first xs) k 0) = same (first + k) (omega arith) ∙ ap test (sym (get_or-drop first xs k 0)) in
+      let more : count_by test (take (suc k) (drop first xs)) ≡ count_by test (take k (drop first xs)) + one (test (get_or (drop first xs) k 0)) =
+      count_more test (drop first xs) k (omega (arith, length-drop first xs)) in
+      rw (next, numbers_more p (first + k), counted_to k (omega arith), told) (sym more)
 
-module _ {test : List ℕ → ℕ → Bool} {flags : List ℕ} {first count i : ℕ} (k : Counted test flags first count i) where
-  one_more : (t : Bool) → test flags i ≡ t → length (numbers_below (test flags) (i + 1)) ≡ count + one t
-  one_more t e = rw (add-one, k.counted, ← e) (numbers_more (test flags) i)
+  counted : length (numbers_below p (length xs)) ≡ count_by test (drop first xs)
+  counted =
+      ⊎_elim
+      (λ (l : length xs < first). rw (drop_of_length-le xs {i = first} (omega arith), numbers_none p (length xs) (λ b m. below b (omega arith))))
+      (λ (l : first ≤ length xs).
+      let all : first + (length xs - first) ≡ length xs = omega arith in
+      subst (λ (n : ℕ). length (numbers_below p n) ≡ count_by test (drop first xs)) all
+      (counted_to (length xs - first) (omega arith) ∙ ap (count_by test) (take_all (length xs - first) (drop first xs) (omega (arith, length-drop first xs)))))
+      (below_or_not (length xs) first)
 
-  counted_next : {next : ℕ} → i < length flags → next ≡ length (numbers_below (test flags) (i + 1)) → Counted test flags first next (i + 1)
-  counted_next {next} l e = record {
-    from = omega (arith, k.from);
-    few = omega (arith, numbers_most (test flags) (i + 1));
-    counted = e;
-    whole = λ h. e ∙ ap (λ (n : ℕ). length (numbers_below (test flags) n)) (omega arith);
-  }
-
-  counted_more : {next : ℕ} → i < length flags → (t : Bool) → test flags i ≡ t → next ≡ cond t (count + 1) count → Counted test flags first next (i + 1)
-  counted_more l true e n = counted_next l (omega (arith, one_more true e))
-  counted_more l false e n = counted_next l (omega (arith, one_more false e))
-
--- ---- the free blocks
-
-pub free_start : (flags : List ℕ) → Counted is_free flags 0 0 0
-free_start flags = counted_start is_free flags 0 (λ b h. absurd (not-suc-le-zero h))
-
-pub free_more : {flags : List ℕ} {count i next : ℕ} {t : Bool} → Counted is_free flags 0 count i → i < length flags → t ≡ free_flag (get_or flags i 0) → (u : Bool)
-    → t ≡ u → next ≡ cond u (count + 1) count → Counted is_free flags 0 next (i + 1)
-free_more k l told u e n = counted_more k l u (sym told ∙ e) n
-
-pub free_whole : {flags : List ℕ} {count i : ℕ} → Counted is_free flags 0 count i → length flags ≤ i → count ≡ length (free_below flags (length flags))
+pub free_counted : (flags : List ℕ) → count_by free_flag flags ≡ length (free_below flags (length flags))
 unfolding free_below
-free_whole k l = k.whole l
+free_counted flags = sym (counted (is_free flags) free_flag 0 flags (λ b l. absurd (not-suc-le-zero l)) (λ b l. refl))
 
--- ---- those that rent is paid for
+-- The part from the roots on, if there are so many blocks.
+ordinary : (roots : ℕ) (flags : List ℕ) {first : ℕ} → first ≡ min roots (length flags) → take (length flags - first) (drop first flags) ≡ drop roots flags
+ordinary roots flags {first} e =
+    take_all (length flags - first) (drop first flags) (omega (arith, length-drop first flags))
+    ∙ ⊎_elim
+    (λ (l : length flags < roots). drop_of_length-le flags {i = first} (omega arith) ∙ sym (drop_of_length-le flags {i = roots} (omega arith)))
+    (λ (l : roots ≤ length flags). let all : first ≡ roots = omega arith in rw all)
+    (below_or_not (length flags) roots)
 
-pub rented_start : (roots : ℕ) (flags : List ℕ) → Counted (is_rented roots) flags roots 0 roots
-rented_start roots flags =
-    counted_start (is_rented roots) flags roots (λ b h. and_false_right (allocated_flag (get_or flags b 0)) _ (rw (lt-ltb b roots h)))
-
-pub rented_more : {roots : ℕ} {flags : List ℕ} {count i next : ℕ} {t : Bool} → Counted (is_rented roots) flags roots count i → i < length flags → t ≡ allocated_flag (get_or flags i 0)
-    → (u : Bool) → t ≡ u → next ≡ cond u (count + 1) count → Counted (is_rented roots) flags roots next (i + 1)
-rented_more {roots} {flags} {count} {i} k l told u e n = counted_more k l u (rw (le-ltb i roots k.from, and-true) (sym told ∙ e)) n
-
-pub rented_whole : {roots : ℕ} {flags : List ℕ} {count i : ℕ} → Counted (is_rented roots) flags roots count i → length flags ≤ i
-    → count ≡ length (rented_below roots flags (length flags))
+pub rented_counted : (roots : ℕ) (flags : List ℕ) {first : ℕ} → first ≡ min roots (length flags)
+    → count_by allocated_flag (take (length flags - first) (drop first flags)) ≡ length (rented_below roots flags (length flags))
 unfolding rented_below
-rented_whole k l = k.whole l
+rented_counted roots flags e =
+    ap (count_by allocated_flag) (ordinary roots flags e)
+    ∙ sym
+    (counted (is_rented roots flags) allocated_flag roots flags
+    (λ b l. and_false_right (allocated_flag (get_or flags b 0)) _ (rw (lt-ltb b roots l)))
+    (λ b l. rw (le-ltb b roots l, and-true)))

@@ -1,5 +1,5 @@
-pub mod Overlay
 pub mod Counted
 pub mod Search
 pub mod Shift
 pub mod Merging
+pub mod Overlay

@@ -3,7 +3,7 @@
 use Prim.Native.Nat.{ℕ, suc, ◌+◌, ◌≤◌, ◌<◌}
 use mathlib.Core.Path.{◌≡◌, refl, sym, ap, ap₂, ◌∙◌, subst}
 use mathlib.Core.Bool.{true, false, not}
-use mathlib.Core.List.{List, [], ◌∷◌, ◌++◌, append_assoc, append-nil}
+use mathlib.Core.List.{List, [], ◌∷◌, ◌++◌, append_assoc}
 use native.Mathlib.Omega.{arith}
 use borrow.Author.Tests.{lt-ltb, ltb-true, not-true}
 use lib.Dec.{ltb}
@@ -53,18 +53,6 @@ module _ (f : ℕ → ℕ) {pointers before : List ℕ} {used : ℕ} {added : Li
   long_added : length news ≡ count
   long_added = length-take-le count added m.added_sorted.within
 
-  pub merging_start : Merging f pointers before before used added count used count
-  merging_start = record {
-    room = omega (arith, m.room, p.same);
-    enough = m.added_sorted.within;
-    old_most = omega arith;
-    new_most = omega arith;
-    same = refl;
-    done = [];
-    whole = sym (rw (take-take count count added (omega arith), take-take used used pointers (omega arith), take-take used used before (omega arith)) (append-nil _));
-    holds = sym (take-append-drop (used + count) before);
-  }
-
   module _ {now : List ℕ} {old new : ℕ} (r : Merging f pointers before now used added count old new) where
     long : length (take (old + new) before) ≡ old + new
     long = length-take-le (old + new) before (omega (arith, r.room, r.old_most, r.new_most))
@@ -79,8 +67,8 @@ module _ (f : ℕ → ℕ) {pointers before : List ℕ} {used : ℕ} {added : Li
     behind : drop (old + new) now ≡ r.done ++ drop (used + count) before
     behind = rw r.holds (drop_at (take (old + new) before) _ (old + new) long)
 
-    pub can_raise : {at : ℕ} → at ≤ old → Raisable now old new at
-    can_raise l = record { place = l; room = omega (arith, r.same, r.room, r.old_most, r.new_most) }
+    pub can_raise : {at by : ℕ} → by ≤ new → at ≤ old → Raisable now old by at
+    can_raise h l = record { place = l; room = omega (arith, r.same, r.room, r.old_most, r.new_most) }
 
     ascends : ascending (take old olds) ≡ true
     ascends = take_ascending old olds m.sorted.ascends
@@ -131,7 +119,7 @@ module _ (f : ℕ → ℕ) {pointers before : List ℕ} {used : ℕ} {added : Li
           (append_assoc (insert_all_beside f (take n news) (take at olds) (take at numbers)) (f w ∷ []) (drop at (take old numbers))))
 
       -- Those above it are raised, and it is put below them.
-      pub merging_more : {after : List ℕ} → after ≡ raised_at at new old now → Merging f pointers before (set after (at + n) (f w)) used added count at n
+      pub merging_more : {after : List ℕ} → after ≡ raised_at at (n + 1) old now → Merging f pointers before (set after (at + n) (f w)) used added count at n
       unfolding raised_at
       merging_more {after} raised =
           let seg : List ℕ = drop at (take old numbers) in
@@ -140,7 +128,7 @@ module _ (f : ℕ → ℕ) {pointers before : List ℕ} {used : ℕ} {added : Li
             enough = r.enough;
             old_most = omega (arith, low, r.old_most);
             new_most = omega (arith, r.new_most);
-            same = length-set after (at + n) (f w) ∙ rw raised (raised_length (can_raise low)) ∙ r.same;
+            same = length-set after (at + n) (f w) ∙ rw raised (raised_length (can_raise (omega arith) low)) ∙ r.same;
             done = f w ∷ (seg ++ r.done);
             whole = r.whole ∙ rw parted (append_assoc (insert_all_beside f (take n news) (take at olds) (take at numbers)) (f w ∷ seg) r.done);
             holds = stored;
@@ -148,8 +136,9 @@ module _ (f : ℕ → ℕ) {pointers before : List ℕ} {used : ℕ} {added : Li
         where
           stored : set after (at + n) (f w) ≡ take (at + n) before ++ ((f w ∷ (drop at (take old numbers) ++ r.done)) ++ drop (used + count) before)
           stored =
-              let next : at + new ≡ suc (at + n) = omega arith in
-              rw (raised, next, left, behind)
+              let next : at + (n + 1) ≡ suc (at + n) = omega arith in
+              let many : old + (n + 1) ≡ old + new = omega arith in
+              rw (raised, next, many, left, behind)
               (set_behind now _ (at + n) (f w) (omega (arith, low, r.same, r.room, r.old_most, r.new_most))
               ∙ rw (front (at + n) (omega (arith, low)))
               (ap (λ (ws : List ℕ). take (at + n) before ++ (f w ∷ ws)) (sym (append_assoc (drop at (take old numbers)) r.done (drop (used + count) before)))))
@@ -171,9 +160,6 @@ module _ {pointers₀ multiplicities₀ : List ℕ} {used : ℕ} {added : List �
   itself : Paired pointers₀ pointers₀
   itself = record { same = refl }
 
-  pub both_start : BothMerging pointers₀ multiplicities₀ pointers₀ multiplicities₀ used added count used count
-  both_start = record { of_pointers = merging_start (λ x. x) m itself; of_multiplicities = merging_start (λ x. 1) m p }
-
   module _ {pointers multiplicities : List ℕ} {old new : ℕ} (r : BothMerging pointers₀ multiplicities₀ pointers multiplicities used added count old new) where
     pub can_place : Sorted pointers old
     can_place = record {
@@ -181,15 +167,15 @@ module _ {pointers₀ multiplicities₀ : List ℕ} {used : ℕ} {added : List �
       ascends = rw (left (λ x. x) m itself r.of_pointers) (take_ascending old (take used pointers₀) m.sorted.ascends);
     }
 
-    module _ (w : ℕ) {at : ℕ} (place : at ≡ rank w (take old pointers)) where
-      pub can_raise_pointers : Raisable pointers old new at
-      can_raise_pointers = can_raise (λ x. x) m itself r.of_pointers (rank_place w can_place place)
+    module _ {by : ℕ} (few : by ≤ new) (w : ℕ) {at : ℕ} (place : at ≡ rank w (take old pointers)) where
+      pub can_raise_pointers : Raisable pointers old by at
+      can_raise_pointers = can_raise (λ x. x) m itself r.of_pointers few (rank_place w can_place place)
 
-      pub can_raise_multiplicities : Raisable multiplicities old new at
-      can_raise_multiplicities = can_raise (λ x. 1) m p r.of_multiplicities (rank_place w can_place place)
+      pub can_raise_multiplicities : Raisable multiplicities old by at
+      can_raise_multiplicities = can_raise (λ x. 1) m p r.of_multiplicities few (rank_place w can_place place)
 
     pub both_more : (n : ℕ) → new ≡ suc n → {at : ℕ} → at ≡ rank (get_or added n 0) (take old pointers) → {above beside : List ℕ}
-        → above ≡ raised_at at new old pointers → beside ≡ raised_at at new old multiplicities
+        → above ≡ raised_at at (n + 1) old pointers → beside ≡ raised_at at (n + 1) old multiplicities
         → BothMerging pointers₀ multiplicities₀ (set above (at + n) (get_or added n 0)) (set beside (at + n) 1) used added count at n
     both_more n e {at} place f g =
         let there : at ≡ rank (get_or added n 0) (take old (take used pointers₀)) =

@@ -17,20 +17,20 @@ use Rattle.tables.specs.InUse.{Addable, Raisable, Lowerable, Paired}
 
 -- ---- upwards
 
-pub set_behind : (xs tail : List ℕ) (i v : ℕ) → i < length xs → set (take (suc i) xs ++ tail) i v ≡ take i xs ++ (v ∷ tail)
+pub set_behind : {A : Type 0} (xs tail : List A) (i : ℕ) (v : A) → i < length xs → set (take (suc i) xs ++ tail) i v ≡ take i xs ++ (v ∷ tail)
 set_behind [] tail i v l = absurd (not-suc-le-zero l)
 set_behind (x ∷ xs) tail zero v l = refl
-set_behind (x ∷ xs) tail (suc i) v l = ap (λ (t : List ℕ). x ∷ t) (set_behind xs tail i v (le_of_suc-le-suc l))
+set_behind (x ∷ xs) tail (suc i) v l = ap (λ t. x ∷ t) (set_behind xs tail i v (le_of_suc-le-suc l))
 
 -- The first `used` elements from i on stand `by` places higher, and the others where they were.
-pub record Raised (before now : List ℕ) (used by at i : ℕ) : Type 0 where
+pub record Raised {A : Type 0} (before now : List A) (used by at i : ℕ) : Type 0 where
   pub room : used + by ≤ length before
   pub lowest : at ≤ i
   pub most : i ≤ used
   pub same : length now ≡ length before
   pub holds : now ≡ raised_at i by used before
 
-pub raised_start : {before : List ℕ} {used by at : ℕ} → Raisable before used by at → Raised before before used by at used
+pub raised_start : {A : Type 0} {before : List A} {used by at : ℕ} → Raisable before used by at → Raised before before used by at used
 unfolding raised_at
 raised_start {before} {used} {by} {at} r = record {
   room = r.room;
@@ -40,36 +40,33 @@ raised_start {before} {used} {by} {at} r = record {
   holds = sym (rw (drop_of_length-le (take used before) {i = used} (simp length-take (omega (arith, r.room)))) (take-append-drop (used + by) before));
 }
 
-raise : (before : List ℕ) (used by i : ℕ) → i < used → used + by ≤ length before
-    → set (take (suc (i + by)) before ++ (drop (suc i) (take used before) ++ drop (used + by) before)) (i + by) (get_or before i 0)
+raise : {A : Type 0} (before : List A) (used by i : ℕ) (v : A) → i < used → used + by ≤ length before
+    → set (take (suc (i + by)) before ++ (drop (suc i) (take used before) ++ drop (used + by) before)) (i + by) (get_or before i v)
     ≡ take (i + by) before ++ (drop i (take used before) ++ drop (used + by) before)
-raise before used by i l room =
-    set_behind before _ (i + by) (get_or before i 0) (omega arith)
-    ∙ rw (drop-cons (take used before) i 0 (simp length-take (omega arith)), get_or-take used before i 0 l)
+raise before used by i v l room =
+    set_behind before _ (i + by) (get_or before i v) (omega arith)
+    ∙ rw (drop-cons (take used before) i v (simp length-take (omega arith)), get_or-take used before i v l)
 
-module _ {before now : List ℕ} {used by at i : ℕ} (r : Raised before now used by at i) where
-  pub raised_more : at < i → Raised before (set now (i - 1 + by) (get_or now (i - 1) 0)) used by at (i - 1)
+module _ {A : Type 0} {before now : List A} {used by at i : ℕ} (r : Raised before now used by at i) where
+  pub raised_more : (v : A) → at < i → v ≡ get_or now (i - 1) v → Raised before (set now (i - 1 + by) v) used by at (i - 1)
   unfolding raised_at
-  raised_more l = record {
+  raised_more v l is = record {
     room = r.room;
     lowest = omega arith;
     most = omega (arith, r.most);
     same = length-set now (i - 1 + by) _ ∙ r.same;
-    holds = go (i - 1) (omega arith);
+    holds = ap (set now (i - 1 + by)) is ∙ go (i - 1) (omega arith);
   }
     where
-      kept : (k : ℕ) → i ≡ suc k → get_or now k 0 ≡ get_or before k 0
+      kept : (k : ℕ) → i ≡ suc k → get_or now k v ≡ get_or before k v
       kept k e =
           rw r.holds
-          (get_or-append (take (i + by) before) _ 0 k (simp length-take (omega (arith, r.room, r.most))) ∙ get_or-take (i + by) before k 0 (omega arith))
+          (get_or-append (take (i + by) before) _ v k (simp length-take (omega (arith, r.room, r.most))) ∙ get_or-take (i + by) before k v (omega arith))
 
-      go : (k : ℕ) → i ≡ suc k → set now (k + by) (get_or now k 0) ≡ take (k + by) before ++ (drop k (take used before) ++ drop (used + by) before)
-      go k e = let next : suc k + by ≡ suc (k + by) = omega arith in rw (kept k e, r.holds, e, next) (raise before used by k (omega (arith, r.most)) r.room)
+      go : (k : ℕ) → i ≡ suc k → set now (k + by) (get_or now k v) ≡ take (k + by) before ++ (drop k (take used before) ++ drop (used + by) before)
+      go k e = let next : suc k + by ≡ suc (k + by) = omega arith in rw (kept k e, r.holds, e, next) (raise before used by k v (omega (arith, r.most)) r.room)
 
-  pub raised_whole : i ≤ at → now ≡ raised_at at by used before
-  raised_whole l = let last : i ≡ at = omega (arith, r.lowest) in subst (λ (n : ℕ). now ≡ raised_at n by used before) last r.holds
-
-pub raised_length : {xs : List ℕ} {used by at : ℕ} → Raisable xs used by at → length (raised_at at by used xs) ≡ length xs
+pub raised_length : {A : Type 0} {xs : List A} {used by at : ℕ} → Raisable xs used by at → length (raised_at at by used xs) ≡ length xs
 unfolding raised_at
 raised_length r = simp (length-append, length-take, length-drop) (omega (arith, r.room, r.place))
 
@@ -101,29 +98,29 @@ inserted {xs} {after} {used} {at} {w} a e f =
 
 -- ---- downwards
 
-remove_at_length : (at i : ℕ) (xs : List ℕ) → at ≤ i → i < length xs → length (remove_at at (take (suc i) xs)) ≡ i
+remove_at_length : {A : Type 0} (at i : ℕ) (xs : List A) → at ≤ i → i < length xs → length (remove_at at (take (suc i) xs)) ≡ i
 unfolding remove_at
 remove_at_length at i xs h l = simp (length-append, length-take, length-drop) (omega arith)
 
-remove_at_more : (at i : ℕ) (xs : List ℕ) → at ≤ i → suc i < length xs
-    → remove_at at (take (suc (suc i)) xs) ≡ remove_at at (take (suc i) xs) ++ (get_or xs (suc i) 0 ∷ [])
+remove_at_more : {A : Type 0} (at i : ℕ) (xs : List A) (d : A) → at ≤ i → suc i < length xs
+    → remove_at at (take (suc (suc i)) xs) ≡ remove_at at (take (suc i) xs) ++ (get_or xs (suc i) d ∷ [])
 unfolding remove_at
-remove_at_more at i xs h l =
+remove_at_more at i xs d h l =
     let long : length (take (suc i) xs) ≡ suc i = length-take-le (suc i) xs (omega arith) in
-    rw (take-suc xs (suc i) 0 l, take-append-le at (take (suc i) xs) _ (omega arith), drop-append-le (suc at) (take (suc i) xs) _ (omega arith))
+    rw (take-suc xs (suc i) d l, take-append-le at (take (suc i) xs) _ (omega arith), drop-append-le (suc at) (take (suc i) xs) _ (omega arith))
     (sym (append_assoc (take at (take (suc i) xs)) _ _))
 
 -- The elements behind the one at `at`, up to i, stand one place lower, and the others where they were.
-pub record Lowered (before now : List ℕ) (used at i : ℕ) : Type 0 where
+pub record Lowered {A : Type 0} (before now : List A) (used at i : ℕ) : Type 0 where
   pub within : used ≤ length before
   pub lowest : at ≤ i
   pub most : i < used
   pub same : length now ≡ length before
   pub holds : now ≡ remove_at at (take (suc i) before) ++ drop i before
 
-pub lowered_start : {before : List ℕ} {used at : ℕ} → Lowerable before used at → Lowered before before used at at
+pub lowered_start : {A : Type 0} {before : List A} {used at : ℕ} → Lowerable before used at → Lowered before before used at at
 unfolding remove_at
-lowered_start {before} {used} {at} r = record {
+lowered_start {before = before} {used = used} {at = at} r = record {
   within = r.within;
   lowest = omega arith;
   most = r.place;
@@ -134,30 +131,35 @@ lowered_start {before} {used} {at} r = record {
       (take-append-drop at before));
 }
 
--- A store at i.
-lower : {before now : List ℕ} {used at i : ℕ} → Lowered before now used at i → (v : ℕ) → set now i v ≡ remove_at at (take (suc i) before) ++ (v ∷ drop (suc i) before)
-lower {before} {now} {used} {at} {i} r v =
-    let inside : i < length before = omega (arith, r.most, r.within) in
-    rw (r.holds, drop-cons before i 0 inside)
-    (set_at (remove_at at (take (suc i) before)) (get_or before i 0) (drop (suc i) before) v i (remove_at_length at i before r.lowest inside))
+module _ {A : Type 0} {before now : List A} {used at i : ℕ} (r : Lowered before now used at i) (v : A) where
+  -- A store at i.
+  lower : set now i v ≡ remove_at at (take (suc i) before) ++ (v ∷ drop (suc i) before)
+  lower =
+      let inside : i < length before = omega (arith, r.most, r.within) in
+      rw (r.holds, drop-cons before i v inside)
+      (set_at (remove_at at (take (suc i) before)) (get_or before i v) (drop (suc i) before) v i (remove_at_length at i before r.lowest inside))
 
-pub lowered_more : {before now : List ℕ} {used at i : ℕ} → Lowered before now used at i → i + 1 < used → Lowered before (set now i (get_or now (i + 1) 0)) used at (i + 1)
-lowered_more {before} {now} {used} {at} {i} r l =
-    let long : length (remove_at at (take (suc i) before)) ≡ i = remove_at_length at i before r.lowest (omega (arith, r.most, r.within)) in
-    let kept : get_or now (i + 1) 0 ≡ get_or before (i + 1) 0 =
-    rw r.holds
-    (subst (λ (n : ℕ). get_or (remove_at at (take (suc i) before) ++ drop i before) (n + 1) 0 ≡ get_or before (i + 1) 0) long
-    (get_or-append-add (remove_at at (take (suc i) before)) (drop i before) 1 0 ∙ get_or-drop i before 1 0)) in
-    record {
-      within = r.within;
-      lowest = omega (arith, r.lowest);
-      most = l;
-      same = length-set now i _ ∙ r.same;
-      holds =
-          rw (lower r (get_or now (i + 1) 0), kept, add-one i, remove_at_more at i before r.lowest (omega (arith, r.within)))
-          (sym (append_snoc (remove_at at (take (suc i) before)) (get_or before (suc i) 0) (drop (suc i) before)));
-    }
+  pub lowered_more : i + 1 < used → v ≡ get_or now (i + 1) v → Lowered before (set now i v) used at (i + 1)
+  lowered_more l is =
+      let long : length (remove_at at (take (suc i) before)) ≡ i = remove_at_length at i before r.lowest (omega (arith, r.most, r.within)) in
+      let kept : get_or now (i + 1) v ≡ get_or before (i + 1) v =
+      rw r.holds
+      (subst (λ (n : ℕ). get_or (remove_at at (take (suc i) before) ++ drop i before) (n + 1) v ≡ get_or before (i + 1) v) long
+      (get_or-append-add (remove_at at (take (suc i) before)) (drop i before) 1 v ∙ get_or-drop i before 1 v)) in
+      let next : get_or before (suc i) v ≡ v = sym (is ∙ kept ∙ rw add-one) in
+      record {
+        within = r.within;
+        lowest = omega (arith, r.lowest);
+        most = l;
+        same = length-set now i _ ∙ r.same;
+        holds =
+            lower
+            ∙ rw (add-one i, remove_at_more at i before v r.lowest (omega (arith, r.within)), next)
+            (sym (append_snoc (remove_at at (take (suc i) before)) v (drop (suc i) before)));
+      }
 
-pub removed_at : {before now : List ℕ} {used at i : ℕ} → Lowered before now used at i → used ≤ i + 1
-    → set now i 0 ≡ remove_at at (take used before) ++ (0 ∷ drop used before)
-removed_at {before} {now} {used} {at} {i} r l = let last : suc i ≡ used = omega (arith, r.most) in lower r 0 ∙ rw last
+  pub removed_at : used ≤ i + 1 → set now (used - 1) v ≡ remove_at at (take used before) ++ (v ∷ drop used before)
+  removed_at l =
+      let there : used - 1 ≡ i = omega (arith, r.most) in
+      let last : suc i ≡ used = omega (arith, r.most) in
+      rw there (lower ∙ rw last)

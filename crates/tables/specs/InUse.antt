@@ -22,12 +22,12 @@ pub record Mergeable (pointers : List ℕ) (used : ℕ) (added : List ℕ) (coun
   pub absent : all (λ v. not (contains v (take used pointers))) (take count added) ≡ true
 
 -- The place is among the first `used` or behind the last of them, and there is room for so many more.
-pub record Raisable (xs : List ℕ) (used by at : ℕ) : Type 0 where
+pub record Raisable {A : Type 0} (xs : List A) (used by at : ℕ) : Type 0 where
   pub place : at ≤ used
   pub room : used + by ≤ length xs
 
 -- The place is among the first `used`.
-pub record Lowerable (xs : List ℕ) (used at : ℕ) : Type 0 where
+pub record Lowerable {A : Type 0} (xs : List A) (used at : ℕ) : Type 0 where
   pub place : at < used
   pub within : used ≤ length xs
 

@@ -4,11 +4,11 @@ use Rattle.std.specs.Prelude.{ℕ, suc, ◌+◌, ◌≡◌, List, ◌∷◌, ◌
 unfoldable pub insert_at : ℕ → ℕ → List ℕ → List ℕ
 insert_at at x xs = take at xs ++ (x ∷ drop at xs)
 
-unfoldable pub remove_at : ℕ → List ℕ → List ℕ
+unfoldable pub remove_at : {A : Type 0} → ℕ → List A → List A
 remove_at at xs = take at xs ++ drop (suc at) xs
 
 -- The first `used` elements from a place on stand so many places higher, and all others where they were.
-unfoldable pub raised_at : ℕ → ℕ → ℕ → List ℕ → List ℕ
+unfoldable pub raised_at : {A : Type 0} → ℕ → ℕ → ℕ → List A → List A
 raised_at at by used xs = take (at + by) xs ++ (drop at (take used xs) ++ drop (used + by) xs)
 
 -- A pointer is put in at a place of the first `used`, and its multiplicity 1 beside it.

@@ -21,14 +21,7 @@ use card::Info;
 pub fn with_used(info: Info, used: usize) -> Info
     ensures { result ≡ with_used info used }
 {
-    Info {
-        blocks: info.blocks,
-        roots: info.roots,
-        bytes: info.bytes,
-        used,
-        time: info.time,
-        total: info.total,
-    }
+    Info { used, ..info }
 }
 
 // Another time, and the total that goes with it.
@@ -36,12 +29,9 @@ pub fn with_time(info: Info, time: u64, total: u64) -> Info
     ensures { result ≡ with_time info time total }
 {
     Info {
-        blocks: info.blocks,
-        roots: info.roots,
-        bytes: info.bytes,
-        used: info.used,
         time,
         total,
+        ..info
     }
 }
 
@@ -66,10 +56,9 @@ pub fn copy(from: &[u8], to: &mut [u8])
     requires { length from.now ≡ length to.old }
     ensures { to.new ≡ from.now }
 {
-    let mut i = 0;
-    while i < to.len() {
+    // Of std's `copy_from_slice` the compiler makes a call of `memmove`, which the library asks no firmware for (docs/FIRMWARE.md).
+    for i in 0..to.len() {
         to[i] = from[i];
-        i += 1;
     }
 }
 
@@ -77,11 +66,7 @@ pub fn copy(from: &[u8], to: &mut [u8])
 pub fn clear(to: &mut [u8])
     ensures { to.new ≡ zeros (length to.old) }
 {
-    let mut at = 0;
-    while at < to.len() {
-        to[at] = 0;
-        at += 1;
-    }
+    to.fill(0);
 }
 
 // ---- flags
@@ -90,50 +75,28 @@ pub fn clear(to: &mut [u8])
 pub fn count_free(flags: &[u8]) -> usize
     ensures { result ≡ length (free_below flags.now (length flags.now)) }
 {
-    let mut free: usize = 0;
-    let mut block = 0;
-    while block < flags.len() {
-        if flags::free(flags[block]) {
-            free += 1;
-        }
-        block += 1;
-    }
-    free
+    flags.iter().filter(|flag| flags::free(**flag)).count()
 }
 
 // The number of allocated blocks that are no roots.
 pub fn count_rented(roots: usize, flags: &[u8]) -> usize
     ensures { result ≡ length (rented_below roots flags.now (length flags.now)) }
 {
-    let mut rented: usize = 0;
-    let mut block = roots;
-    while block < flags.len() {
-        if flags::allocated(flags[block]) {
-            rented += 1;
-        }
-        block += 1;
-    }
-    rented
+    let ordinary = &flags[roots.min(flags.len())..];
+    ordinary
+        .iter()
+        .filter(|flag| flags::allocated(**flag))
+        .count()
 }
 
-// ---- pointers: the first `used` places of the table, ascending
+// ---- pointers: the first `used` places of the table, ascending. The table is C's, and so is the number beside it, in the record.
 
 // The number of pointers in use below `wanted`: the place where it stands, or would.
 pub fn place(pointers: &[u32], used: usize, wanted: u32) -> usize
     requires { Sorted pointers.now used }
     ensures { result ≡ rank wanted (take used pointers.now) }
 {
-    let mut low: usize = 0;
-    let mut high = used;
-    while low < high {
-        let middle = low + (high - low) / 2;
-        if pointers[middle] < wanted {
-            low = middle + 1;
-        } else {
-            high = middle;
-        }
-    }
-    low
+    pointers[..used].partition_point(|pointer| *pointer < wanted)
 }
 
 // The pointer is in use, if it stands at its place.
@@ -142,10 +105,7 @@ pub fn stands(pointers: &[u32], used: usize, at: usize, wanted: u32) -> bool
     requires at_value { at ≡ rank wanted (take used pointers.now) }
     ensures { result ≡ contains wanted (take used pointers.now) }
 {
-    if at < used {
-        return pointers[at] == wanted;
-    }
-    false
+    at < used && pointers[at] == wanted
 }
 
 // The pointer is in use.
@@ -153,8 +113,7 @@ pub fn holds(pointers: &[u32], used: usize, wanted: u32) -> bool
     requires { Sorted pointers.now used }
     ensures { result ≡ contains wanted (take used pointers.now) }
 {
-    let at = place(pointers, used, wanted);
-    stands(pointers, used, at, wanted)
+    pointers[..used].binary_search(&wanted).is_ok()
 }
 
 // Some pointer in use starts at the block.
@@ -164,10 +123,7 @@ pub fn points_from(pointers: &[u32], used: usize, block: u16) -> bool
 {
     let source = block as u32;
     let at = place(pointers, used, source * 65536);
-    if at < used {
-        return pointers[at] / 65536 == source;
-    }
-    false
+    at < used && pointers[at] / 65536 == source
 }
 
 // How often the pointer is in use: the number beside it, 0 where it is not.
@@ -178,61 +134,34 @@ pub fn times(pointers: &[u32], multiplicities: &[u16], used: usize, wanted: u32)
 {
     let at = place(pointers, used, wanted);
     if stands(pointers, used, at, wanted) {
-        return multiplicities[at];
+        multiplicities[at]
+    } else {
+        0
     }
-    0
 }
 
 // ---- places: pointers, and the multiplicities beside them, move up and down alike
 
-// The pointers in use from a place on move up by so many places.
-fn raise(pointers: &mut [u32], used: usize, by: usize, at: usize)
-    requires { Raisable pointers.old used by at }
-    ensures { pointers.new ≡ raised_at at by used pointers.old }
+// The first `used` elements from a place on move up by so many places.
+// std's rotations call `memmove`, which the library asks no firmware for (docs/FIRMWARE.md).
+fn raise<T: Copy>(xs: &mut [T], used: usize, by: usize, at: usize)
+    requires { Raisable xs.old used by at }
+    ensures { xs.new ≡ raised_at at by used xs.old }
 {
-    let mut i = used;
-    while at < i {
-        i -= 1;
-        pointers[i + by] = pointers[i];
+    for i in (at..used).rev() {
+        xs[i + by] = xs[i];
     }
 }
 
-// So do the multiplicities.
-fn raise_beside(multiplicities: &mut [u16], used: usize, by: usize, at: usize)
-    requires { Raisable multiplicities.old used by at }
-    ensures { multiplicities.new ≡ raised_at at by used multiplicities.old }
+// The element at a place is taken away, those behind it move down by one, and the last place holds `blank`.
+fn lower<T: Copy>(xs: &mut [T], used: usize, at: usize, blank: T)
+    requires { Lowerable xs.old used at }
+    ensures { xs.new ≡ remove_at at (take used xs.old) ++ (blank ∷ drop used xs.old) }
 {
-    let mut i = used;
-    while at < i {
-        i -= 1;
-        multiplicities[i + by] = multiplicities[i];
+    for i in at..used - 1 {
+        xs[i] = xs[i + 1];
     }
-}
-
-// The pointer at a place is taken away, those behind it move down by one, and the last place becomes 0.
-fn lower(pointers: &mut [u32], used: usize, at: usize)
-    requires { Lowerable pointers.old used at }
-    ensures { pointers.new ≡ remove_at at (take used pointers.old) ++ (0 ∷ drop used pointers.old) }
-{
-    let mut i = at;
-    while i + 1 < used {
-        pointers[i] = pointers[i + 1];
-        i += 1;
-    }
-    pointers[i] = 0;
-}
-
-// So is the multiplicity.
-fn lower_beside(multiplicities: &mut [u16], used: usize, at: usize)
-    requires { Lowerable multiplicities.old used at }
-    ensures { multiplicities.new ≡ remove_at at (take used multiplicities.old) ++ (0 ∷ drop used multiplicities.old) }
-{
-    let mut i = at;
-    while i + 1 < used {
-        multiplicities[i] = multiplicities[i + 1];
-        i += 1;
-    }
-    multiplicities[i] = 0;
+    xs[used - 1] = blank;
 }
 
 // A pointer is put in at a place, and its multiplicity 1 beside it.
@@ -242,7 +171,7 @@ pub fn put(pointers: &mut [u32], multiplicities: &mut [u16], used: usize, at: us
     ensures { PutAt used at wanted pointers.old multiplicities.old pointers.new multiplicities.new }
 {
     raise(pointers, used, 1, at);
-    raise_beside(multiplicities, used, 1, at);
+    raise(multiplicities, used, 1, at);
     pointers[at] = wanted;
     multiplicities[at] = 1;
 }
@@ -253,8 +182,8 @@ pub fn take_away(pointers: &mut [u32], multiplicities: &mut [u16], used: usize, 
     requires paired { Paired pointers.old multiplicities.old }
     ensures { TakenAt used at pointers.old multiplicities.old pointers.new multiplicities.new }
 {
-    lower(pointers, used, at);
-    lower_beside(multiplicities, used, at);
+    lower(pointers, used, at, 0);
+    lower(multiplicities, used, at, 0);
 }
 
 // ---- several pointers
@@ -282,16 +211,14 @@ pub fn merge(
     requires paired { Paired pointers.old multiplicities.old }
     ensures { MergedIn (take count added.now) used pointers.old multiplicities.old pointers.new multiplicities.new }
 {
-    // The pointers that are not yet in their last place.
+    // The pointers in use that are not yet in their last place.
     let mut old = used;
-    let mut new = count;
-    while 0 < new {
-        let highest = added[new - 1];
+    for new in (0..count).rev() {
+        let highest = added[new];
         let at = place(pointers, old, highest);
-        raise(pointers, old, new, at);
-        raise_beside(multiplicities, old, new, at);
+        raise(pointers, old, new + 1, at);
+        raise(multiplicities, old, new + 1, at);
         old = at;
-        new -= 1;
         pointers[old + new] = highest;
         multiplicities[old + new] = 1;
     }

@@ -14,14 +14,18 @@ use Rattle.laws.specs.ContentsLaws.{block_fits, part_length}
 use Rattle.laws.specs.ListsLaws.{or_false_left}
 use Rattle.card.specs.Card.{Card, allocated}
 use Rattle.card.specs.SoundCard.{SoundCard}
-use Rattle.access.proofs.Blocks.{flagged, there}
+use Rattle.access.proofs.Blocks.{there}
+
+-- A buffer that is not refused has B bytes.
+pub right_size : {size bytes : ℕ} (late : Bool) → not (eqb size bytes) || late ≡ false → size ≡ bytes
+right_size {size} {bytes} late e = eqb-true size bytes (not-false (eqb size bytes) (or_false_left _ late e))
 
 -- A block that is there: its part lies within the contents, of at most 2^28 bytes.
 pub record Lies (c : Card) (b : ℕ) : Type 0 where
   pub within : b * c.public.info.bytes + c.public.info.bytes ≤ length c.contents
   pub low : b * c.public.info.bytes + c.public.info.bytes ≤ 268435456
 
-pub lies : {c : Card} (b : ℕ) {t : Bool} → SoundCard c → t ≡ not (allocated (flagged c.public) b) → t ≡ false → Lies c b
+pub lies : {c : Card} (b : ℕ) {t : Bool} → SoundCard c → t ≡ not (allocated c.public b) → t ≡ false → Lies c b
 lies {c} b s told e =
     let bytes : ℕ = c.public.info.bytes in
     let h : b * bytes + bytes ≤ c.public.info.blocks * bytes = block_fits bytes (there c.public b told e) in
@@ -37,28 +41,16 @@ lent_part n xs b e =
     let size : b * n + n - b * n ≡ n = omega arith in
     e ∙ ap (λ (k : ℕ). take k (drop (b * n) xs)) size
 
--- A buffer that is not refused has B bytes.
-pub right_size : (size bytes : ℕ) (late : Bool) → not (eqb size bytes) || late ≡ false → size ≡ bytes
-right_size size bytes late e = eqb-true size bytes (not-false (eqb size bytes) (or_false_left _ late e))
-
-pub lent_size : {c : Card} (b : ℕ) (out : List ℕ) (late : Bool) → Lies c b → not (eqb (length out) c.public.info.bytes) || late ≡ false
-    → length (take (b * c.public.info.bytes + c.public.info.bytes - b * c.public.info.bytes) (drop (b * c.public.info.bytes) c.contents)) ≡ length out
-lent_size {c} b out late l e =
-    let bytes : ℕ = c.public.info.bytes in
-    ap length (lent_part bytes c.contents b refl) ∙ part_length bytes c.contents b l.within ∙ sym (right_size (length out) bytes late e)
+pub lent_size : {c : Card} (b : ℕ) {size : ℕ} → Lies c b → size ≡ c.public.info.bytes
+    → length (take (b * c.public.info.bytes + c.public.info.bytes - b * c.public.info.bytes) (drop (b * c.public.info.bytes) c.contents)) ≡ size
+lent_size {c} b l e = ap length (lent_part c.public.info.bytes c.contents b refl) ∙ part_length c.public.info.bytes c.contents b l.within ∙ sym e
 
 -- What a part of a list is written to, it is overwritten with.
-pub put_part : (xs : List ℕ) (at end : ℕ) {ys zs : List ℕ} → ys ≡ zs → at + length zs ≡ end → put_mid at (end - at) xs ys ≡ overwrite xs at zs
+put_part : (xs : List ℕ) (at end : ℕ) {ys zs : List ℕ} → ys ≡ zs → at + length zs ≡ end → put_mid at (end - at) xs ys ≡ overwrite xs at zs
 unfolding overwrite
 put_part xs at end {ys} {zs} e l = rw (e, l, Post-is at end xs (omega arith))
 
-pub put_block : (n : ℕ) (xs : List ℕ) (b : ℕ) {ys : List ℕ} (zs : List ℕ) (late : Bool) → ys ≡ zs → not (eqb (length zs) n) || late ≡ false
+pub put_block : (n : ℕ) (xs : List ℕ) (b : ℕ) {ys : List ℕ} (zs : List ℕ) → ys ≡ zs → length zs ≡ n
     → put_mid (b * n) (b * n + n - b * n) xs ys ≡ fill n xs b zs
 unfolding fill
-put_block n xs b zs late e l =
-    put_part xs (b * n) (b * n + n) e (ap (λ (k : ℕ). b * n + k) (right_size (length zs) n late l))
-
--- As many bytes are lent as there are to write.
-pub taken_size : {c : Card} (b : ℕ) (input : List ℕ) (late : Bool) → Lies c b → not (eqb (length input) c.public.info.bytes) || late ≡ false
-    → length input ≡ length (take (b * c.public.info.bytes + c.public.info.bytes - b * c.public.info.bytes) (drop (b * c.public.info.bytes) c.contents))
-taken_size b input late l e = sym (lent_size b input late l e)
+put_block n xs b zs e l = put_part xs (b * n) (b * n + n) e (ap (λ (k : ℕ). b * n + k) l)

@@ -1,12 +1,11 @@
--- The tables that the walk begins with, one place a turn: the counts copied, and the first pointer of each block.
+-- The tables that the walk begins with: the counts copied, and the first pointer of each block.
 use Prim.Native.Nat.{ℕ, ◌+◌, ◌-◌, ◌≤◌, ◌<◌}
 use mathlib.Core.Path.{◌≡◌, refl, sym, ap, ◌∙◌}
 use mathlib.Core.Logic.{⊎_elim}
-use mathlib.Core.List.{List}
-use native.Mathlib.Nat.{not-suc-le-zero}
+use mathlib.Core.List.{List, ◌++◌}
 use native.Mathlib.Omega.{arith}
-use lib.ListN.{length, take, get_or, set, replicate, length-set, length-replicate}
-use lib.Seq.{get_or-set_same, get_or-set_other, get_or-take, length-take-le}
+use lib.ListN.{length, take, drop, get_or, set, replicate, length-set, length-replicate, length-append, length-drop, get_or-append}
+use lib.Seq.{get_or-append-add, get_or-drop, get_or-set_same, get_or-set_other, get_or-take, length-take-le}
 use Rattle.laws.specs.ListsLaws.{same_or_other}
 use Rattle.card.specs.Pointers.{source}
 use Rattle.walks.specs.Walk.{Walkable}
@@ -15,28 +14,21 @@ use Rattle.trees.specs.Release.{Copied, Indexed}
 
 -- ---- counts
 
-pub copied_none : (counts : List ℕ) {left : List ℕ} → left ≡ replicate 4096 0 → Copied counts left 0
-copied_none counts e = record {
-  has_left = ap length e ∙ length-replicate {A = ℕ} 4096 0;
-  high = omega arith;
-  same = λ b l. absurd (not-suc-le-zero l);
-  rest = λ b l. rw e (none_marked 4096 b);
-}
-
-pub copied_more : {counts left : List ℕ} {at : ℕ} → Copied counts left at → length counts ≤ 4096 → at < length counts → Copied counts (set left at (get_or counts at 0)) (at + 1)
-copied_more {counts} {left} {at} h few l = record {
-  has_left = length-set left at _ ∙ h.has_left;
-  high = omega arith;
-  same = λ b m.
-      ⊎_elim
-      (λ (q : b ≡ at). rw q (get_or-set_same left at (get_or counts at 0) 0 (omega (arith, h.has_left))))
-      (λ (o : b ≡ at → ⊥). get_or-set_other left at b _ 0 o ∙ h.same b (omega arith))
-      (same_or_other b at);
-  rest = λ b m. get_or-set_other left at b _ 0 (λ q. omega arith) ∙ h.rest b (omega arith);
-}
-
-pub copied_whole : {counts left : List ℕ} {at : ℕ} → Copied counts left at → length counts ≤ at → Copied counts left (length counts)
-copied_whole h l = let e = h.high in record { has_left = h.has_left; high = omega arith; same = λ b m. h.same b (omega arith); rest = λ b m. h.rest b (omega arith) }
+pub copied_front : {counts left front : List ℕ} → length counts ≤ 4096 → left ≡ replicate 4096 0 → front ≡ counts
+    → Copied counts (front ++ drop (length counts) left) (length counts)
+copied_front {counts} {left} few e f =
+    let long : length left ≡ 4096 = ap length e ∙ length-replicate {A = ℕ} 4096 0 in
+    rw f
+    (record {
+      has_left = simp (length-append, length-drop) (omega arith);
+      high = omega arith;
+      same = λ b l. get_or-append counts (drop (length counts) left) 0 b l;
+      rest = λ b l.
+          let there : b ≡ length counts + (b - length counts) = omega arith in
+          ap (λ (n : ℕ). get_or (counts ++ drop (length counts) left) n 0) there
+          ∙ (get_or-append-add counts (drop (length counts) left) (b - length counts) 0
+          ∙ (get_or-drop (length counts) left (b - length counts) 0 ∙ rw e (none_marked 4096 (length counts + (b - length counts)))));
+    })
 
 -- ---- the first pointer of each block
 
@@ -92,9 +84,3 @@ indexed_more {pointers} {first} {used} {at} fit h more =
           (same_or_other j k))
           (same_or_other x b);
     }
-
-pub indexed_place : {pointers first : List ℕ} {used at : ℕ} → Walkable pointers used → Indexed (take used pointers) first at → at ≤ used
-indexed_place {pointers} {used = used} fit h = omega (arith, h.high, length-take-le used pointers fit.within)
-
-pub indexed_whole : {ws first : List ℕ} {at : ℕ} → Indexed ws first at → at ≤ 0 → Indexed ws first 0
-indexed_whole {at = at} h l = let e : at ≡ 0 = omega arith in rw e at h

@@ -4,13 +4,14 @@
 
 ghost use Rattle.std.specs.Prelude.{◌≡◌, true, ◌+◌, ◌≤◌, ◌<◌, length, take, get_or, replicate};
 ghost use Rattle.card.specs.Card.{points_to};
-ghost use Rattle.card.specs.Lent.{lent};
+ghost use Rattle.card.specs.Lent.{lent_card};
 ghost use Rattle.card.specs.SoundCard.{SoundCard};
-ghost use Rattle.walks.specs.Walk.{Walkable, mark};
+ghost use Rattle.walks.specs.Walk.{Walkable, mark, NoneReached};
 ghost use Rattle.trees.specs.Release.{Copied, Indexed, Releasable, Lost, Releasing, Dropped, Loosened, Released};
 ghost use Rattle.trees.specs.Freed.{Freed};
 
-use card::Info;
+use card::LentCard;
+use walks::Reached;
 
 // ---- where the walk starts
 
@@ -20,11 +21,7 @@ fn copy(counts: &[u32], left: &mut [u32; 4096])
     requires left_value { left.old ≡ replicate 4096 0 }
     ensures { Copied counts.now left.new (length counts.now) }
 {
-    let mut at = 0;
-    while at < counts.len() {
-        left[at] = counts[at];
-        at += 1;
-    }
+    left[..counts.len()].copy_from_slice(counts);
 }
 
 // For each block with pointers of its own, the place of the first of them.
@@ -33,9 +30,7 @@ fn index(pointers: &[u32], used: usize, first: &mut [u16; 4096])
     requires first_value { first.old ≡ replicate 4096 0 }
     ensures { Indexed (take used pointers.now) first.new 0 }
 {
-    let mut at = used;
-    while 0 < at {
-        at -= 1;
+    for at in (0..used).rev() {
         first[(pointers[at] / 65536) as usize] = at as u16;
     }
 }
@@ -43,30 +38,23 @@ fn index(pointers: &[u32], used: usize, first: &mut [u16; 4096])
 // ---- the walk
 
 // So many of the pointers to a block are gone: with the last of them the block is marked and queued.
-fn lose(
-    left: &mut [u32; 4096],
-    marks: &mut [u8; 4096],
-    queue: &mut [u16; 4096],
-    tail: usize,
-    block: u16,
-    times: u32,
-) -> usize
+fn lose(left: &mut [u32; 4096], reached: &mut Reached, block: u16, times: u32)
     requires block_bound { block < 4096 }
     requires times_bound { (get_or left.old block 0 ≡ 0 → ⊥) → times ≤ get_or left.old block 0 }
-    requires tail_bound { (mark marks.old block ≡ 1 → ⊥) → tail < 4096 }
-    ensures { Lost left.old marks.old queue.old tail block times left.new marks.new queue.new result }
+    requires count_bound { (mark reached.old.marks block ≡ 1 → ⊥) → reached.old.count < 4096 }
+    ensures { Lost left.old reached.old.marks reached.old.queue reached.old.count block times left.new reached.new.marks reached.new.queue reached.new.count }
 {
     let b = block as usize;
     let count = left[b];
     if count == 0 {
-        return tail;
+        return;
     }
     let rest = count - times;
     left[b] = rest;
     if rest != 0 {
-        return tail;
+        return;
     }
-    walks::enter(marks, queue, tail, block)
+    reached.enter(block);
 }
 
 // The block at the head of the queue is freed: its pointers are gone.
@@ -76,104 +64,76 @@ fn release(
     used: usize,
     first: &[u16; 4096],
     left: &mut [u32; 4096],
-    marks: &mut [u8; 4096],
-    queue: &mut [u16; 4096],
+    reached: &mut Reached,
     head: usize,
-    tail: usize,
-) -> usize
+)
     requires releasable { Releasable pointers.now multiplicities.now used }
     requires indexed { Indexed (take used pointers.now) first.now 0 }
-    requires releasing { Releasing (take used pointers.now) (take used multiplicities.now) left.old marks.old queue.old head tail 0 }
-    requires head_lt_tail { head < tail }
-    ensures { Dropped (take used pointers.now) (take used multiplicities.now) marks.old left.new marks.new queue.new (head + 1) result 0 }
+    requires releasing { Releasing (take used pointers.now) (take used multiplicities.now) left.old reached.old.marks reached.old.queue head reached.old.count 0 }
+    requires head_lt_count { head < reached.old.count }
+    ensures { Dropped (take used pointers.now) (take used multiplicities.now) reached.old.marks left.new reached.new.marks reached.new.queue (head + 1) reached.new.count 0 }
 {
-    let block = queue[head] as usize;
-    let mut at = first[block] as usize;
-    let mut end = tail;
-    while at < used && (pointers[at] / 65536) as usize == block {
-        let destination = (pointers[at] % 65536) as u16;
+    let block = reached.queue[head] as usize;
+    for at in first[block] as usize..used {
+        let pointer = pointers[at];
+        if (pointer / 65536) as usize != block {
+            return;
+        }
+        let destination = (pointer % 65536) as u16;
         let times = multiplicities[at] as u32;
-        end = lose(left, marks, queue, end, destination, times);
-        at += 1;
+        lose(left, reached, destination, times);
     }
-    end
 }
 
-// All blocks that go with the last pointer to a block are marked. How many.
+// All blocks that go with the last pointer to a block are marked.
 fn spread(
     pointers: &[u32],
     multiplicities: &[u16],
     used: usize,
     left: &mut [u32; 4096],
-    marks: &mut [u8; 4096],
-    queue: &mut [u16; 4096],
+    reached: &mut Reached,
     block: u16,
-) -> usize
+)
     requires releasable { Releasable pointers.now multiplicities.now used }
     requires loosened { Loosened (take used pointers.now) (take used multiplicities.now) left.old block }
-    requires marks_value { marks.old ≡ replicate 4096 0 }
-    requires queue_len { length queue.old ≡ 4096 }
-    ensures { Released (take used pointers.now) marks.new block result }
+    requires none_reached { NoneReached reached.old }
+    ensures { Released (take used pointers.now) reached.new.marks block reached.new.count }
 {
     let mut first = [0u16; 4096];
     index(pointers, used, &mut first);
-    let mut tail = walks::enter(marks, queue, 0, block);
+    reached.enter(block);
     let mut head = 0;
-    while head < tail {
-        tail = release(
-            pointers,
-            multiplicities,
-            used,
-            &first,
-            left,
-            marks,
-            queue,
-            head,
-            tail,
-        );
+    // The queue grows meanwhile, so that its end is not known at the start.
+    while head < reached.count {
+        release(pointers, multiplicities, used, &first, left, reached, head);
         head += 1;
     }
-    tail
 }
 
-// The blocks that are freed with a pointer are marked. How many.
-pub fn freed_with(
-    info: Info,
-    flags: &[u8],
-    keys: &[u64],
-    counts: &[u32],
-    pointers: &[u32],
-    multiplicities: &[u16],
-    windows: &[u64],
-    contents: &[u8],
-    source: u16,
-    destination: u16,
-    marks: &mut [u8; 4096],
-) -> usize
-    requires sound_card { SoundCard (lent info flags.now keys.now counts.now pointers.now multiplicities.now windows.now contents.now) }
-    requires destination_value { points_to (lent info flags.now keys.now counts.now pointers.now multiplicities.now windows.now contents.now).public source destination ≡ true }
-    requires marks_value { marks.old ≡ replicate 4096 0 }
-    ensures { Freed (lent info flags.now keys.now counts.now pointers.now multiplicities.now windows.now contents.now).public source destination marks.new result }
+// The blocks that are freed with a pointer are marked.
+pub fn freed_with(card: &LentCard, source: u16, destination: u16, reached: &mut Reached)
+    requires sound_card { SoundCard (lent_card card.now) }
+    requires destination_value { points_to (lent_card card.now).public source destination ≡ true }
+    requires none_reached { NoneReached reached.old }
+    ensures { Freed (lent_card card.now).public source destination reached.new.marks reached.new.count }
 {
-    let used = info.used;
+    let used = card.info.used;
     let to = destination as usize;
     let mut left = [0u32; 4096];
-    copy(counts, &mut left);
+    copy(card.counts, &mut left);
     let pointer = (source as u32) * 65536 + (destination as u32);
-    let times = tables::times(pointers, multiplicities, used, pointer) as u32;
+    let times = tables::times(card.pointers, card.multiplicities, used, pointer) as u32;
     let others = left[to] - times;
     left[to] = others;
     if others != 0 {
-        return 0;
+        return;
     }
-    let mut queue = [0u16; 4096];
     spread(
-        pointers,
-        multiplicities,
+        card.pointers,
+        card.multiplicities,
         used,
         &mut left,
-        marks,
-        &mut queue,
+        reached,
         destination,
-    )
+    );
 }

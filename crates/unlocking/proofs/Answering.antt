@@ -13,23 +13,22 @@ use Rattle.card.specs.Calls.{missing}
 use Rattle.card.specs.Plan.{here, later, judge_sound}
 use Rattle.card.specs.Promises.{Is}
 use Rattle.laws.specs.PromisesLaws.{is_refused}
-use Rattle.card.specs.declared.Answer.{Answer}
-use Rattle.card.specs.declared.Answer.TheVariants.{Refused, Value}
+use Rattle.card.specs.Answers.{Answer}
+use Rattle.card.specs.Answers.{Refused, Value}
 use Rattle.card.specs.declared.Refusal.TheVariants.{NotAllocated, BadOperand}
 use Rattle.report.specs.Report.{given, bad_keys, within_reach, unlocking, listing, unlocking_plan, lent_places}
 use Rattle.report.proofs.ReportLaws.{missing_unlisted, unlocking_missing, listing_done}
 use Rattle.walks.specs.Walk.{marked_below}
-use Rattle.unlocking.specs.declared.Found.{Found}
-use Rattle.unlocking.specs.declared.Found.TheVariants.{Within, Unlocked}
+use Rattle.std.specs.Prelude.{Option, None, Some}
 use Rattle.unlocking.specs.Unlocking.{Unlocking, FoundOf}
 
 -- What was found, by which of the two it is.
-module _ (words : List ℕ) (c : Card) (chosen : ℕ) (shut : List ℕ) (r : Found) (f : FoundOf words c chosen shut r) where
-  pub found_within : r ≡ Within → contains chosen (within_reach (given words) c) ≡ true
-  found_within e = subst (λ (x : Found). FoundOf words c chosen shut x) e f
+module _ (words : List ℕ) (c : Card) (chosen : ℕ) (shut : List ℕ) (r : Option ℕ) (f : FoundOf words c chosen shut r) where
+  pub found_within : r ≡ None → contains chosen (within_reach (given words) c) ≡ true
+  found_within e = subst (λ (x : Option ℕ). FoundOf words c chosen shut x) e f
 
-  pub found_unlocked : {count : ℕ} → r ≡ Unlocked count → Unlocking words c chosen shut count
-  found_unlocked e = subst (λ (x : Found). FoundOf words c chosen shut x) e f
+  pub found_unlocked : {count : ℕ} → r ≡ Some count → Unlocking words c chosen shut count
+  found_unlocked e = subst (λ (x : Option ℕ). FoundOf words c chosen shut x) e f
 
 pub places_enough : {words : List ℕ} {c : Card} {chosen : ℕ} {shut : List ℕ} {count places : ℕ} → Unlocking words c chosen shut count → count ≤ places
     → length (marked_below shut c.public.info.blocks) ≤ places

@@ -1,5 +1,5 @@
 -- What the walk of the second list asks and leaves.
-use Rattle.std.specs.Prelude.{ℕ, ◌*◌, ◌≤◌, ◌<◌, ◌≡◌, Bool, true, false, ◌&&◌, ◌||◌, List, eqb, length, get_or}
+use Rattle.std.specs.Prelude.{Option, None, Some, ℕ, ◌*◌, ◌≤◌, ◌<◌, ◌≡◌, Bool, true, false, ◌&&◌, ◌||◌, List, eqb, length, get_or}
 use Rattle.card.specs.Lists.{any, numbers_below}
 use Rattle.card.specs.Pointers.{contains}
 use Rattle.card.specs.Card.{Card, key_flag, key_high, key_low}
@@ -7,8 +7,6 @@ use Rattle.card.specs.Access.{key_is}
 use Rattle.card.specs.declared.Mode.TheVariants.{Reading, Writing}
 use Rattle.report.specs.Report.{given, within_reach, unlocking}
 use Rattle.walks.specs.Walk.{mark, marked_below}
-use Rattle.unlocking.specs.declared.Found.{Found}
-use Rattle.unlocking.specs.declared.Found.TheVariants.{Within, Unlocked}
 
 -- The keys' table has four words for each block.
 pub record Keyed (flags keys : List ℕ) : Type 0 where
@@ -50,7 +48,7 @@ pub record Unlocking (words : List ℕ) (c : Card) (chosen : ℕ) (shut : List �
   pub is_kept : marked_below shut c.public.info.blocks ≡ unlocking words c chosen
   pub counted : count ≡ length (unlocking words c chosen)
 
--- What is found is what the rules say.
-abbrev pub FoundOf : List ℕ → Card → ℕ → List ℕ → Found → Type 0
-FoundOf words c chosen shut Within = contains chosen (within_reach (given words) c) ≡ true
-FoundOf words c chosen shut (Unlocked count) = Unlocking words c chosen shut count
+-- What is found is what the rules say: nothing of a block within reach, else how many blocks unlock it.
+abbrev pub FoundOf : List ℕ → Card → ℕ → List ℕ → Option ℕ → Type 0
+FoundOf words c chosen shut None = contains chosen (within_reach (given words) c) ≡ true
+FoundOf words c chosen shut (Some count) = Unlocking words c chosen shut count

@@ -15,7 +15,7 @@ use borrow.Author.Tests.{eq-eqb, ne_eqb, eqb-true, eqb-false}
 use Rattle.laws.specs.ListsLaws.{same_or_other}
 use Rattle.walks.specs.declared.Direction.{Direction}
 use Rattle.walks.specs.declared.Direction.TheVariants.{Along, Against}
-use Rattle.walks.specs.Walk.{near_end, far_end, Walkable, last, Linked}
+use Rattle.walks.specs.Walk.{near_end, far_end, Walkable, last}
 
 -- ---- the last pointer that leaves a block
 
@@ -124,8 +124,3 @@ module _ {pointers : List ℕ} {used : ℕ} (fit : Walkable pointers used) {dire
             (λ (o : k ≡ i → ⊥). get_or-set_other nexts i k _ 0 o ∙ h.next k (omega arith))
             (same_or_other k i);
       }
-
-  pub linking_whole : used ≤ i → Linked direction (take used pointers) heads nexts
-  linking_whole l =
-      let e : i ≡ length (take used pointers) = omega (arith, h.most, in_use fit) in
-      record { head = λ b m. rw e at (h.head b m); next = λ k m. h.next k (omega arith) }

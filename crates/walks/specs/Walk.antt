@@ -1,8 +1,9 @@
 -- What a walk from block to block asks and leaves. A block is marked by a 1.
-use Rattle.std.specs.Prelude.{ℕ, zero, suc, ◌+◌, ◌≤◌, ◌<◌, ◌≡◌, cond, List, [], ◌∷◌, eqb, length, get_or, set}
+use Rattle.std.specs.Prelude.{ℕ, zero, suc, ◌+◌, ◌≤◌, ◌<◌, ◌≡◌, cond, List, [], ◌∷◌, eqb, length, get_or, set, replicate}
 use Rattle.card.specs.Lists.{numbers_below}
 use Rattle.card.specs.Pointers.{source, destination}
 use Rattle.walks.specs.declared.Direction.{Direction}
+use Rattle.walks.specs.declared.Reached.{Reached}
 use Rattle.walks.specs.declared.Direction.TheVariants.{Along, Against}
 
 -- ---- pointers
@@ -93,6 +94,14 @@ module _ (edge : ℕ → ℕ → Type 0) where
     pub walking : Walking after queue tail tail
     pub reached : (b : ℕ) → Led before b → mark after b ≡ 1
     pub led : (b : ℕ) → mark after b ≡ 1 → Led before b
+
+-- ---- where a walk starts
+
+-- It has come to no block yet.
+pub record NoneReached (r : Reached) : Type 0 where
+  pub none_marked : r.marks ≡ replicate 4096 0
+  pub has_queue : length r.queue ≡ 4096
+  pub none_queued : r.count ≡ 0
 
 -- ---- one block more
 

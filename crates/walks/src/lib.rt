@@ -3,9 +3,10 @@
 #![tactic(auto)]
 
 ghost use Rattle.std.specs.Prelude.{◌≡◌, ◌+◌, ◌<◌, length, take, replicate};
-ghost use Rattle.walks.specs.Walk.{near_end, far_end, Walkable, Edge, Linked, mark, Walking, Followed, Spread, Entered};
+ghost use Rattle.walks.specs.Walk.{near_end, far_end, Walkable, Edge, Linked, mark, Walking, Followed, Spread, NoneReached, Entered};
 
 // Along the pointers a walk comes from a pointer's source to its destination, against them from the destination to the source.
+// A value and no closure, so that the contracts can say which of the two it is.
 #[derive(Drop)]
 #[derive(Clone, Copy)]
 pub enum Direction {
@@ -15,23 +16,16 @@ pub enum Direction {
 
 // ---- the ends of a pointer
 
-// The end that a walk comes from.
-fn near_end(direction: Direction, pointer: u32) -> u16
-    ensures { result ≡ near_end direction pointer }
+// The end that a walk comes from, and the one that it comes to.
+fn ends(direction: Direction, pointer: u32) -> (u16, u16)
+    ensures near { result.0 ≡ near_end direction pointer }
+    ensures far { result.1 ≡ far_end direction pointer }
 {
+    let source = (pointer / 65536) as u16;
+    let destination = (pointer % 65536) as u16;
     match direction {
-        Direction::Along => (pointer / 65536) as u16,
-        Direction::Against => (pointer % 65536) as u16,
-    }
-}
-
-// The end that it comes to.
-fn far_end(direction: Direction, pointer: u32) -> u16
-    ensures { result ≡ far_end direction pointer }
-{
-    match direction {
-        Direction::Along => (pointer % 65536) as u16,
-        Direction::Against => (pointer / 65536) as u16,
+        Direction::Along => (source, destination),
+        Direction::Against => (destination, source),
     }
 }
 
@@ -51,30 +45,50 @@ fn link(
     requires nexts_len { length nexts.old ≡ 16384 }
     ensures { Linked direction (take used pointers.now) heads.new nexts.new }
 {
-    let mut at: usize = 0;
-    while at < used {
-        let block = near_end(direction, pointers[at]) as usize;
+    for at in 0..used {
+        let (near, _) = ends(direction, pointers[at]);
+        let block = near as usize;
         nexts[at] = heads[block];
-        at += 1;
-        heads[block] = at as u16;
+        heads[block] = at as u16 + 1;
     }
 }
 
 // ---- the walk
 
-// A block that is not marked is marked and queued.
-pub fn enter(marks: &mut [u8; 4096], queue: &mut [u16; 4096], tail: usize, block: u16) -> usize
-    requires block_bound { block < 4096 }
-    requires tail_bound { (mark marks.old block ≡ 1 → ⊥) → tail < 4096 }
-    ensures { Entered marks.old queue.old tail block marks.new queue.new result }
-{
-    let b = block as usize;
-    if marks[b] == 1 {
-        return tail;
+// The blocks that a walk has come to: a mark for each, and a queue of them, of which so many have been put in.
+#[derive(Drop)]
+pub struct Reached {
+    pub marks: [u8; 4096],
+    pub queue: [u16; 4096],
+    pub count: usize,
+}
+
+impl Reached {
+    // No block.
+    pub fn none() -> Reached
+        ensures { NoneReached result }
+    {
+        Reached {
+            marks: [0u8; 4096],
+            queue: [0u16; 4096],
+            count: 0,
+        }
     }
-    marks[b] = 1;
-    queue[tail] = block;
-    tail + 1
+
+    // A block that is not marked is marked and queued.
+    pub fn enter(&mut self, block: u16)
+        requires block_bound { block < 4096 }
+        requires count_bound { (mark self.old.marks block ≡ 1 → ⊥) → self.old.count < 4096 }
+        ensures { Entered self.old.marks self.old.queue self.old.count block self.new.marks self.new.queue self.new.count }
+    {
+        let b = block as usize;
+        if self.marks[b] == 1 {
+            return;
+        }
+        self.marks[b] = 1;
+        self.queue[self.count] = block;
+        self.count += 1;
+    }
 }
 
 // The block at the head of the queue is left: each block to which a pointer leads from it is marked, unless the pointer's destination is shut.
@@ -85,32 +99,30 @@ fn follow(
     shut: &[u8; 4096],
     heads: &[u16; 4096],
     nexts: &[u16; 16384],
-    marks: &mut [u8; 4096],
-    queue: &mut [u16; 4096],
+    reached: &mut Reached,
     head: usize,
-    tail: usize,
-) -> usize
+)
     requires walkable { Walkable pointers.now used }
     requires linked { Linked direction (take used pointers.now) heads.now nexts.now }
-    requires walking { Walking (Edge direction shut.now (take used pointers.now)) marks.old queue.old head tail }
-    requires head_lt_tail { head < tail }
-    ensures { Followed (Edge direction shut.now (take used pointers.now)) marks.old marks.new queue.new (head + 1) result }
+    requires walking { Walking (Edge direction shut.now (take used pointers.now)) reached.old.marks reached.old.queue head reached.old.count }
+    requires head_lt_count { head < reached.old.count }
+    ensures { Followed (Edge direction shut.now (take used pointers.now)) reached.old.marks reached.new.marks reached.new.queue (head + 1) reached.new.count }
 {
-    let block = queue[head] as usize;
+    let block = reached.queue[head] as usize;
     let mut at = heads[block] as usize;
-    let mut end = tail;
+    // No form of the library goes through a chain of places.
     while at != 0 {
         let place = at - 1;
         let pointer = pointers[place];
         at = nexts[place] as usize;
         if shut[(pointer % 65536) as usize] == 0 {
-            end = enter(marks, queue, end, far_end(direction, pointer));
+            let (_, far) = ends(direction, pointer);
+            reached.enter(far);
         }
     }
-    end
 }
 
-// From the blocks in the queue on, each block to which pointers lead is marked and queued in turn, by links that are made. How many are marked.
+// From the blocks in the queue on, each block to which pointers lead is marked and queued in turn, by links that are made.
 fn spread(
     pointers: &[u32],
     used: usize,
@@ -118,44 +130,37 @@ fn spread(
     shut: &[u8; 4096],
     heads: &[u16; 4096],
     nexts: &[u16; 16384],
-    marks: &mut [u8; 4096],
-    queue: &mut [u16; 4096],
-    begun: usize,
-) -> usize
+    reached: &mut Reached,
+)
     requires walkable { Walkable pointers.now used }
     requires linked { Linked direction (take used pointers.now) heads.now nexts.now }
-    requires walking { Walking (Edge direction shut.now (take used pointers.now)) marks.old queue.old 0 begun }
-    ensures { Spread (Edge direction shut.now (take used pointers.now)) marks.old marks.new queue.new result }
+    requires walking { Walking (Edge direction shut.now (take used pointers.now)) reached.old.marks reached.old.queue 0 reached.old.count }
+    ensures { Spread (Edge direction shut.now (take used pointers.now)) reached.old.marks reached.new.marks reached.new.queue reached.new.count }
 {
     let mut head: usize = 0;
-    let mut tail = begun;
-    while head < tail {
-        tail = follow(
-            pointers, used, direction, shut, heads, nexts, marks, queue, head, tail,
-        );
+    // The queue grows meanwhile, so that its end is not known at the start.
+    while head < reached.count {
+        follow(pointers, used, direction, shut, heads, nexts, reached, head);
         head += 1;
     }
-    tail
 }
 
-// The whole walk from the blocks in the queue on, with links of its own. How many blocks are marked.
+// The whole walk from the blocks in the queue on, with links of its own.
+// Its arrays are 40 KiB: two walks laid into one frame would hold them twice.
+#[inline(never)]
 pub fn walk(
     pointers: &[u32],
     used: usize,
     direction: Direction,
     shut: &[u8; 4096],
-    marks: &mut [u8; 4096],
-    queue: &mut [u16; 4096],
-    begun: usize,
-) -> usize
+    reached: &mut Reached,
+)
     requires walkable { Walkable pointers.now used }
-    requires walking { Walking (Edge direction shut.now (take used pointers.now)) marks.old queue.old 0 begun }
-    ensures { Spread (Edge direction shut.now (take used pointers.now)) marks.old marks.new queue.new result }
+    requires walking { Walking (Edge direction shut.now (take used pointers.now)) reached.old.marks reached.old.queue 0 reached.old.count }
+    ensures { Spread (Edge direction shut.now (take used pointers.now)) reached.old.marks reached.new.marks reached.new.queue reached.new.count }
 {
     let mut heads = [0u16; 4096];
     let mut nexts = [0u16; 16384];
     link(pointers, used, direction, &mut heads, &mut nexts);
-    spread(
-        pointers, used, direction, shut, &heads, &nexts, marks, queue, begun,
-    )
+    spread(pointers, used, direction, shut, &heads, &nexts, reached);
 }

@@ -1,9 +1,7 @@
--- `access::missing` is the test of the definition.
-use Rattle.access.proofs.Blocks.{missing_above, missing_below}
+-- `access::missing` is the test of the definition, which looks at the record and the flags alone.
+use Rattle.card.specs.Card.{allocated}
 use Rattle.access.proofs.missing.Goals as goal
 
-pub returns-then-info-block : goal.returns-then-info-block
-returns-then-info-block c = missing_above _ _ c.if-info-block.true
-
 pub returns : goal.returns
-returns c = search missing_below
+unfolding allocated
+returns c = c.missing_in.ensures

@@ -1,42 +1,47 @@
 -- `allocation::alloc_contig_sound` is the rule on an audited card, by what its checks find.
 use mathlib.Core.Path.{◌≡◌}
 use mathlib.Core.List.{[]}
-use Rattle.card.specs.Card.{card}
+use Rattle.card.specs.Lent.{lent_card}
 use Rattle.card.specs.Session.{request, perform_sound}
 use Rattle.card.specs.declared.Call.TheVariants.{AllocContig}
+use Rattle.laws.specs.PromisesLaws.{is_refused}
+use Rattle.std.specs.Prelude.{Some}
+use Rattle.std.proofs.lemmas.Result.{err_from_is_err_and}
 use Rattle.checks.specs.Checked.{Passes}
-use Rattle.runs.specs.declared.NearestRun.TheVariants.{From}
-use Rattle.outcomes.proofs.Returned.{refuses}
 use Rattle.allocation.proofs.Shared.{numbers_long, places_there}
 use Rattle.allocation.proofs.Contig.{found, refused_run, passed_run, run_narrow, run_fits, chosen, can_take_run, contig_done}
 use Rattle.allocation.proofs.alloc_contig_sound.Goals as goal
-use Rattle.allocation.proofs.alloc_contig_sound.Goals.{After-list_run-arg-1}
+use Rattle.allocation.proofs.alloc_contig_sound.Goals.{In_ok-first}
 
 -- The checks passed and found the run before its numbers are listed.
-passed : (c : After-list_run-arg-1)
-    → (let a = c.args in
-    Passes a.port (let a = c.args in card a.info a.flags.now a.keys.now a.counts.now a.pointers.now a.multiplicities.now a.windows.now a.contents.now) (request (AllocContig a.o) [] [] a.places.now)
-    × (found a.port (let a = c.args in card a.info a.flags.now a.keys.now a.counts.now a.pointers.now a.multiplicities.now a.windows.now a.contents.now) a.o a.places.now ≡ From c.in-From.first))
+passed : (c : In_ok-first)
+    → Passes c.args.port (lent_card c.args.card.now) (request (AllocContig c.args.o) [] [] c.args.places.now)
+    × (found c.args.port (lent_card c.args.card.now) c.args.o c.args.places.now ≡ Some c.in_ok-first.first)
 passed c =
-    passed_run _ _ _ _ c.requires c.alloc_contig_check.ensures c.in-From.is
+    passed_run _ _ _ _ c.requires c.alloc_contig_check.ensures c.in_ok-first.was
 
 pub list_run-requires : goal.list_run-requires
-list_run-requires c = let there = passed c in
+list_run-requires c = let there = passed (goal.at.list_run-requires c).In_ok-first in
     record { count_bound = run_narrow _ _ _ _ c.requires there.0 there.1; count_in_bounds = run_fits _ _ _ _ c.requires there.0 there.1 }
 
 pub slice_bounds-take_all-end : goal.slice_bounds-take_all-end
-slice_bounds-take_all-end c = places_there (chosen _ _ _ _ c.requires (passed (goal.at.slice_bounds-take_all-end c).After-list_run-arg-1).0 (passed (goal.at.slice_bounds-take_all-end c).After-list_run-arg-1).1 c.list_run.ensures)
+slice_bounds-take_all-end c = let there = passed (goal.at.slice_bounds-take_all-end c).In_ok-first in
+    places_there (chosen _ _ _ _ c.requires there.0 there.1 c.list_run.ensures)
 
-pub slice_bounds-take_all-end-in-From : goal.slice_bounds-take_all-end-in-From
-slice_bounds-take_all-end-in-From c = numbers_long (chosen _ _ _ _ c.requires (passed (goal.at.slice_bounds-take_all-end-in-From c).After-list_run-arg-1).0 (passed (goal.at.slice_bounds-take_all-end-in-From c).After-list_run-arg-1).1 c.list_run.ensures)
+pub take_all-requires : goal.take_all-requires
+take_all-requires c = let there = passed (goal.at.take_all-requires c).In_ok-first in
+    can_take_run _ _ _ _ c.requires there.0 there.1 c.list_run.ensures
 
-pub take_all-left-requires : goal.take_all-left-requires
-take_all-left-requires c = can_take_run _ _ _ _ c.requires (passed (goal.at.take_all-left-requires c).After-list_run-arg-1).0 (passed (goal.at.take_all-left-requires c).After-list_run-arg-1).1 c.list_run.ensures
-
-pub returns-in-Refused : goal.returns-in-Refused
+pub returns-in_err-first-clause-performs : goal.returns-in_err-first-clause-performs
 unfolding perform_sound
-returns-in-Refused c = refuses (let a = c.args in card a.info a.flags.now a.keys.now a.counts.now a.pointers.now a.multiplicities.now a.windows.now a.contents.now) _ _ c.refused.ensures
-    (refused_run _ _ _ _ c.requires c.alloc_contig_check.ensures c.in-Refused.is)
+returns-in_err-first-clause-performs c =
+    let p = err_from_is_err_and c.from_residual.result c.from_residual.ensures.1 in
+    rw (p.1, p.2) (is_refused (lent_card c.args.card.now) _ _ (refused_run _ _ _ _ c.requires c.alloc_contig_check.ensures c.in_err-first.was))
 
-pub returns-in-From : goal.returns-in-From
-returns-in-From c = contig_done _ _ _ _ c.requires (passed (goal.at.returns-in-From c).After-list_run-arg-1).0 (passed (goal.at.returns-in-From c).After-list_run-arg-1).1 c.list_run.ensures c.done.ensures c.take_all-left.ensures
+pub returns-clause-performs : goal.returns-clause-performs
+returns-clause-performs c = let there = passed (goal.at.returns-clause-performs c).In_ok-first in
+    contig_done _ _ _ _ c.requires there.0 there.1 c.list_run.ensures c.take_all.ensures.takes
+
+pub slice_bounds-take_all-end-2 : goal.slice_bounds-take_all-end-2
+slice_bounds-take_all-end-2 c = let there = passed (goal.at.slice_bounds-take_all-end-2 c).In_ok-first in
+    numbers_long (chosen _ _ _ _ c.requires there.0 there.1 c.list_run.ensures)

@@ -1,10 +1,6 @@
--- `allocation::list_run` puts the numbers into the first places: those so far are there. The measure is what is left.
-use Prim.Native.Nat.{◌-◌}
+-- `allocation::list_run` puts the numbers into the first places: those so far are there.
 use Rattle.allocation.proofs.Listing.{Listed}
 use Rattle.allocation.proofs.list_run.Given as goal
 
 abbrev pub invariant-loop-listed : goal.invariant-loop-listed
 invariant-loop-listed l = Listed l.first l.count l.initial.places l.places l.listed
-
-abbrev pub decreases-loop-listed : goal.decreases-loop-listed
-decreases-loop-listed l = l.count - l.listed

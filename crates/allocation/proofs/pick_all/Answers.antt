@@ -1,5 +1,4 @@
-use native.Mathlib.Omega.{arith}
-use Rattle.allocation.proofs.Outward.{Moves, picked_start, picked_spread, next_narrow, moves_down, moves_up, picked_fewer, picked_passed, picked_taken, picked_whole}
+use Rattle.allocation.proofs.Outward.{Moves, picked_start, picked_spread, moves_down, moves_up, picked_passed, picked_taken, picked_whole}
 use Rattle.allocation.proofs.pick_all.Goals as goal
 use Rattle.allocation.proofs.pick_all.Goals.{Joined-block-low, then-block-low, else-block-low}
 
@@ -19,26 +18,8 @@ loop-taken-init c = search picked_start
 pub next-block-requires : goal.next-block-requires
 next-block-requires c = picked_spread c.loop-taken.invariant c.loop-taken-test.true
 
-pub overflow_add-high : goal.overflow_add-high
-overflow_add-high c = omega (arith, next_narrow c.loop-taken.invariant c.next-block.ensures)
-
-pub bounds-flags-block : goal.bounds-flags-block
-bounds-flags-block c = c.next-block.ensures.below
-
-pub overflow_cast-places : goal.overflow_cast-places
-overflow_cast-places c = omega (arith, next_narrow c.loop-taken.invariant c.next-block.ensures)
-
-pub bounds-places-taken : goal.bounds-places-taken
-bounds-places-taken c = omega (arith, c.loop-taken-test.true, c.loop-taken.invariant.ready.fits, c.loop-taken.invariant.same_places)
-
-pub loop-taken-smaller-then-free : goal.loop-taken-smaller-then-free
-loop-taken-smaller-then-free c = search (picked_fewer, moved (goal.at.loop-taken-smaller-then-free c).Joined-block-low)
-
 pub loop-taken-preserved-then-free : goal.loop-taken-preserved-then-free
 loop-taken-preserved-then-free c = search (picked_taken, moved (goal.at.loop-taken-preserved-then-free c).Joined-block-low)
-
-pub loop-taken-smaller : goal.loop-taken-smaller
-loop-taken-smaller c = search (picked_fewer, moved (goal.at.loop-taken-smaller c).Joined-block-low)
 
 pub loop-taken-preserved : goal.loop-taken-preserved
 loop-taken-preserved c = search (picked_passed, moved (goal.at.loop-taken-preserved c).Joined-block-low)

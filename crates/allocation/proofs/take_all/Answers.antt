@@ -1,41 +1,29 @@
-use mathlib.Core.Path.{sym}
+use mathlib.Core.Path.{refl}
 use native.Mathlib.Omega.{arith}
 use Rattle.allocation.proofs.Collecting.{collected_start, can_take, addable, collected_taken, mergeable, collected_whole}
 use Rattle.tables.specs.InUseLaws.{sound_paired}
 use Rattle.allocation.proofs.take_all.Goals as goal
 
 pub loop-taken-init : goal.loop-taken-init
-loop-taken-init c = search collected_start
-
-pub overflow_cast-pointer-in-loop-taken : goal.overflow_cast-pointer-in-loop-taken
-overflow_cast-pointer-in-loop-taken c = omega (arith, c.shared_slice_known-in-loop-taken-1.given c.loop-taken.taken)
-
-pub overflow_add-pointer : goal.overflow_add-pointer
-overflow_add-pointer c = omega (arith, c.shared_slice_known-in-loop-taken-1.given c.loop-taken.taken)
-
-pub overflow_cast-number : goal.overflow_cast-number
-overflow_cast-number c = omega (arith, c.shared_slice_known-in-loop-taken-1.given c.loop-taken.taken)
+loop-taken-init c = record { collected = search collected_start; spares = record { same = (refl, refl, refl, refl, refl, refl, refl); info = refl; keys = refl; pointers = refl; multiplicities = refl; windows = refl } }
 
 pub take-requires : goal.take-requires
-take-requires c = can_take c.loop-taken.invariant c.loop-taken-test.true
-
-pub slice_bounds-insert-end : goal.slice_bounds-insert-end
-slice_bounds-insert-end c = search sym
+take-requires c = can_take c.loop-taken.invariant.collected c.loop-taken-test.true
 
 pub insert-requires : goal.insert-requires
 insert-requires c = search addable
 
 pub loop-taken-preserved : goal.loop-taken-preserved
-loop-taken-preserved c = search collected_taken
-
-pub slice_bounds-merge-end : goal.slice_bounds-merge-end
-slice_bounds-merge-end c = search sym
+loop-taken-preserved c = let s = c.loop-taken.invariant.spares in
+    record { collected = search collected_taken; spares = record { same = s.same; info = s.info; keys = s.keys; pointers = s.pointers; multiplicities = s.multiplicities; windows = s.windows } }
 
 pub merge-requires : goal.merge-requires
-merge-requires c = record { mergeable = mergeable c.loop-taken.invariant c.loop-taken-test.false; paired = search sound_paired }
+merge-requires c = let s = c.loop-taken.invariant.spares in
+    record {
+      mergeable = rw s.pointers (mergeable c.loop-taken.invariant.collected (omega arith));
+      paired = rw (s.pointers, s.multiplicities) (sound_paired c.requires.sound);
+    }
 
-pub overflow_add-info : goal.overflow_add-info
-overflow_add-info c = omega (arith, c.requires.room, c.requires.sound.shaped.has_lengths.places_high)
-
-pub returns : goal.returns
-returns c = collected_whole c.loop-taken.invariant c.loop-taken-test.false c.with_used.ensures c.merge.ensures
+pub returns-clause-takes : goal.returns-clause-takes
+returns-clause-takes c = let s = c.loop-taken.invariant.spares in
+    rw (s.keys, s.windows) (collected_whole c.loop-taken.invariant.collected (omega arith) (rw s.info at c.with_used-card.ensures) (rw (s.pointers, s.multiplicities) at c.merge.ensures))

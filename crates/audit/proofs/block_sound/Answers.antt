@@ -1,8 +1,7 @@
 -- `audit::block_sound` is the clauses of one block.
-use Rattle.audit.specs.Walks.{rowed}
+use Rattle.card.specs.Lent.{shared_card}
 use Rattle.audit.proofs.BlockTests.{sound_block}
 use Rattle.audit.proofs.block_sound.Goals as goal
 
 pub returns : goal.returns
-returns c = let a = c.args in
-    search (sound_block (rowed a.info a.flags.now a.keys.now a.counts.now a.windows.now))
+returns c = search (sound_block (shared_card c.args.card))

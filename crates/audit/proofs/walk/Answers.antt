@@ -2,8 +2,8 @@
 use Rattle.audit.proofs.Whole.{fault_total, fault_pointers, fault_unused, whole}
 use Rattle.audit.proofs.walk.Goals as goal
 
-pub returns-then-info : goal.returns-then-info
-returns-then-info c = search fault_total
+pub returns-then-card : goal.returns-then-card
+returns-then-card c = search fault_total
 
 pub returns-then-walk_unused : goal.returns-then-walk_unused
 returns-then-walk_unused c = search whole

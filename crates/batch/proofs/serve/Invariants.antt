@@ -6,7 +6,7 @@ use lib.ListN.{length}
 use Rattle.batch.proofs.serve.Given as goal
 
 abbrev pub invariant-loop-stop : goal.invariant-loop-stop
-invariant-loop-stop l = ServeLoop l.wire l.initial.left l.initial.flags l.initial.keys l.initial.counts l.initial.pointers l.initial.multiplicities l.initial.windows l.initial.contents l.input l.initial.answers l.left l.flags l.keys l.counts l.pointers l.multiplicities l.windows l.contents l.answers l.count l.from l.at
+invariant-loop-stop l = ServeLoop l.wire l.initial.card l.card l.input l.initial.answers l.answers l.count l.from l.at
 
 abbrev pub decreases-loop-stop : goal.decreases-loop-stop
 decreases-loop-stop l = length l.input - l.from

@@ -1,4 +1,5 @@
 -- `one_key_unsealed`, `other_key_kept`, `own_key_set`, `both_windows_closed` and `write_access_needed` as tests, which follow from them.
+use Rattle.std.specs.Prelude.{Option, is_some}
 use Prim.Native.Nat.{ℕ}
 use mathlib.Core.Bool.{Bool, true, false, ◌&&◌, not}
 use mathlib.Core.List.{List, [], ◌∷◌}
@@ -6,7 +7,7 @@ use mathlib.Core.Path.{◌≡◌, ap}
 use lib.Dec.{eqb}
 use borrow.Author.Tests.{eq-eqb, not-true}
 use Rattle.card.specs.Card.{Card, allocated, has_key, window_end, window_open, points_to, key_high, key_low}
-use Rattle.card.specs.Plan.{is_present, high_word, low_word, other_mode, key_bit, Buffers, Result}
+use Rattle.card.specs.Plan.{high_word, low_word, other_mode, key_bit, Buffers, Result}
 use Rattle.card.specs.Calls.{is_done}
 use Rattle.card.specs.Session.{perform}
 use Rattle.card.specs.Reach.{sealed}
@@ -17,7 +18,6 @@ use Rattle.card.specs.declared.Mode.{Mode}
 use Rattle.card.specs.declared.Mode.TheVariants.{Reading, Writing}
 use Rattle.card.specs.declared.Credential.{Credential}
 use Rattle.card.specs.declared.Credential.TheVariants.{Nothing, Reference, Key}
-use Rattle.card.specs.declared.NewKey.{NewKey}
 use Rattle.card.specs.declared.KeyOperands.{KeyOperands}
 use Rattle.card.proofs.Computed.Same.{same_list}
 use Rattle.card.proofs.Computed.TestLaws.{and_left, and_right, and_true, true_same_list, other_mode_law}
@@ -30,8 +30,8 @@ one_key_unsealed_test K c mode b = implies (has_key c.public mode b && not (has_
 abbrev pub key_numbers : Card → Mode → ℕ → List ℕ
 key_numbers c m b = key_bit m (has_key c.public m b) ∷ key_high c.keys m b ∷ key_low c.keys m b ∷ []
 
-abbrev pub new_key_numbers : Mode → NewKey → List ℕ
-new_key_numbers m key = key_bit m (is_present key) ∷ high_word key ∷ low_word key ∷ []
+abbrev pub new_key_numbers : Mode → Option (ℕ × ℕ) → List ℕ
+new_key_numbers m key = key_bit m (is_some key) ∷ high_word key ∷ low_word key ∷ []
 
 -- It is worked out apart from the rules' own access test.
 abbrev pub has_write_access : Card → ℕ → Credential → Bool

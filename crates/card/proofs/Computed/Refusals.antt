@@ -1,4 +1,5 @@
 -- `refusal_unchanged`, `refused_iff` and `ports_alike` as tests, which follow from them.
+use Rattle.std.specs.Prelude.{Some, None, Ok, Err}
 use Prim.Native.Nat.{ℕ}
 use mathlib.Core.Bool.{Bool, true, false, not, cond}
 use mathlib.Core.List.{List, [], ◌∷◌}
@@ -14,8 +15,7 @@ use Rattle.card.specs.Statements.Refusals.{Unchanged, RefusalUnchanged, RefusedB
 use Rattle.card.specs.declared.Port.{Port}
 use Rattle.card.specs.declared.Port.TheVariants.{Host, Service}
 use Rattle.card.specs.declared.Refusal.{Refusal}
-use Rattle.card.specs.declared.Answer.{Answer}
-use Rattle.card.specs.declared.Answer.TheVariants.{Refused, Done, Value}
+use Rattle.card.specs.Answers.{Answer}
 use Rattle.card.specs.declared.Call.{Call}
 use Rattle.card.proofs.Computed.Same.{same_lists, card_numbers}
 use Rattle.card.proofs.Computed.TestLaws.{or_left, or_right, absurd_test, true_same_lists}
@@ -40,9 +40,9 @@ pub refusal_unchanged_tests : RefusalUnchanged → (c : Card) (s : Sent) → ref
 refusal_unchanged_tests statement c s = go (performed c s).answer refl
   where
     go : (a : Answer) → (performed c s).answer ≡ a → refusal_unchanged_test c s ≡ true
-    go (Refused r) e = or_right (not (not (is_done (performed c s).answer))) _ (unchanged_left (statement s.port c s.request r e))
-    go Done e = or_left _ _ (ap (λ (a : Answer). not (not (is_done a))) e)
-    go (Value v) e = or_left _ _ (ap (λ (a : Answer). not (not (is_done a))) e)
+    go (Err r) e = or_right (not (not (is_done (performed c s).answer))) _ (unchanged_left (statement s.port c s.request r e))
+    go (Ok None) e = or_left _ _ (ap (λ (a : Answer). not (not (is_done a))) e)
+    go (Ok (Some v)) e = or_left _ _ (ap (λ (a : Answer). not (not (is_done a))) e)
 
 abbrev pub refusal_unchanged_row : Card → Sent → Row RefusalUnchanged
 refusal_unchanged_row c s = record { test = refusal_unchanged_test c s; follows = λ statement. refusal_unchanged_tests statement c s }
@@ -78,9 +78,9 @@ first_or_none ((false ⇒ r) ∷ checks) =
     (first_or_none checks)
 
 done_number : (a : Answer) → is_done a ≡ true → answer_number a ≡ 0
-done_number (Refused r) e = absurd_test e refl
-done_number Done e = refl
-done_number (Value v) e = refl
+done_number (Err r) e = absurd_test e refl
+done_number (Ok None) e = refl
+done_number (Ok (Some v)) e = refl
 
 -- What a list of checks answers is the number of the first that holds.
 pub refused_by_tests : {checks : List Check} {a : Answer} → RefusedBy checks a → eqb (answer_number a) (first_number checks) ≡ true

@@ -1,4 +1,5 @@
 -- `rent_summed`, `rent_unchanged`, `rent_nearest` and `rent_alike` as tests, which follow from them.
+use Rattle.std.specs.Prelude.{Some, None, Ok, Err}
 use Prim.Native.Nat.{ℕ, ◌+◌, ◌*◌}
 use mathlib.Core.Bool.{Bool, true, ◌&&◌}
 use mathlib.Core.List.{List, [], ◌∷◌}
@@ -13,8 +14,7 @@ use Rattle.card.specs.Reach.{presented}
 use Rattle.card.specs.Trials.{lending}
 use Rattle.card.specs.Statements.Rent.{RentSummed, renting, asked, RentUnchanged, RentNearest, RentAlike}
 use Rattle.card.specs.declared.Port.TheVariants.{Host}
-use Rattle.card.specs.declared.Answer.{Answer}
-use Rattle.card.specs.declared.Answer.TheVariants.{Refused, Done, Value}
+use Rattle.card.specs.Answers.{Answer}
 use Rattle.card.specs.declared.RentOperands.{RentOperands}
 use Rattle.card.proofs.Computed.Same.{same_list, same_lists, card_numbers}
 use Rattle.card.proofs.Computed.TestLaws.{and_true, true_same_list, true_same_lists}
@@ -29,9 +29,9 @@ rent_unchanged_test c o = same_lists (card_numbers (perform Host c (renting o (l
 
 -- No other number is nearer than the one that is answered, and of two as near it is the upper one.
 abbrev pub nearest_of : ℕ → ℕ → Answer → Bool
-nearest_of parts other (Refused r) = true
-nearest_of parts other Done = true
-nearest_of parts other (Value v) =
+nearest_of parts other (Err r) = true
+nearest_of parts other (Ok None) = true
+nearest_of parts other (Ok (Some v)) =
     let far = distance (v * 86400000) parts in
     let away = distance (other * 86400000) parts in
     leb far away && implies (eqb away far) (leb other v)
@@ -55,9 +55,9 @@ pub rent_nearest_tests : RentNearest → (c : Card) (o : RentOperands) (other : 
 rent_nearest_tests rent_nearest c o other = go (asked Host c o (lending [])) refl
   where
     go : (a : Answer) → asked Host c o (lending []) ≡ a → nearest_of (c.public.info.total * o.price) other a ≡ true
-    go (Refused r) e = refl
-    go Done e = refl
-    go (Value v) e =
+    go (Err r) e = refl
+    go (Ok None) e = refl
+    go (Ok (Some v)) e =
         let n = rent_nearest Host c o (lending []) v e in
         and_true _ _ (le-leb _ _ (n.near other)) (true_implies _ _ (λ h. le-leb _ _ (n.upper other (eqb-true _ _ h))))
 

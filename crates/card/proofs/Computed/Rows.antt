@@ -1,5 +1,6 @@
 -- One row for each mistake in the rules that a must-fail edit makes. Each is true by its theorem; with the mistake it computes to false, and so the
 -- theorem is false. And rows by which what a theorem excepts is seen to happen.
+use Rattle.std.specs.Prelude.{Option, Some, None}
 use Prim.Native.Nat.{ℕ, ◌-◌}
 use mathlib.Core.Bool.{Bool, true, false, ◌&&◌, ◌||◌}
 use mathlib.Core.List.{List, [], ◌∷◌, ◌++◌}
@@ -34,8 +35,6 @@ use Rattle.card.specs.declared.Mode.{Mode}
 use Rattle.card.specs.declared.Mode.TheVariants.{Reading, Writing}
 use Rattle.card.specs.declared.Credential.{Credential}
 use Rattle.card.specs.declared.Credential.TheVariants.{Nothing, Reference, Key as KeyCredential}
-use Rattle.card.specs.declared.NewKey.{NewKey}
-use Rattle.card.specs.declared.NewKey.TheVariants.{Absent, Present}
 use Rattle.card.specs.declared.Call.{Call}
 use Rattle.card.specs.declared.Call.TheVariants.{Delete, Renew, Force, Tick, Sweep}
 use Rattle.card.specs.declared.AllocOperands.{AllocOperands}
@@ -420,7 +419,7 @@ sealed_by_the_write_key = one_key_unsealed_row (λ high low. false) write_keyed 
 
 -- ---- other_key_kept, own_key_set, both_windows_closed and write_access_needed: a key of block 1, by its credential and the new key
 
-abbrev of1 : Credential → NewKey → KeyOperands
+abbrev of1 : Credential → Option (ℕ × ℕ) → KeyOperands
 of1 credential key = record { block = 1; credential = credential; key = key }
 
 -- Block 1 has both keys, and both of its windows are open.
@@ -428,28 +427,28 @@ abbrev keyed_open : Card
 keyed_open = timed (keyed (zeros 8192)) 0 (0 ∷ 0 ∷ 10 ∷ 10 ∷ zeros 28)
 
 abbrev write_key_cleared_with_the_read_key : Row OtherKeyKept
-write_key_cleared_with_the_read_key = other_key_kept_row Service (keyed (zeros 8192)) Reading (of1 Nothing (Present 5 6)) (lending [])
+write_key_cleared_with_the_read_key = other_key_kept_row Service (keyed (zeros 8192)) Reading (of1 Nothing (Some (5, 6))) (lending [])
 
 abbrev flag_of_the_other_key_cleared : Row OtherKeyKept
-flag_of_the_other_key_cleared = other_key_kept_row Service (keyed (zeros 8192)) Reading (of1 Nothing (Present 5 6)) (lending [])
+flag_of_the_other_key_cleared = other_key_kept_row Service (keyed (zeros 8192)) Reading (of1 Nothing (Some (5, 6))) (lending [])
 
 abbrev absent_key_flagged : Row OwnKeySet
-absent_key_flagged = own_key_set_row Service (keyed (zeros 8192)) Writing (of1 Nothing Absent) (lending [])
+absent_key_flagged = own_key_set_row Service (keyed (zeros 8192)) Writing (of1 Nothing None) (lending [])
 
 abbrev low_word_set_first : Row OwnKeySet
-low_word_set_first = own_key_set_row Service two_below Writing (of1 Nothing (Present 3 4)) (lending [])
+low_word_set_first = own_key_set_row Service two_below Writing (of1 Nothing (Some (3, 4))) (lending [])
 
 abbrev window_of_its_own_mode_closed : Row BothWindowsClosed
-window_of_its_own_mode_closed = both_windows_closed_row Host keyed_open Writing (of1 (KeyCredential 3 4) (Present 3 4)) (lending [])
+window_of_its_own_mode_closed = both_windows_closed_row Host keyed_open Writing (of1 (KeyCredential 3 4) (Some (3, 4))) (lending [])
 
 abbrev windows_left_by_an_absent_key : Row BothWindowsClosed
-windows_left_by_an_absent_key = both_windows_closed_row Service keyed_open Reading (of1 Nothing Absent) (lending [])
+windows_left_by_an_absent_key = both_windows_closed_row Service keyed_open Reading (of1 Nothing None) (lending [])
 
 abbrev old_read_key_sets_a_new_one : Row WriteAccessNeeded
-old_read_key_sets_a_new_one = write_access_needed_row (keyed (zeros 8192)) Reading (of1 (KeyCredential 1 2) (Present 5 6)) (lending [])
+old_read_key_sets_a_new_one = write_access_needed_row (keyed (zeros 8192)) Reading (of1 (KeyCredential 1 2) (Some (5, 6))) (lending [])
 
 abbrev key_taken_away_without_access : Row WriteAccessNeeded
-key_taken_away_without_access = write_access_needed_row two_below Writing (of1 Nothing Absent) (lending [])
+key_taken_away_without_access = write_access_needed_row two_below Writing (of1 Nothing None) (lending [])
 
 -- ---- window_set_by
 
@@ -502,11 +501,11 @@ pub force_shortens : shortens (at20 30 60) (performed (at20 30 60) (force 0)).af
 unfolding computing
 force_shortens = refl
 
-pub key_read_shortens : shortens (at20 30 60) (performed (at20 30 60) (key Service Reading 0 Nothing (Present 5 6))).after Writing 0 ≡ true
+pub key_read_shortens : shortens (at20 30 60) (performed (at20 30 60) (key Service Reading 0 Nothing (Some (5, 6)))).after Writing 0 ≡ true
 unfolding computing
 key_read_shortens = refl
 
-pub key_write_shortens : shortens (at20 30 60) (performed (at20 30 60) (key Service Writing 0 Nothing (Present 5 6))).after Reading 0 ≡ true
+pub key_write_shortens : shortens (at20 30 60) (performed (at20 30 60) (key Service Writing 0 Nothing (Some (5, 6)))).after Reading 0 ≡ true
 unfolding computing
 key_write_shortens = refl
 

@@ -1,4 +1,5 @@
 -- `run_found`, `run_adjoins` and `run_nearest` as tests, which follow from them.
+use Rattle.std.specs.Prelude.{Some, None, Ok, Err}
 use native.Mathlib.Omega.{arith}
 use Prim.Native.Nat.{ℕ, ◌-◌, ◌+◌, ◌≤◌}
 use mathlib.Core.Bool.{Bool, true, ◌&&◌, not}
@@ -16,8 +17,8 @@ use Rattle.card.specs.Statements.Runs.{contig, Run, RunFound, RunAdjoins, RunNea
 use Rattle.card.specs.declared.Port.{Port}
 use Rattle.card.specs.declared.Refusal.{Refusal}
 use Rattle.card.specs.declared.Refusal.TheVariants.{Misshapen, Unsound, NotAllocated, BadOperand, NotOpened, IsRoot, CannotPoint, NoPointer, HasPointers, TooFewBlocks, TooFewPlaces, TimeEnds, BadRecord, NoRun, HasWriteKey, PriceTooHigh}
-use Rattle.card.specs.declared.Answer.{Answer}
-use Rattle.card.specs.declared.Answer.TheVariants.{Refused, Done, Value}
+use Rattle.card.specs.Answers.{Answer}
+use Rattle.card.specs.Answers.{Refused}
 use Rattle.card.specs.declared.AllocOperands.{AllocOperands}
 use Rattle.card.proofs.Computed.TestLaws.{and_left, and_right, and_true, absurd_test, all_below_true, true_all_below, false_unless, free_below}
 use Rattle.card.proofs.Computed.Row.{implies, true_implies, Row}
@@ -72,9 +73,9 @@ refusal_14 HasWriteKey e = absurd (omega (arith, e))
 refusal_14 PriceTooHigh e = absurd (omega (arith, e))
 
 answer_14 : (a : Answer) → answer_number a ≡ 14 → a ≡ Refused NoRun
-answer_14 (Refused r) e = ap Refused (refusal_14 r e)
-answer_14 Done e = absurd (omega (arith, e))
-answer_14 (Value v) e = absurd (omega (arith, e))
+answer_14 (Err r) e = ap Refused (refusal_14 r e)
+answer_14 (Ok None) e = absurd (omega (arith, e))
+answer_14 (Ok (Some v)) e = absurd (omega (arith, e))
 
 module _ (port : Port) (c : Card) (o : AllocOperands) (lent : Buffers) where
   abbrev pub made : Result

@@ -15,7 +15,7 @@ use Rattle.card.specs.Session.{perform}
 use Rattle.card.specs.Trials.{lending}
 use Rattle.card.specs.Statements.Sweeping.{sweeping, LowestWaiting, SweepsLowest, SweptGone}
 use Rattle.card.specs.declared.Port.TheVariants.{Host}
-use Rattle.card.specs.declared.Answer.{Answer}
+use Rattle.card.specs.Answers.{Answer}
 use Rattle.card.specs.declared.SweepOperands.{SweepOperands}
 use Rattle.card.proofs.Computed.Same.{same_list, same_lists}
 use Rattle.card.proofs.Computed.TestLaws.{and_left, and_right, and_true, or_else, absurd_test, true_every, all_below_true, true_all_below, same_list_true, true_same_list, true_same_lists, false_unless, waiting_below}

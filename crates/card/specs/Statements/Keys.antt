@@ -1,8 +1,8 @@
 -- 2026-02, of KEY_READ and KEY_WRITE: each sets its own key and leaves the other, both need write access and close both windows; and a block that
 -- carries one key alone is not sealed.
-use Rattle.std.specs.Prelude.{ℕ, Bool, true, false, ◌≡◌}
+use Rattle.std.specs.Prelude.{ℕ, Bool, true, false, ◌≡◌, Option, is_some}
 use Rattle.card.specs.Card.{Card, allocated, has_key, window_end, window_open, points_to, key_high, key_low}
-use Rattle.card.specs.Plan.{is_present, high_word, low_word, other_mode, Buffers}
+use Rattle.card.specs.Plan.{high_word, low_word, other_mode, Buffers}
 use Rattle.card.specs.Calls.{is_done}
 use Rattle.card.specs.Session.{key_call, Request, perform}
 use Rattle.card.specs.Reach.{sealed}
@@ -12,7 +12,6 @@ use Rattle.card.specs.declared.Mode.{Mode}
 use Rattle.card.specs.declared.Mode.TheVariants.{Writing}
 use Rattle.card.specs.declared.Credential.{Credential}
 use Rattle.card.specs.declared.Credential.TheVariants.{Reference, Key}
-use Rattle.card.specs.declared.NewKey.{NewKey}
 use Rattle.card.specs.declared.KeyOperands.{KeyOperands}
 
 -- KEY_READ or KEY_WRITE, with whatever buffers.
@@ -37,8 +36,8 @@ OtherKeyKept =
     → SameKey c (perform port c (setting mode o lent)).after m b
 
 -- The block's key for the mode is the new one, or there is none.
-pub record HasNewKey (d : Card) (m : Mode) (b : ℕ) (key : NewKey) : Type 0 where
-  pub there : has_key d.public m b ≡ is_present key
+pub record HasNewKey (d : Card) (m : Mode) (b : ℕ) (key : Option (ℕ × ℕ)) : Type 0 where
+  pub there : has_key d.public m b ≡ is_some key
   pub high : key_high d.keys m b ≡ high_word key
   pub low : key_low d.keys m b ≡ low_word key
 

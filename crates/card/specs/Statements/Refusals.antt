@@ -6,8 +6,8 @@ use Rattle.card.specs.Calls.{is_done, format}
 use Rattle.card.specs.Session.{Request, plan, EitherPort, refusals, perform}
 use Rattle.card.specs.declared.Port.{Port}
 use Rattle.card.specs.declared.Refusal.{Refusal}
-use Rattle.card.specs.declared.Answer.{Answer}
-use Rattle.card.specs.declared.Answer.TheVariants.{Refused}
+use Rattle.card.specs.Answers.{Answer}
+use Rattle.card.specs.Answers.{Refused}
 use Rattle.card.specs.declared.Call.{Call}
 
 -- ---- a refused call changes nothing

@@ -11,8 +11,8 @@ use Rattle.card.specs.Reach.{presented}
 use Rattle.card.specs.Statements.Refusals.{Unchanged}
 use Rattle.card.specs.Statements.Secrecy.{EqualBut, HiddenOrUnallocated}
 use Rattle.card.specs.declared.Port.{Port}
-use Rattle.card.specs.declared.Answer.{Answer}
-use Rattle.card.specs.declared.Answer.TheVariants.{Value}
+use Rattle.card.specs.Answers.{Answer}
+use Rattle.card.specs.Answers.{Value}
 use Rattle.card.specs.declared.Call.TheVariants.{Rent}
 use Rattle.card.specs.declared.RentOperands.{RentOperands}
 

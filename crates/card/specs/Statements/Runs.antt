@@ -6,7 +6,7 @@ use Rattle.card.specs.Calls.{is_done, no_hint, distance, alloc_plan, alloc_conti
 use Rattle.card.specs.Session.{Request, refusals, perform}
 use Rattle.card.specs.declared.Port.{Port}
 use Rattle.card.specs.declared.Refusal.TheVariants.{NoRun}
-use Rattle.card.specs.declared.Answer.TheVariants.{Refused, Done}
+use Rattle.card.specs.Answers.{Refused, Done}
 use Rattle.card.specs.declared.Call.TheVariants.{AllocContig}
 use Rattle.card.specs.declared.AllocOperands.{AllocOperands}
 

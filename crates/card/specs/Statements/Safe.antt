@@ -6,7 +6,7 @@ use Rattle.card.specs.Session.{Sent, performed}
 use Rattle.card.specs.Statements.Refusals.{Unchanged}
 use Rattle.card.specs.Statements.Unallocated.{LeftOrZeroed}
 use Rattle.card.specs.declared.Refusal.{Refusal}
-use Rattle.card.specs.declared.Answer.TheVariants.{Refused}
+use Rattle.card.specs.Answers.{Refused}
 
 pub record SafeCall (c : Card) (s : Sent) : Type 0 where
   -- A refusal leaves the card and the lent buffers as they were.

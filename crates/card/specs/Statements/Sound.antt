@@ -9,7 +9,7 @@ use Rattle.card.specs.Calls.{format}
 use Rattle.card.specs.Session.{Request, perform}
 use Rattle.card.specs.declared.Port.{Port}
 use Rattle.card.specs.declared.Refusal.{Refusal}
-use Rattle.card.specs.declared.Answer.TheVariants.{Refused}
+use Rattle.card.specs.Answers.{Refused}
 
 -- Document 01, "A done call .. leaves a sound card"; a refused one leaves the card itself.
 abbrev pub DoneSound : Type 0

@@ -8,7 +8,7 @@ use Rattle.card.specs.Calls.{is_done}
 use Rattle.card.specs.Lowest.{Lowest}
 use Rattle.card.specs.Session.{Request, perform}
 use Rattle.card.specs.declared.Port.{Port}
-use Rattle.card.specs.declared.Answer.TheVariants.{Value}
+use Rattle.card.specs.Answers.{Value}
 use Rattle.card.specs.declared.Call.TheVariants.{Sweep}
 use Rattle.card.specs.declared.SweepOperands.{SweepOperands}
 

@@ -11,8 +11,8 @@ use Rattle.card.specs.declared.Port.{Port}
 use Rattle.card.specs.declared.Port.TheVariants.{Host}
 use Rattle.card.specs.declared.Mode.{Mode}
 use Rattle.card.specs.declared.Mode.TheVariants.{Writing}
-use Rattle.card.specs.declared.Answer.{Answer}
-use Rattle.card.specs.declared.Answer.TheVariants.{Value}
+use Rattle.card.specs.Answers.{Answer}
+use Rattle.card.specs.Answers.{Value}
 use Rattle.card.specs.declared.Call.TheVariants.{DeleteTree}
 use Rattle.card.specs.declared.DeleteOperands.{DeleteOperands}
 

@@ -9,19 +9,18 @@ use Rattle.card.specs.declared.Port.{Port}
 use Rattle.card.specs.declared.Port.TheVariants.{Host}
 use Rattle.card.specs.declared.Mode.{Mode}
 use Rattle.card.specs.declared.Mode.TheVariants.{Reading, Writing}
-use Rattle.card.specs.declared.Answer.TheVariants.{Done}
+use Rattle.card.specs.Answers.{Done}
 use Rattle.card.specs.declared.Call.{Call}
 use Rattle.card.specs.declared.Call.TheVariants.{Renew, Force, Read, Write, KeyRead, KeyWrite}
 use Rattle.card.specs.declared.ForceOperands.{ForceOperands}
 use Rattle.card.specs.declared.KeyOperands.{KeyOperands}
-use Rattle.card.specs.declared.ReadOperands.{ReadOperands}
+use Rattle.card.specs.declared.TransferOperands.{TransferOperands}
 use Rattle.card.specs.declared.RenewOperands.{RenewOperands}
-use Rattle.card.specs.declared.WriteOperands.{WriteOperands}
 
 -- The calls that set the window of a block for a mode, by an interval.
 pub data SetsWindow : Call → Mode → ℕ → ℕ → Type 0 where
-  by_read : (o : ReadOperands) → SetsWindow (Read o) Reading o.block o.interval
-  by_write : (o : WriteOperands) → SetsWindow (Write o) Writing o.block o.interval
+  by_read : (o : TransferOperands) → SetsWindow (Read o) Reading o.block o.interval
+  by_write : (o : TransferOperands) → SetsWindow (Write o) Writing o.block o.interval
   by_renew : (o : RenewOperands) → SetsWindow (Renew o) (mode_of o.mode) o.block o.interval
 
 -- The call, judged as a host's and done with this result, sets the window by its interval.

@@ -8,11 +8,11 @@ use Rattle.controller.proofs.perform_judged.Goals as goal
 pub perform_sound-requires : goal.perform_sound-requires
 perform_sound-requires c = verdict_sound _ (sym c.requires ∙ c.in-Sound.is)
 
-pub returns-in-Misshapen : goal.returns-in-Misshapen
-returns-in-Misshapen c = is_misshapen c.args.port _ (request c.args.call c.args.input.now c.args.out.now c.args.places.now) (sym c.requires ∙ c.in-Misshapen.is)
+pub returns-in-Misshapen-clause-performs : goal.returns-in-Misshapen-clause-performs
+returns-in-Misshapen-clause-performs c = is_misshapen c.args.port _ (request c.args.call c.args.input.now c.args.out.now c.args.places.now) (sym c.requires ∙ c.in-Misshapen.is)
 
-pub returns-in-Unsound : goal.returns-in-Unsound
-returns-in-Unsound c = is_unsound c.args.port _ (request c.args.call c.args.input.now c.args.out.now c.args.places.now) (sym c.requires ∙ c.in-Unsound.is)
+pub returns-in-Unsound-clause-performs : goal.returns-in-Unsound-clause-performs
+returns-in-Unsound-clause-performs c = is_unsound c.args.port _ (request c.args.call c.args.input.now c.args.out.now c.args.places.now) (sym c.requires ∙ c.in-Unsound.is)
 
-pub returns-in-Sound : goal.returns-in-Sound
-returns-in-Sound c = is_audited c.args.port _ (request c.args.call c.args.input.now c.args.out.now c.args.places.now) (sym c.requires ∙ c.in-Sound.is) c.perform_sound.ensures
+pub returns-in-Sound-clause-performs : goal.returns-in-Sound-clause-performs
+returns-in-Sound-clause-performs c = is_audited c.args.port _ (request c.args.call c.args.input.now c.args.out.now c.args.places.now) (sym c.requires ∙ c.in-Sound.is) c.perform_sound.ensures.performs

@@ -1,14 +1,13 @@
-use Rattle.fields.proofs.Filler.{filler_start, filler_more, filler_fault, filler_whole}
+use mathlib.Core.Path.{◌≡◌}
+use Prim.Native.Nat.{◌+◌, ◌-◌}
+use lib.ListN.{take, drop, get_or}
+use Rattle.std.proofs.Common.{rules}
+use Rattle.std.specs.Prelude.{IsTrue, ◌↔◌, EachIndex}
+use Rattle.fields.proofs.Filler.{filler_zeroed}
 use Rattle.fields.proofs.zeroed.Goals as goal
 
-pub loop-i-init : goal.loop-i-init
-loop-i-init c = filler_start _ _ _
-
-pub returns-then-bytes-at-ne0 : goal.returns-then-bytes-at-ne0
-returns-then-bytes-at-ne0 c = search filler_fault
-
-pub loop-i-preserved : goal.loop-i-preserved
-loop-i-preserved c = search filler_more
-
 pub returns : goal.returns
-returns c = filler_whole c.loop-i.invariant c.loop-i-test.false
+returns c =
+    let part = take (c.args.at + c.args.count - c.args.at) (drop c.args.at c.args.bytes.now) in
+    let told : IsTrue c.all.result ↔ EachIndex part (λ k. get_or part k 0 ≡ 0) = search rules in
+    filler_zeroed c.args.at c.args.count c.args.bytes.now c.requires told

@@ -1,4 +1,5 @@
 -- A set of blocks that is closed under the four rules of reach, and how it stays closed under each change of a card.
+use Rattle.std.specs.Prelude.{Option}
 use Prim.Native.Nat.{ℕ, ◌*◌, ◌≤◌, ◌<◌}
 use mathlib.Core.Path.{◌≡◌, refl, sym, ap, ◌∙◌, subst}
 use mathlib.Core.Logic.{◌⊎◌, inl, inr, ⊎_elim}
@@ -23,7 +24,6 @@ use Rattle.laws.specs.ChangesLaws.{window_at_block, kept_high, kept_low, unclear
 use Rattle.card.specs.Reach.{key_presented, sealed, Reach, unsealed_root, by_key, open_window, pointed}
 use Rattle.card.specs.declared.Mode.{Mode}
 use Rattle.card.specs.declared.Mode.TheVariants.{Reading, Writing}
-use Rattle.card.specs.declared.NewKey.{NewKey}
 
 -- The set satisfies the four rules of "within reach" on the card.
 pub record Closed (K : ℕ → ℕ → Bool) (G : ℕ → Type 0) (c : Card) : Type 0 where
@@ -266,7 +266,7 @@ module _ (K : ℕ → ℕ → Bool) (G : ℕ → Type 0) (c : Card) (r : Regular
         was_pointed = λ y g p. (same_set G y g, p);
       }))
 
-  closed_set_key : (mode : Mode) (b : ℕ) (key : NewKey) → Allowed G c.public (set_key mode b key) → Closed K (Grown G (set_key mode b key)) (change c (set_key mode b key))
+  closed_set_key : (mode : Mode) (b : ℕ) (key : Option (ℕ × ℕ)) → Allowed G c.public (set_key mode b key) → Closed K (Grown G (set_key mode b key)) (change c (set_key mode b key))
   unfolding change change_public change_keys change_contents allocated window_open points_to
   closed_set_key mode b key h =
       frame K G (Grown G (set_key mode b key)) c (change c (set_key mode b key)) closed refl (λ x g. inl g)

@@ -1,5 +1,6 @@
 -- The theorem on secrecy is not empty: two sound cards that differ in hidden blocks and in a waiting one, and a session with done calls that frees one
 -- of the hidden ones and sweeps it.
+use Rattle.std.specs.Prelude.{Some}
 use Prim.Native.Nat.{ℕ}
 use mathlib.Core.Path.{◌≡◌, refl, sym, ap, subst}
 use mathlib.Core.Logic.{inl, inr}
@@ -22,7 +23,6 @@ use Rattle.card.specs.Trials.{rules, player_card, alloc, delete, key, lending}
 use Rattle.card.specs.declared.Port.TheVariants.{Service}
 use Rattle.card.specs.declared.Mode.TheVariants.{Reading, Writing}
 use Rattle.card.specs.declared.Credential.TheVariants.{Nothing, Reference, Key as KeyCredential}
-use Rattle.card.specs.declared.NewKey.TheVariants.{Present}
 use Rattle.card.specs.declared.Call.TheVariants.{Read, Write, Delete, Free, Sweep}
 use Rattle.card.specs.Statements.Secrecy.{EqualBut, HiddenOrUnallocated}
 use Rattle.card.proofs.Computed.Bounds.{bounds, reach_inside}
@@ -37,12 +37,12 @@ abbrev sealed_blocks : List Sent
 sealed_blocks =
     alloc Service 0 65535 1
     ∷ alloc Service 1 65535 2
-    ∷ key Service Reading 1 Nothing (Present 1 2)
-    ∷ key Service Writing 1 Nothing (Present 3 4)
-    ∷ key Service Reading 2 Nothing (Present 5 6)
-    ∷ key Service Writing 2 Nothing (Present 7 8)
-    ∷ key Service Reading 3 Nothing (Present 5 6)
-    ∷ key Service Writing 3 Nothing (Present 7 8)
+    ∷ key Service Reading 1 Nothing (Some (1, 2))
+    ∷ key Service Writing 1 Nothing (Some (3, 4))
+    ∷ key Service Reading 2 Nothing (Some (5, 6))
+    ∷ key Service Writing 2 Nothing (Some (7, 8))
+    ∷ key Service Reading 3 Nothing (Some (5, 6))
+    ∷ key Service Writing 3 Nothing (Some (7, 8))
     ∷ alloc Service 0 65535 1
     ∷ delete Service 0 4
     ∷ []

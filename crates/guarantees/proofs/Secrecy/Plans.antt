@@ -26,8 +26,7 @@ use Rattle.card.specs.declared.Port.TheVariants.{Host}
 use Rattle.card.specs.declared.Mode.{Mode}
 use Rattle.card.specs.declared.Mode.TheVariants.{Reading, Writing}
 use Rattle.card.specs.declared.Credential.TheVariants.{Key as KeyCredential}
-use Rattle.card.specs.declared.ReadOperands.{ReadOperands}
-use Rattle.card.specs.declared.WriteOperands.{WriteOperands}
+use Rattle.card.specs.declared.TransferOperands.{TransferOperands}
 use Rattle.card.specs.declared.AllocOperands.{AllocOperands}
 use Rattle.card.specs.declared.CreateOperands.{CreateOperands}
 use Rattle.card.specs.declared.DeleteOperands.{DeleteOperands}
@@ -193,13 +192,13 @@ module _ (K : ℕ → ℕ → Bool) (G : ℕ → Type 0) (c : Card) (s : SoundCa
   below : (b : ℕ) → not (allocated c.public b) ≡ false → b < c.public.info.blocks
   below b a = allocated_below c.public b (not-false _ a)
 
-  safe_read : (o : ReadOperands) (lent : Buffers) → CallPresents K (Read o) → NoneHolds (plan Host c (Read o) lent).checks → Safe G c (plan Host c (Read o) lent)
+  safe_read : (o : TransferOperands) (lent : Buffers) → CallPresents K (Read o) → NoneHolds (plan Host c (Read o) lent).checks → Safe G c (plan Host c (Read o) lent)
   unfolding plan read_plan presents some_shows traits
   safe_read o lent k n =
       let g = within Reading o.block o.credential n.1.0 n.1.1.0 k in
       record { shown_in = g; allowed = window_allowed G c.public c.public Reading o.block o.interval g }
 
-  safe_write : (o : WriteOperands) (lent : Buffers) → CallPresents K (Write o) → NoneHolds (plan Host c (Write o) lent).checks → Safe G c (plan Host c (Write o) lent)
+  safe_write : (o : TransferOperands) (lent : Buffers) → CallPresents K (Write o) → NoneHolds (plan Host c (Write o) lent).checks → Safe G c (plan Host c (Write o) lent)
   unfolding plan write_plan presents some_shows change_public traits
   safe_write o lent k n =
       let g = within Writing o.block o.credential n.1.0 n.1.1.0 k in

@@ -1,6 +1,6 @@
 -- 2026-08: the rent tells nothing of hidden and unallocated contents.
+use Rattle.std.specs.Prelude.{Option, None, Some}
 use mathlib.Core.Path.{◌≡◌, refl, sym, ap, ◌∙◌}
-use mathlib.Core.Option.{Option, none, some}
 use Rattle.card.specs.Card.{Public, Card}
 use Rattle.card.specs.SoundCard.{SoundCard}
 use Rattle.card.specs.Plan.{Plan, Buffers, Result, first, settle, judge_sound}
@@ -17,8 +17,8 @@ use Rattle.guarantees.proofs.Secrecy.Theorem.{secrecy}
 -- What a plan answers does not hang on the card.
 answer_alike : (c d : Card) (lent : Buffers) (p : Plan) (o : Option Refusal) → (settle c lent p o).answer ≡ (settle d lent p o).answer
 unfolding settle
-answer_alike c d lent p none = refl
-answer_alike c d lent p (some r) = refl
+answer_alike c d lent p None = refl
+answer_alike c d lent p (Some r) = refl
 
 asked_alike : {c d : Card} → SoundCard c → SoundCard d → c.public ≡ d.public → (port : Port) (o : RentOperands) (lent : Buffers) → asked port c o lent ≡ asked port d o lent
 unfolding perform plan judge_sound

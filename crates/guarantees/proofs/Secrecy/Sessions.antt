@@ -1,10 +1,10 @@
 -- One call of a host on two cards, and a whole list of them.
+use Rattle.std.specs.Prelude.{Option, None, Some}
 use Prim.Native.Nat.{ℕ}
 use mathlib.Core.Path.{◌≡◌, refl, sym, ap, ap₂, ◌∙◌}
 use mathlib.Core.Logic.{◌⊎◌, inl, inr, ⊎_elim}
 use mathlib.Core.Bool.{Bool, true, false, ◌&&◌, cond}
 use mathlib.Core.List.{List, [], ◌∷◌}
-use mathlib.Core.Option.{Option, none, some}
 use lib.Dec.{eqb}
 use lib.ListN.{length}
 use borrow.Author.Tests.{eq-eqb}
@@ -128,8 +128,8 @@ module _ (K : ℕ → ℕ → Bool) (L : Public → List ℕ → List ℕ → Ty
   both_settled : (q : Request) → CallPresents K q.call → (o : Option Refusal) → first (plan Host c q.call q.lent).checks ≡ o
       → Both K L G c (settle c q.lent (plan Host c q.call q.lent) o) (settle d q.lent (plan Host c q.call q.lent) o)
   unfolding settle
-  both_settled q k none e = both_done q.lent (plan Host c q.call q.lent) (safe K G c sc closed q.call q.lent k (first_none _ e))
-  both_settled q k (some r) e = both_refused q.lent r
+  both_settled q k None e = both_done q.lent (plan Host c q.call q.lent) (safe K G c sc closed q.call q.lent k (first_none _ e))
+  both_settled q k (Some r) e = both_refused q.lent r
 
   pub both : (q : Request) → CallPresents K q.call → Both K L G c (perform Host c q) (perform Host d q)
   both q k =
@@ -236,7 +236,7 @@ module _ (K : ℕ → ℕ → Bool) (G : ℕ → Type 0) (c : Card) (s : SoundCa
       → takes_last q.call (settle c q.lent (plan Host c q.call q.lent) o).answer x ≡ false
       → OneNext K G c (settle c q.lent (plan Host c q.call q.lent) o).after x
   unfolding settle
-  one_settled q k none e f =
+  one_settled q k None e f =
       let p = plan Host c q.call q.lent in
       let ok = safe K G c s closed q.call q.lent k (first_none _ e) in
       record {
@@ -244,7 +244,7 @@ module _ (K : ℕ → ℕ → Bool) (G : ℕ → Type 0) (c : Card) (s : SoundCa
         closed = closed_changes K G c p.steps (sound_regular s) ok.allowed closed;
         apart = apart_changes G c p.steps (sound_regular s) x a out ok.allowed (frees_none q.call q.lent k (first_none _ e) f);
       }
-  one_settled q k (some r) e f = record { G' = G; closed = closed; apart = record { still_allocated = a; still_outside = out; same_block = refl } }
+  one_settled q k (Some r) e f = record { G' = G; closed = closed; apart = record { still_allocated = a; still_outside = out; same_block = refl } }
 
   one_next : (q : Request) → CallPresents K q.call → takes_last q.call (perform Host c q).answer x ≡ false → OneNext K G c (perform Host c q).after x
   one_next q k f =

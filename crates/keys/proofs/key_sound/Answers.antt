@@ -2,7 +2,7 @@
 use mathlib.Core.Path.{refl}
 use Rattle.card.specs.Plan.{here, later, out_after, places_after}
 use Rattle.card.specs.Calls.{key_plan}
-use Rattle.outcomes.proofs.Returned.{refuses, finishes}
+use Rattle.laws.specs.PromisesLaws.{is_refused, is_done}
 use Rattle.access.proofs.Blocks.{missing_told, root_told, access_there, closed_told, flag_there, keys_there, windows_there}
 use Rattle.keys.proofs.Keys.{key_judged}
 use Rattle.keys.proofs.Changed.{replaces_key}
@@ -10,26 +10,26 @@ use Rattle.std.proofs.Common.{ap}
 use mathlib.Core.Bool.{not}
 use Rattle.keys.proofs.key_sound.Goals as goal
 
-pub returns-then-missing : goal.returns-then-missing
+pub returns-then-missing-clause-performs : goal.returns-then-missing-clause-performs
 unfolding key_plan
-returns-then-missing c = search (key_judged, refuses, here, missing_told)
+returns-then-missing-clause-performs c = search (key_judged, is_refused, here, missing_told)
 
-pub returns-then-root_at_host : goal.returns-then-root_at_host
+pub returns-then-root_at_host-clause-performs : goal.returns-then-root_at_host-clause-performs
 unfolding key_plan
-returns-then-root_at_host c = search (key_judged, refuses, later, missing_told, here, root_told)
+returns-then-root_at_host-clause-performs c = search (key_judged, is_refused, later, missing_told, here, root_told)
 
-pub admits-opened-requires : goal.admits-opened-requires
-admits-opened-requires c = access_there _ c.requires c.missing.ensures c.if-missing.false
+pub admits-requires : goal.admits-requires
+admits-requires c = access_there _ c.requires c.missing.ensures c.if-missing.false
 
-pub returns-then-not-opened : goal.returns-then-not-opened
+pub returns-then-not-admits-clause-performs : goal.returns-then-not-admits-clause-performs
 unfolding key_plan
-returns-then-not-opened c = search (key_judged, refuses, later, missing_told, root_told, here, closed_told) depth 6
+returns-then-not-admits-clause-performs c = search (key_judged, is_refused, later, missing_told, root_told, here, closed_told) depth 6
 
-pub bounds-flags-block : goal.bounds-flags-block
-bounds-flags-block c = flag_there _ c.requires c.missing.ensures c.if-missing.false
+pub bounds-card-block : goal.bounds-card-block
+bounds-card-block c = flag_there _ c.requires c.missing.ensures c.if-missing.false
 
-pub bounds-flags-block-2 : goal.bounds-flags-block-2
-bounds-flags-block-2 c = flag_there _ c.requires c.missing.ensures c.if-missing.false
+pub bounds-card-block-2 : goal.bounds-card-block-2
+bounds-card-block-2 c = flag_there _ c.requires c.missing.ensures c.if-missing.false
 
 pub replace_key-requires : goal.replace_key-requires
 replace_key-requires c = keys_there _ c.requires c.missing.ensures c.if-missing.false
@@ -37,6 +37,6 @@ replace_key-requires c = keys_there _ c.requires c.missing.ensures c.if-missing.
 pub close_windows-requires : goal.close_windows-requires
 close_windows-requires c = windows_there _ c.requires c.missing.ensures c.if-missing.false
 
-pub returns : goal.returns
+pub returns-clause-performs : goal.returns-clause-performs
 unfolding key_plan out_after places_after
-returns c = key_judged _ _ c.args.mode c.args.o (finishes _ _ _ c.done.ensures (missing_told _ _ c.missing.ensures c.if-missing.false, (root_told _ _ _ c.root_at_host.ensures c.if-root_at_host.false, (closed_told _ _ _ _ _ c.admits-opened.ensures (ap not c.if-not-opened.false), tt))) (replaces_key _ _ _ _ c.keyed_flags.ensures c.replace_key.ensures c.close_windows.ensures) refl refl)
+returns-clause-performs c = key_judged _ _ c.args.mode c.args.o (is_done _ _ _ (missing_told _ _ c.missing.ensures c.if-missing.false, (root_told _ _ _ c.root_at_host.ensures c.if-root_at_host.false, (closed_told _ _ _ _ _ c.admits.ensures (ap not c.if-not-admits.false), tt))) (replaces_key _ _ _ _ c.keyed_flags.ensures c.replace_key.ensures c.close_windows.ensures) refl refl)

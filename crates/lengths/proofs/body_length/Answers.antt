@@ -2,8 +2,8 @@
 use Rattle.lengths.proofs.Table.{known_length, unknown_length}
 use Rattle.lengths.proofs.body_length.Goals as goal
 
-pub returns-in-Known : goal.returns-in-Known
-returns-in-Known c = known_length _ _ c.kind_of-known.ensures c.in-Known.is c.lengths_at.ensures
+pub returns-in_err-kind_of : goal.returns-in_err-kind_of
+returns-in_err-kind_of c = rw c.from_residual.ensures (unknown_length _ _ c.in_err-kind_of.ensures)
 
-pub returns-in-Unknown : goal.returns-in-Unknown
-returns-in-Unknown c = unknown_length _ _ c.kind_of-known.ensures c.in-Unknown.is
+pub returns : goal.returns
+returns c = known_length _ _ c.in_ok-kind_of.ensures c.lengths_at.ensures

@@ -4,13 +4,13 @@ use Rattle.card.specs.declared.Call.{Call}
 use Rattle.card.specs.declared.Call.TheVariants.{Read, Write, Alloc, AllocContig, Create, Delete, DeleteTree, KeyRead, KeyWrite, Renew, Force, Free, Tick, Audit, Rent, Sweep}
 use Rattle.lines.specs.Replied.{filled_by}
 use Rattle.lines.specs.declared.Filled.TheVariants.{Neither}
-use Rattle.card.specs.declared.ReadOperands.{ReadOperands}
+use Rattle.card.specs.declared.TransferOperands.{TransferOperands}
 use Rattle.card.specs.declared.AllocOperands.{AllocOperands}
 use Rattle.lines.proofs.filled_by.Goals as goal
 
 -- A call but READ, ALLOC and ALLOC_CONTIG fills neither buffer.
 fills_neither : (call : Call)
-    → ((o : ReadOperands) → call ≡ Read o → ⊥) → ((o : AllocOperands) → call ≡ Alloc o → ⊥) → ((o : AllocOperands) → call ≡ AllocContig o → ⊥)
+    → ((o : TransferOperands) → call ≡ Read o → ⊥) → ((o : AllocOperands) → call ≡ Alloc o → ⊥) → ((o : AllocOperands) → call ≡ AllocContig o → ⊥)
     → Neither ≡ filled_by call
 fills_neither (Read o) f g h = absurd (f o refl)
 fills_neither (Write o) f g h = refl

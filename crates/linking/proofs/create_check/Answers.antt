@@ -1,5 +1,5 @@
 -- `linking::create_check` finds what the checks of the rule find, each refusal by the tests before it.
-use Rattle.card.specs.Card.{card}
+use Rattle.card.specs.Lent.{lent_card}
 use Rattle.checks.specs.CheckedLaws.{check_refused, check_passed}
 use Rattle.access.proofs.Blocks.{access_there}
 use Rattle.tables.specs.InUseLaws.{sound_sorted, sound_paired}
@@ -9,7 +9,7 @@ use Rattle.linking.proofs.create_check.Goals.{Else-o-times}
 
 passed_from_if6 : (c : Else-o-times)
     → let a = c.args in
-    SixPassed a.port (card a.info a.flags.now a.keys.now a.counts.now a.pointers.now a.multiplicities.now a.windows.now a.contents.now) a.o c.multiplicity-times.result
+    SixPassed a.port (lent_card a.card.now) a.o c.multiplicity-times.result
 passed_from_if6 c = search six_passed
 
 pub returns-then-missing : goal.returns-then-missing
@@ -18,31 +18,31 @@ returns-then-missing c = search (check_refused, create_source_missing)
 pub returns-then-missing-2 : goal.returns-then-missing-2
 returns-then-missing-2 c = search (check_refused, create_destination_missing)
 
-pub returns-then-to-info : goal.returns-then-to-info
-returns-then-to-info c = search (check_refused, root_end)
+pub returns-then-to-card : goal.returns-then-to-card
+returns-then-to-card c = search (check_refused, root_end)
 
 pub admits-requires : goal.admits-requires
-admits-requires c = let a = c.args in let k = card a.info a.flags.now a.keys.now a.counts.now a.pointers.now a.multiplicities.now a.windows.now a.contents.now in access_there {c = k} _ c.requires c.missing.ensures c.if-missing.false
+admits-requires c = let a = c.args in let k = lent_card a.card.now in access_there {c = k} _ c.requires c.missing.ensures c.if-missing.false
 
 pub returns-then-not-admits : goal.returns-then-not-admits
 returns-then-not-admits c = search (check_refused, create_source_shut)
 
 pub admits-requires-2 : goal.admits-requires-2
-admits-requires-2 c = let a = c.args in let k = card a.info a.flags.now a.keys.now a.counts.now a.pointers.now a.multiplicities.now a.windows.now a.contents.now in access_there {c = k} _ c.requires c.missing-2.ensures c.if-missing-2.false
+admits-requires-2 c = let a = c.args in let k = lent_card a.card.now in access_there {c = k} _ c.requires c.missing-2.ensures c.if-missing-2.false
 
 pub returns-then-not-admits-2 : goal.returns-then-not-admits-2
 returns-then-not-admits-2 c = search (check_refused, destination_shut)
 
 pub multiplicity-times-requires : goal.multiplicity-times-requires
-multiplicity-times-requires c = let a = c.args in let k = card a.info a.flags.now a.keys.now a.counts.now a.pointers.now a.multiplicities.now a.windows.now a.contents.now in record { sorted = sound_sorted {c = k} c.requires; paired = sound_paired {c = k} c.requires }
+multiplicity-times-requires c = let a = c.args in let k = lent_card a.card.now in record { sorted = sound_sorted {c = k} c.requires; paired = sound_paired {c = k} c.requires }
 
 pub returns-then-o-times : goal.returns-then-o-times
 returns-then-o-times c = search (check_refused, cannot_point)
 
-pub returns-then-times-info : goal.returns-then-times-info
-returns-then-times-info c = let a = c.args in let k = card a.info a.flags.now a.keys.now a.counts.now a.pointers.now a.multiplicities.now a.windows.now a.contents.now in
-    check_refused _ k _ (no_place a.port k a.o (passed_from_if6 (goal.at.returns-then-times-info c).Else-o-times) c.requires c.if-times-info.true)
+pub returns-then-times-card : goal.returns-then-times-card
+returns-then-times-card c = let a = c.args in let k = lent_card a.card.now in
+    check_refused _ k _ (no_place a.port k a.o (passed_from_if6 (goal.at.returns-then-times-card c).Else-o-times) c.requires c.if-times-card.true)
 
 pub returns : goal.returns
-returns c = let a = c.args in let k = card a.info a.flags.now a.keys.now a.counts.now a.pointers.now a.multiplicities.now a.windows.now a.contents.now in
-    check_passed _ k _ (create_passes a.port k a.o (passed_from_if6 (goal.at.returns c).Else-o-times) c.requires c.if-times-info.false)
+returns c = let a = c.args in let k = lent_card a.card.now in
+    check_passed _ k _ (create_passes a.port k a.o (passed_from_if6 (goal.at.returns c).Else-o-times) c.requires c.if-times-card.false)

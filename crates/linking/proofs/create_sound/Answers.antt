@@ -1,17 +1,22 @@
 -- `linking::create_sound` is the rule on an audited card, by what its checks find.
-use Rattle.card.specs.Card.{card}
+use Rattle.card.specs.Lent.{lent_card}
 use Rattle.card.specs.Session.{perform_sound}
+use Rattle.laws.specs.PromisesLaws.{is_refused}
+use Rattle.std.proofs.lemmas.Result.{err_from_is_err_and}
 use Rattle.checks.specs.CheckedLaws.{refused_check, passed_check}
-use Rattle.outcomes.proofs.Returned.{refuses}
 use Rattle.linking.proofs.Creating.{create_makeable, create_done}
 use Rattle.linking.proofs.create_sound.Goals as goal
 
-pub make_pointer-left-requires : goal.make_pointer-left-requires
-make_pointer-left-requires c = let a = c.args in let k = card a.info a.flags.now a.keys.now a.counts.now a.pointers.now a.multiplicities.now a.windows.now a.contents.now in let all = create_makeable a.port k a.o c.requires (search passed_check) in record { can_make_pointer = all.0; destination_in_bounds = all.1.0; destination_bound = all.1.1 }
+pub make_pointer-requires : goal.make_pointer-requires
+make_pointer-requires c = let a = c.args in let k = lent_card a.card.now in let all = create_makeable a.port k a.o c.requires (passed_check a.port k _ c.create_check.ensures c.in_ok-create_check.was) in record { can_make_pointer = all.0; destination_in_bounds = all.1.0; destination_bound = all.1.1 }
 
-pub returns-in-Refused : goal.returns-in-Refused
+pub returns-in_err-create_check-clause-performs : goal.returns-in_err-create_check-clause-performs
 unfolding perform_sound
-returns-in-Refused c = let a = c.args in let k = card a.info a.flags.now a.keys.now a.counts.now a.pointers.now a.multiplicities.now a.windows.now a.contents.now in refuses k _ _ c.refused.ensures (refused_check a.port k _ c.create_check.ensures c.in-Refused.is)
+returns-in_err-create_check-clause-performs c =
+    let a = c.args in
+    let k = lent_card a.card.now in
+    let p = err_from_is_err_and c.from_residual.result c.from_residual.ensures.1 in
+    rw (p.1, p.2) (is_refused k _ _ (refused_check a.port k _ c.create_check.ensures c.in_err-create_check.was))
 
-pub returns-in-Passed : goal.returns-in-Passed
-returns-in-Passed c = let a = c.args in let k = card a.info a.flags.now a.keys.now a.counts.now a.pointers.now a.multiplicities.now a.windows.now a.contents.now in create_done a.port k a.o (passed_check a.port k _ c.create_check.ensures c.in-Passed.is) c.done.ensures (c.make_pointer-left.ensures _ _ _ _)
+pub returns-clause-performs : goal.returns-clause-performs
+returns-clause-performs c = let a = c.args in let k = lent_card a.card.now in create_done a.port k a.o (passed_check a.port k _ c.create_check.ensures c.in_ok-create_check.was) c.make_pointer.ensures.makes

@@ -1,8 +1,5 @@
-use Rattle.reach.proofs.Giving.{passed_none, passed_found, passed_more, passed_whole}
+use Rattle.reach.proofs.Giving.{passed_found, passed_more, passed_whole}
 use Rattle.reach.proofs.given.Goals as goal
-
-pub loop-key-init : goal.loop-key-init
-loop-key-init c = search passed_none
 
 pub returns-then-high-words : goal.returns-then-high-words
 returns-then-high-words c = search passed_found

@@ -1,10 +1,6 @@
--- `reach::given` looks at one key after the other. The measure is what is left.
-use Prim.Native.Nat.{◌-◌}
+-- `reach::given` looks at one key after the other.
 use Rattle.reach.proofs.Giving.{Passed}
 use Rattle.reach.proofs.given.Given as goal
 
 abbrev pub invariant-loop-key : goal.invariant-loop-key
 invariant-loop-key l = Passed l.high l.low l.words l.key
-
-abbrev pub decreases-loop-key : goal.decreases-loop-key
-decreases-loop-key l = l.keys - l.key

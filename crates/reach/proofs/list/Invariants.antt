@@ -1,10 +1,6 @@
--- `reach::list` puts one marked block after the other into the places. The measure is what is left to look at.
-use Prim.Native.Nat.{◌-◌}
+-- `reach::list` puts one marked block after the other into the places.
 use Rattle.reach.proofs.Listing.{Listed}
 use Rattle.reach.proofs.list.Given as goal
 
 abbrev pub invariant-loop-block : goal.invariant-loop-block
 invariant-loop-block l = Listed l.marks l.initial.places l.places l.blocks l.block l.listed
-
-abbrev pub decreases-loop-block : goal.decreases-loop-block
-decreases-loop-block l = l.blocks - l.block

@@ -6,14 +6,14 @@ use Rattle.reach.proofs.reach_sound.Goals as goal
 pub returns-then-bad_keys : goal.returns-then-bad_keys
 returns-then-bad_keys c = keys_refused _ _ _ c.bad_keys.ensures c.if-bad_keys.true
 
-pub mark_within-count-requires : goal.mark_within-count-requires
-mark_within-count-requires c = record { sound_card = c.requires; fresh = record { none_shut = refl; none_marked = refl; has_queue = refl } }
+pub mark_within-requires : goal.mark_within-requires
+mark_within-requires c = record { sound_card = c.requires; shut_value = refl; none_reached = c.none-reached.ensures }
 
-pub returns-then-places-count : goal.returns-then-places-count
-returns-then-places-count c = places_refused _ _ _ c.bad_keys.ensures c.if-bad_keys.false c.mark_within-count.ensures c.if-places-count.true
+pub returns-then-places-reached : goal.returns-then-places-reached
+returns-then-places-reached c = places_refused _ _ _ c.bad_keys.ensures c.if-bad_keys.false c.mark_within.ensures c.if-places-reached.true
 
 pub list-requires : goal.list-requires
-list-requires c = record { blocks_bound = c.requires.shaped.in_ranges.blocks_high; blocks_in_bounds = places_enough c.args.words.now c.args.places.now _ c.bad_keys.ensures c.if-bad_keys.false c.mark_within-count.ensures c.if-places-count.false }
+list-requires c = record { blocks_bound = c.requires.shaped.in_ranges.blocks_high; blocks_in_bounds = places_enough c.args.words.now c.args.places.now _ c.bad_keys.ensures c.if-bad_keys.false c.mark_within.ensures c.if-places-reached.false }
 
 pub returns : goal.returns
-returns c = list_answered _ _ _ c.bad_keys.ensures c.if-bad_keys.false c.mark_within-count.ensures c.if-places-count.false c.list.ensures
+returns c = list_answered _ _ _ c.bad_keys.ensures c.if-bad_keys.false c.mark_within.ensures c.if-places-reached.false c.list.ensures

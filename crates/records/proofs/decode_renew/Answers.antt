@@ -1,7 +1,9 @@
--- `records::decode_renew` meets its contract: a bare key.
-use mathlib.Core.Path.{refl, ◌∙◌}
+-- `records::decode_renew` meets its contract.
+use mathlib.Core.Path.{refl}
+use Rattle.decoding.specs.Decode.{call_of, renew_operands}
 use Rattle.decoding.proofs.DecodeLaws.{renew}
 use Rattle.records.proofs.decode_renew.Goals as goal
 
 pub returns : goal.returns
-returns c = c.renew_with.ensures ∙ renew _ _ refl c.two-block.ensures c.eight-high.ensures c.eight-low.ensures c.four-interval.ensures
+unfolding call_of renew_operands
+returns c = λ port. renew port _ refl c.two.ensures c.eight.ensures c.eight-2.ensures c.four.ensures

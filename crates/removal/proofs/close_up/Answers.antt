@@ -66,4 +66,4 @@ pub shape_of-multiplicities : goal.shape_of-multiplicities
 shape_of-multiplicities c = c.loop-at.invariant.in_times.same
 
 pub returns : goal.returns
-returns c = closing_whole _ _ _ _ _ _ c.requires c.loop-at.invariant c.loop-at-test.false
+returns c = closing_whole _ _ _ _ _ _ c.requires c.loop-at.invariant (omega arith)

@@ -1,3 +1,4 @@
+use native.Mathlib.Omega.{arith}
 use Rattle.removal.proofs.Marked.{freeing_none, freeing_pass, freeing_more, freeing_same, freeing_whole}
 use Rattle.removal.proofs.free_marked.Goals as goal
 use Rattle.removal.proofs.free_marked.Goals.{else-marks-at-eq1, then-marks-at-eq1}
@@ -20,4 +21,4 @@ pub shape_of-windows : goal.shape_of-windows
 shape_of-windows c = c.loop-at.invariant.same_windows
 
 pub returns : goal.returns
-returns c = freeing_whole _ _ _ _ c.loop-at.invariant c.loop-at-test.false
+returns c = freeing_whole _ _ _ _ c.loop-at.invariant (omega arith)

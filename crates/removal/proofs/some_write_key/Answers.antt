@@ -1,3 +1,4 @@
+use native.Mathlib.Omega.{arith}
 use Rattle.removal.proofs.Marked.{keyless_none, keyless_more, some_key_law, no_key}
 use Rattle.removal.proofs.some_write_key.Goals as goal
 
@@ -11,4 +12,4 @@ pub loop-at-preserved : goal.loop-at-preserved
 loop-at-preserved c = keyless_more _ _ c.loop-at-test.true c.has_key.ensures c.loop-at.invariant c.if-marks-at.false
 
 pub returns : goal.returns
-returns c = no_key _ _ c.loop-at.invariant c.loop-at-test.false
+returns c = no_key _ _ c.loop-at.invariant (omega arith)

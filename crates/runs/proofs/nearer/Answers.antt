@@ -2,8 +2,8 @@
 use Rattle.runs.proofs.Meeting.{nearer_none, nearer_taken, nearer_kept}
 use Rattle.runs.proofs.nearer.Goals as goal
 
-pub returns-in-Absent : goal.returns-in-Absent
-returns-in-Absent c = search nearer_none
+pub returns-in-None : goal.returns-in-None
+returns-in-None c = search nearer_none
 
 pub returns-then-distance : goal.returns-then-distance
 returns-then-distance c = search nearer_taken

@@ -1,11 +1,11 @@
 -- `shape::has_lengths` is the rest of the shape.
 use native.Mathlib.Omega.{arith}
 use Rattle.shape.proofs.ShapeTests.{contents_fit, in_lengths}
-use Rattle.card.specs.Card.{card}
+use Rattle.card.specs.Lent.{shared_card}
 use Rattle.shape.proofs.has_lengths.Goals as goal
 
 pub overflow_mul-result-3 : goal.overflow_mul-result-3
 overflow_mul-result-3 c = omega (arith, contents_fit c.requires)
 
 pub returns : goal.returns
-returns c = let a = c.args in search (in_lengths (card a.info a.flags.now a.keys.now a.counts.now a.pointers.now a.multiplicities.now a.windows.now a.contents.now))
+returns c = search (in_lengths (shared_card c.args.card))

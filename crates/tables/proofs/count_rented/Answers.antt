@@ -1,16 +1,14 @@
-use mathlib.Core.Bool.{true, false}
-use Rattle.tables.proofs.Counted.{rented_start, rented_more, rented_whole}
+use Prim.Native.Nat.{◌-◌}
+use mathlib.Core.Path.{◌≡◌, ◌∙◌}
+use lib.ListN.{length, take, drop}
+use Rattle.std.proofs.Common.{rules}
+use Rattle.std.specs.List.{count_by}
+use Rattle.card.specs.Card.{allocated_flag}
+use Rattle.tables.proofs.Counted.{rented_counted}
 use Rattle.tables.proofs.count_rented.Goals as goal
-use Rattle.tables.proofs.count_rented.Goals.{else-allocated, then-allocated}
-
-pub loop-block-init : goal.loop-block-init
-loop-block-init c = rented_start _ _
-
-pub loop-block-preserved : goal.loop-block-preserved
-loop-block-preserved c = let inv = c.loop-block.invariant in
-    let inside = c.loop-block-test.true in
-    let told = c.allocated.ensures in
-    elim c.if-allocated.branch [ then-allocated w ↦ rented_more inv inside told true w.if-allocated.true w.rented-is | else-allocated w ↦ rented_more inv inside told false w.if-allocated.false w.rented-is ]
 
 pub returns : goal.returns
-returns c = rented_whole c.loop-block.invariant c.loop-block-test.false
+returns c =
+    let flags = c.args.flags.now in
+    let counted : c.count.result ≡ count_by allocated_flag (take (length flags - c.min.result) (drop c.min.result flags)) = search rules in
+    counted ∙ rented_counted c.args.roots flags c.min.ensures

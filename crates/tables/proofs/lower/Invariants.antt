@@ -1,10 +1,6 @@
--- `tables::lower` meets its contract: the pointers behind the one taken away, up to `i`, stand one place lower. The measure is what is left.
-use Prim.Native.Nat.{◌-◌}
+-- `tables::lower` meets its contract: the elements behind the one taken away, below `i`, stand one place lower.
 use Rattle.tables.proofs.Shift.{Lowered}
 use Rattle.tables.proofs.lower.Given as goal
 
 abbrev pub invariant-loop-i : goal.invariant-loop-i
-invariant-loop-i l = Lowered l.initial.pointers l.pointers l.used l.at l.i
-
-abbrev pub decreases-loop-i : goal.decreases-loop-i
-decreases-loop-i l = l.used - l.i
+invariant-loop-i g l = Lowered l.initial.xs l.xs l.used l.at l.i

@@ -1,12 +1,12 @@
-use native.Mathlib.Omega.{arith}
-use Rattle.tables.proofs.Search.{between_start, between_above, between_below}
+-- `tables::place` meets its contract: what parts the pointers below the wanted one from the others is its rank.
+use lib.Dec.{ltb}
+use Rattle.std.proofs.Common.{rules}
+use Rattle.std.proofs.lemmas.List.Sorted.{IsPartitionPoint-from_clause}
+use Rattle.tables.proofs.Search.{parted, parts_at_rank}
 use Rattle.tables.proofs.place.Goals as goal
 
-pub loop-low-init : goal.loop-low-init
-loop-low-init c = between_start c.requires _
-
-pub loop-low-preserved-then-pointers-middle : goal.loop-low-preserved-then-pointers-middle
-loop-low-preserved-then-pointers-middle c = between_above c.requires _ c.loop-low.invariant (omega arith) c.if-pointers-middle.true
-
-pub loop-low-preserved : goal.loop-low-preserved
-loop-low-preserved c = between_below c.requires _ c.loop-low.invariant (omega arith) c.if-pointers-middle.false
+pub returns : goal.returns
+returns c =
+    let w = c.args.wanted in
+    parts_at_rank w _ c.requires.ascends _ c.partition_point.ensures.bound
+    (IsPartitionPoint-from_clause (λ y. ltb y w) _ _ c.partition_point.ensures.partitioned (parted w _ c.requires.ascends) (λ a r f' k. search rules))

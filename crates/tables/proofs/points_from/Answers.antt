@@ -5,11 +5,8 @@ use Rattle.tables.specs.RankLaws.{points_rank}
 use Rattle.tables.proofs.Search.{look_found, look_missed}
 use Rattle.tables.proofs.points_from.Goals as goal
 
-pub place-at-requires : goal.place-at-requires
-place-at-requires c = c.requires
-
 pub returns-then-at-used : goal.returns-then-at-used
 returns-then-at-used c = look_found c.requires (λ x. eqb (source x) c.args.block) (search points_rank) c.place-at.ensures c.if-at-used.true
 
-pub returns : goal.returns
-returns c = look_missed c.requires (λ x. eqb (source x) c.args.block) (search points_rank) c.place-at.ensures c.if-at-used.false
+pub returns-else-at-used : goal.returns-else-at-used
+returns-else-at-used c = look_missed c.requires (λ x. eqb (source x) c.args.block) (search points_rank) c.place-at.ensures c.if-at-used.false

@@ -1,14 +1,10 @@
-use Rattle.tables.proofs.Shift.{raised_start, raised_more, raised_whole}
+use native.Mathlib.Omega.{arith}
+use Rattle.std.proofs.Common.{rules}
+use Rattle.tables.proofs.Shift.{raised_start, raised_more}
 use Rattle.tables.proofs.raise.Goals as goal
 
 pub loop-i-init : goal.loop-i-init
-loop-i-init c = search raised_start
+loop-i-init g c = raised_start c.requires
 
 pub loop-i-preserved : goal.loop-i-preserved
-loop-i-preserved c = search raised_more
-
-pub shape_of-pointers : goal.shape_of-pointers
-shape_of-pointers c = c.loop-i.invariant.same
-
-pub returns : goal.returns
-returns c = search raised_whole
+loop-i-preserved g c = raised_more c.loop-i.invariant _ (omega arith) (search rules)

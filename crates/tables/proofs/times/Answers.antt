@@ -15,5 +15,5 @@ bounds-multiplicities-at c = let inside = place_within c.args.wanted c.requires.
 pub returns-then-stands : goal.returns-then-stands
 returns-then-stands c = times_there c.args.wanted c.requires.sorted c.requires.paired c.place-at.ensures (sym c.stands.ensures ∙ c.if-stands.true)
 
-pub returns : goal.returns
-returns c = times_missed c.args.wanted c.requires.sorted c.requires.paired c.place-at.ensures (sym c.stands.ensures ∙ c.if-stands.false)
+pub returns-else-stands : goal.returns-else-stands
+returns-else-stands c = times_missed c.args.wanted c.requires.sorted c.requires.paired c.place-at.ensures (sym c.stands.ensures ∙ c.if-stands.false)

@@ -1,31 +1,35 @@
 -- `transfer::read_sound` is READ on an audited card.
 use native.Mathlib.Omega.{arith}
-use mathlib.Core.Path.{refl}
+use mathlib.Core.Path.{refl, ap}
+use mathlib.Core.Bool.{not}
 use Rattle.card.specs.Plan.{here, later, out_after, places_after}
 use Rattle.card.specs.Calls.{read_plan}
 use Rattle.card.specs.Session.{plan, perform_sound}
-use Rattle.outcomes.proofs.Returned.{refuses, finishes}
+use Rattle.laws.specs.PromisesLaws.{is_refused, is_done}
 use Rattle.access.proofs.Blocks.{missing_told, access_there, closed_told, windows_low}
 use Rattle.windows.proofs.Windows.{opened_whole}
-use Rattle.transfer.proofs.Parts.{lies, lent_part, lent_size}
-use Rattle.std.proofs.Common.{ap}
-use mathlib.Core.Bool.{not}
+use Rattle.transfer.proofs.Parts.{right_size, lies, lent_part, lent_size}
 use Rattle.transfer.proofs.read_sound.Goals as goal
 
-pub returns-then-bad : goal.returns-then-bad
+pub returns-then-out-bytes-clause-performs : goal.returns-then-out-bytes-clause-performs
 unfolding perform_sound plan read_plan
-returns-then-bad c = refuses _ _ _ c.refused.ensures (here c.if-bad.true)
+returns-then-out-bytes-clause-performs c = is_refused _ _ _ (here c.if-out-bytes.true)
 
-pub returns-then-missing : goal.returns-then-missing
+pub returns-then-missing-clause-performs : goal.returns-then-missing-clause-performs
 unfolding perform_sound plan read_plan
-returns-then-missing c = search (refuses, later, here, missing_told)
+returns-then-missing-clause-performs c =
+    is_refused _ _ _ (later c.if-out-bytes.false (here (missing_told _ _ c.missing.ensures c.if-missing.true)))
 
-pub admits-opened-requires : goal.admits-opened-requires
-admits-opened-requires c = access_there _ c.requires c.missing.ensures c.if-missing.false
+pub admits-requires : goal.admits-requires
+admits-requires c = access_there _ c.requires c.missing.ensures c.if-missing.false
 
-pub returns-then-not-opened : goal.returns-then-not-opened
+pub returns-then-not-admits-clause-performs : goal.returns-then-not-admits-clause-performs
 unfolding perform_sound plan read_plan
-returns-then-not-opened c = search (refuses, later, missing_told, here, closed_told)
+returns-then-not-admits-clause-performs c =
+    is_refused _ _ _
+    (later c.if-out-bytes.false
+    (later (missing_told _ _ c.missing.ensures c.if-missing.false)
+    (here (closed_told _ _ _ _ _ c.admits.ensures (ap not c.if-not-admits.true)))))
 
 pub overflow_mul-at : goal.overflow_mul-at
 overflow_mul-at c = omega (arith, lies _ c.requires c.missing.ensures c.if-missing.false)
@@ -33,12 +37,22 @@ overflow_mul-at c = omega (arith, lies _ c.requires c.missing.ensures c.if-missi
 pub overflow_add-end : goal.overflow_add-end
 overflow_add-end c = omega (arith, lies _ c.requires c.missing.ensures c.if-missing.false)
 
-pub show-requires : goal.show-requires
-show-requires c = let l = lies _ c.requires c.missing.ensures c.if-missing.false in (omega arith, (l.within, lent_size _ c.args.out.now _ l c.if-bad.false))
+pub slice_bounds-copy-end : goal.slice_bounds-copy-end
+slice_bounds-copy-end c = rw c.shared.ensures.contents (omega (arith, lies _ c.requires c.missing.ensures c.if-missing.false))
+
+pub copy-requires : goal.copy-requires
+copy-requires c = rw c.shared.ensures.contents (lent_size _ (lies _ c.requires c.missing.ensures c.if-missing.false) (right_size _ c.if-out-bytes.false))
 
 pub open_window-requires : goal.open_window-requires
 open_window-requires c = windows_low _ c.requires c.missing.ensures c.if-missing.false
 
-pub returns : goal.returns
+pub returns-clause-performs : goal.returns-clause-performs
 unfolding perform_sound plan read_plan out_after places_after
-returns c = finishes _ _ _ c.done.ensures (c.if-bad.false, (missing_told _ _ c.missing.ensures c.if-missing.false, (closed_told _ _ _ _ _ c.admits-opened.ensures (ap not c.if-not-opened.false), tt))) (opened_whole _ _ _ _ _ c.open_window.ensures) (lent_part _ _ _ c.show.ensures) refl
+returns-clause-performs c =
+    is_done _ _ _ (
+      c.if-out-bytes.false,
+      (missing_told _ _ c.missing.ensures c.if-missing.false, (closed_told _ _ _ _ _ c.admits.ensures (ap not c.if-not-admits.false), tt)),
+    )
+    (opened_whole _ _ _ _ _ c.open_window.ensures)
+    (lent_part _ _ _ (rw c.shared.ensures.contents at c.copy.ensures))
+    refl

@@ -5,9 +5,6 @@ use Rattle.trees.proofs.lose.Goals as goal
 pub returns-then-count-eq0 : goal.returns-then-count-eq0
 returns-then-count-eq0 c = none c.if-count-eq0.true
 
-pub overflow_sub-rest : goal.overflow_sub-rest
-overflow_sub-rest c = c.requires.times_bound c.if-count-eq0.false
-
 pub returns-then-rest-ne0 : goal.returns-then-rest-ne0
 returns-then-rest-ne0 c = fewer c.if-count-eq0.false c.if-rest-ne0.true
 

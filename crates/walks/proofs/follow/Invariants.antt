@@ -5,7 +5,7 @@ use Rattle.walks.proofs.Following.{Following}
 use Rattle.walks.proofs.follow.Given as goal
 
 abbrev pub invariant-loop-at : goal.invariant-loop-at
-invariant-loop-at l = Following l.direction l.shut (take l.used l.pointers) l.initial.marks l.marks l.queue l.head l.end l.block l.at
+invariant-loop-at l = Following l.direction l.shut (take l.used l.pointers) l.initial.reached.marks l.reached.marks l.reached.queue l.head l.reached.count l.block l.at
 
 abbrev pub decreases-loop-at : goal.decreases-loop-at
 decreases-loop-at l = l.at

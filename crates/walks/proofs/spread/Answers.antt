@@ -5,8 +5,8 @@ use Rattle.walks.proofs.spread.Goals as goal
 pub loop-head-init : goal.loop-head-init
 loop-head-init c = record { walking = c.requires.walking; grown = grown_none }
 
-pub follow-tail-requires : goal.follow-tail-requires
-follow-tail-requires c = record { walkable = c.requires.walkable; linked = c.requires.linked; walking = c.loop-head.invariant.walking; head_lt_tail = omega arith }
+pub overflow_add-head : goal.overflow_add-head
+overflow_add-head c = omega (arith, walking_most c.loop-head.invariant.walking)
 
 pub loop-head-smaller : goal.loop-head-smaller
 loop-head-smaller c = omega (arith, walking_most c.loop-head.invariant.walking)

@@ -5,7 +5,7 @@ use Rattle.walks.specs.Walk.{Edge, Followed}
 use Rattle.walks.proofs.spread.Given as goal
 
 abbrev pub invariant-loop-head : goal.invariant-loop-head
-invariant-loop-head l = Followed (Edge l.direction l.shut (take l.used l.pointers)) l.initial.marks l.marks l.queue l.head l.tail
+invariant-loop-head l = Followed (Edge l.direction l.shut (take l.used l.pointers)) l.initial.reached.marks l.reached.marks l.reached.queue l.head l.reached.count
 
 abbrev pub decreases-loop-head : goal.decreases-loop-head
 decreases-loop-head l = 4096 - l.head
