@@ -20,7 +20,7 @@
  * archive says so.
  * The deepest call, negvask_unlocking(), takes 58,144 bytes of stack below
  * its caller, as `tests/run.sh --benchmark` prints; the deepest of a host
- * takes 38,768.
+ * takes 38,976.
  *
  * All state is in memory provided by the caller: a record of six
  * numbers and seven tables. The functions keep nothing between calls,

@@ -8,12 +8,15 @@ use lib.ListN.{length, get_or}
 use lib.Dec.{ltb}
 use borrow.Author.Tests.{lt-ltb, le-ltb, not-false}
 use Rattle.card.specs.Card.{Public, Card, card, allocated, allocated_flag}
+use Rattle.card.specs.Lent.{Shows, lent_card}
 use Rattle.card.specs.Soundness.{time_limit}
 use Rattle.card.specs.SoundCard.{SoundCard}
 use Rattle.laws.specs.SoundnessLaws.{allocated_below}
 use Rattle.card.specs.Access.{admits}
 use Rattle.card.specs.Calls.{root_at_host}
 use Rattle.card.specs.declared.Info.{Info}
+use Rattle.card.specs.declared.LentCard.{LentCard}
+use Rattle.card.specs.declared.SharedCard.{SharedCard}
 use Rattle.card.specs.declared.Port.{Port}
 use Rattle.card.specs.declared.Port.TheVariants.{Host, Service}
 use Rattle.card.specs.declared.Mode.{Mode}
@@ -37,6 +40,12 @@ module _ (p : Public) (b : ℕ) {t : Bool} (told : t ≡ not (allocated p b)) wh
 
   pub there : t ≡ false → b < p.info.blocks
   there e = allocated_below p b (not-false (allocated p b) (missing_told e))
+
+-- The test by the record and the flags that are shown is the card's.
+pub missing_shown : {s : SharedCard} {t : LentCard} → Shows s t → (b : ℕ) {m : Bool} → m ≡ not (allocated (card s.info s.flags.now [] [] [] [] [] []).public b)
+    → m ≡ not (allocated (lent_card t).public b)
+unfolding allocated
+missing_shown h b told = rw (h.info, h.flags) at told
 
 -- A block that is there has both windows.
 pub windows_there : {c : Card} (b : ℕ) {t : Bool} → SoundCard c → t ≡ not (allocated c.public b) → t ≡ false

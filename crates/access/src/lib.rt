@@ -7,15 +7,15 @@ ghost use Rattle.card.specs.declared.Credential.TheVariants.{Reference};
 ghost use Rattle.card.specs.Card.{Card, card, window_open};
 ghost use Rattle.card.specs.Access.{key_is, key_opens, opens_pointed, opens, admits};
 ghost use Rattle.card.specs.Calls.{missing, root_at_host};
-ghost use Rattle.card.specs.Lent.{lent_card};
+ghost use Rattle.card.specs.Lent.{shared_card};
 ghost use Rattle.access.specs.Accessible.{Referable, Accessible};
 
-use card::{Credential, Info, LentCard, Mode, Port};
+use card::{Credential, Info, Mode, Port, SharedCard};
 
 // ---- refusals 3 and 6
 
 // "3": the block is not below N or not allocated, told by the record and the flags.
-pub fn missing_in(info: Info, flags: &[u8], block: usize) -> bool
+pub fn missing(info: Info, flags: &[u8], block: usize) -> bool
     requires { length flags.now ≡ info.blocks }
     ensures { result ≡ missing (card info flags.now [] [] [] [] [] []).public block }
 {
@@ -23,13 +23,6 @@ pub fn missing_in(info: Info, flags: &[u8], block: usize) -> bool
         return true;
     }
     !flags::allocated(flags[block])
-}
-
-pub fn missing(card: &LentCard, block: usize) -> bool
-    requires { length card.now.flags.now ≡ card.now.info.blocks }
-    ensures { result ≡ missing (lent_card card.now).public block }
-{
-    missing_in(card.info, card.flags, block)
 }
 
 // "6": the block is a root and the call is a host's.
@@ -97,9 +90,9 @@ pub fn window_open(info: Info, windows: &[u64], mode: Mode, block: usize) -> boo
 }
 
 // The reference opens a block that has no key for the mode and is no root.
-fn reference_opens(card: &LentCard, mode: Mode, block: usize, reference: u16) -> bool
-    requires { Referable (lent_card card.now).public block }
-    ensures { result ≡ opens_pointed (lent_card card.now).public mode block (Reference reference) }
+fn reference_opens(card: SharedCard, mode: Mode, block: usize, reference: u16) -> bool
+    requires { Referable (shared_card card).public block }
+    ensures { result ≡ opens_pointed (shared_card card.entry).public mode block (Reference reference) }
 {
     let source = reference as usize;
     if card.info.blocks <= source {
@@ -116,9 +109,9 @@ fn reference_opens(card: &LentCard, mode: Mode, block: usize, reference: u16) ->
 // ---- the test
 
 // The credential opens the block for the mode.
-pub fn opens(card: &LentCard, mode: Mode, block: usize, credential: Credential) -> bool
-    requires { Accessible (lent_card card.now) block }
-    ensures { result ≡ opens (lent_card card.now) mode block credential }
+pub fn opens(card: SharedCard, mode: Mode, block: usize, credential: Credential) -> bool
+    requires { Accessible (shared_card card) block }
+    ensures { result ≡ opens (shared_card card.entry) mode block credential }
 {
     let flag = card.flags[block];
     let keyed = flags::has_key(flag, mode);
@@ -141,9 +134,15 @@ pub fn opens(card: &LentCard, mode: Mode, block: usize, credential: Credential) 
 }
 
 // The call may go on: at the service port always, at the host's where the credential opens the block.
-pub fn admits(port: Port, card: &LentCard, mode: Mode, block: usize, credential: Credential) -> bool
-    requires { Accessible (lent_card card.now) block }
-    ensures { result ≡ admits port (lent_card card.now) mode block credential }
+pub fn admits(
+    port: Port,
+    card: SharedCard,
+    mode: Mode,
+    block: usize,
+    credential: Credential,
+) -> bool
+    requires { Accessible (shared_card card) block }
+    ensures { result ≡ admits port (shared_card card.entry) mode block credential }
 {
     match port {
         Port::Host => opens(card, mode, block, credential),

@@ -62,19 +62,19 @@ module _ (port : Port) (c : Card) (o : AllocOperands) (places : List ℕ) where
     unfolding shared_checks alloc_plan
     bad_operand h = here (sym e1 ∙ h)
 
-    module _ (h1 : t1 ≡ false) {t2 : Bool} (e2 : t2 ≡ missing c.public o.reference) where
+    module _ (h1 : t1 ≡ false) {t2 : Bool} (e2 : t2 ≡ missing (card c.public.info c.public.flags [] [] [] [] [] []).public o.reference) where
       pub reference_missing : t2 ≡ true → FirstHolds shared NotAllocated
-      unfolding shared_checks alloc_plan
+      unfolding shared_checks alloc_plan allocated
       reference_missing h = later (sym e1 ∙ h1) (here (missing_told c.public _ e2 h))
 
       module _ (h2 : t2 ≡ false) {t3 : Bool} (e3 : t3 ≡ root_at_host port (card c.public.info [] [] [] [] [] [] []).public o.reference) where
         pub root_reference : t3 ≡ true → FirstHolds shared IsRoot
-        unfolding shared_checks alloc_plan
+        unfolding shared_checks alloc_plan allocated
         root_reference h = later (sym e1 ∙ h1) (later (missing_told c.public _ e2 h2) (here (root_told port c.public _ e3 h)))
 
         module _ (h3 : t3 ≡ false) {t4 : Bool} (e4 : t4 ≡ admits port c Writing o.reference o.credential) where
           pub reference_shut : not t4 ≡ true → FirstHolds shared NotOpened
-          unfolding shared_checks alloc_plan
+          unfolding shared_checks alloc_plan allocated
           reference_shut h =
               later (sym e1 ∙ h1) (later (missing_told c.public _ e2 h2)
               (later (root_told port c.public _ e3 h3)
@@ -85,7 +85,7 @@ module _ (port : Port) (c : Card) (o : AllocOperands) (places : List ℕ) where
             free_counted = e5 ∙ ap (λ (xs : List ℕ). length xs) (flags_free c.public s.shaped.has_lengths.flags)
 
             pub too_few_blocks : n < o.count → FirstHolds shared TooFewBlocks
-            unfolding shared_checks alloc_plan
+            unfolding shared_checks alloc_plan allocated
             too_few_blocks h =
                 later (sym e1 ∙ h1) (later (missing_told c.public _ e2 h2)
                 (later (root_told port c.public _ e3 h3)
@@ -93,7 +93,7 @@ module _ (port : Port) (c : Card) (o : AllocOperands) (places : List ℕ) where
                 (here (lt-ltb (length (free_blocks c.public)) o.count (omega (arith, free_counted)))))))
 
             pub shared_passes : o.count ≤ n → NoneHolds shared
-            unfolding shared_checks alloc_plan
+            unfolding shared_checks alloc_plan allocated
             shared_passes h = (
               sym e1 ∙ h1,
               (

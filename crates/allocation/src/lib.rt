@@ -4,7 +4,7 @@
 ghost use Rattle.std.specs.Prelude.{◌≡◌, [], length, ◌+◌, ◌≤◌};
 ghost use Rattle.card.specs.Lists.{numbers_from};
 ghost use Rattle.card.specs.Contents.{overwrite};
-ghost use Rattle.card.specs.Lent.{Performs, SameTables, lent_card};
+ghost use Rattle.card.specs.Lent.{Performs, SameTables, lent_card, shared_card};
 ghost use Rattle.card.specs.SoundCard.{SoundCard};
 ghost use Rattle.card.specs.Plan.{first, changes};
 ghost use Rattle.card.specs.Calls.{wanted, picks, take_all};
@@ -18,7 +18,9 @@ ghost use Rattle.allocation.specs.Taking.{CanTake, BlockTaken, CanTakeAll};
 ghost use Rattle.allocation.specs.SharedChecks.{bad_operands, shared_checks};
 ghost use Rattle.allocation.specs.RunChecked.{run_checked};
 
-use card::{AllocOperands, Answer, Info, LentCard, MOST_BLOCKS, Mode, NO_HINT, Port, Refusal};
+use card::{
+    AllocOperands, Answer, Info, LentCard, MOST_BLOCKS, Mode, NO_HINT, Port, Refusal, SharedCard,
+};
 
 // ---- the walk
 
@@ -137,13 +139,13 @@ fn wanted(hint: u16) -> usize
 
 // The checks that ALLOC and ALLOC_CONTIG share: those of ALLOC before the last, which looks at the places for pointers.
 fn shared_check(
-    card: &LentCard,
+    card: SharedCard,
     port: Port,
     o: AllocOperands,
     places: &[u16],
 ) -> Result<(), Refusal>
-    requires { SoundCard (lent_card card.now) }
-    ensures { result ≡ by_refusal (first (shared_checks port (lent_card card.now) o (length places.now))) }
+    requires { SoundCard (shared_card card) }
+    ensures { result ≡ by_refusal (first (shared_checks port (shared_card card.entry) o (length places.now))) }
 {
     let credential = o.credential;
     let from = o.reference as usize;
@@ -151,7 +153,7 @@ fn shared_check(
     if bad_operands(card.info, o.hint, o.count, places.len()) {
         return Err(Refusal::BadOperand);
     }
-    if access::missing(card, from) {
+    if access::missing(card.info, card.flags, from) {
         return Err(Refusal::NotAllocated);
     }
     if access::root_at_host(port, card.info, from) {
@@ -167,9 +169,14 @@ fn shared_check(
 }
 
 // The checks of ALLOC.
-fn alloc_check(card: &LentCard, port: Port, o: AllocOperands, places: &[u16]) -> Result<(), Refusal>
-    requires { SoundCard (lent_card card.now) }
-    ensures { result ≡ checked port (lent_card card.now) (request (Alloc o) [] [] places.now) }
+fn alloc_check(
+    card: SharedCard,
+    port: Port,
+    o: AllocOperands,
+    places: &[u16],
+) -> Result<(), Refusal>
+    requires { SoundCard (shared_card card) }
+    ensures { result ≡ checked port (shared_card card.entry) (request (Alloc o) [] [] places.now) }
 {
     shared_check(card, port, o, places)?;
     if card.pointers.len() < card.info.used + (o.count as usize) {
@@ -184,22 +191,23 @@ pub fn alloc_sound(card: &mut LentCard, port: Port, o: AllocOperands, places: &m
     ensures same { SameTables card.old card.new }
     ensures performs { Performs (λ c. perform_sound port c (request (Alloc o) [] [] places.old)) card.old card.new result [] places.new }
 {
-    alloc_check(card, port, o, places)?;
+    let view = card.shared();
+    alloc_check(view, port, o, places)?;
     let count = o.count as usize;
-    pick_all(card.shared().flags, wanted(o.hint), count, places);
+    pick_all(view.flags, wanted(o.hint), count, places);
     take_all(card, o.reference, &places[..count]);
     Ok(None)
 }
 
 // The checks of ALLOC_CONTIG, and the first block of the run that they find.
 fn alloc_contig_check(
-    card: &LentCard,
+    card: SharedCard,
     port: Port,
     o: AllocOperands,
     places: &[u16],
 ) -> Result<usize, Refusal>
-    requires { SoundCard (lent_card card.now) }
-    ensures { result ≡ run_checked (checked port (lent_card card.now) (request (AllocContig o) [] [] places.now)) (nearest_of (wanted o.hint) (starts_in card.now.flags.now o.count)) }
+    requires { SoundCard (shared_card card) }
+    ensures { result ≡ run_checked (checked port (shared_card card.entry) (request (AllocContig o) [] [] places.now)) (nearest_of (wanted o.hint) (starts_in card.entry.flags.now o.count)) }
 {
     shared_check(card, port, o, places)?;
     let count = o.count as usize;
@@ -223,7 +231,7 @@ pub fn alloc_contig_sound(
     ensures same { SameTables card.old card.new }
     ensures performs { Performs (λ c. perform_sound port c (request (AllocContig o) [] [] places.old)) card.old card.new result [] places.new }
 {
-    let first = alloc_contig_check(card, port, o, places)?;
+    let first = alloc_contig_check(card.shared(), port, o, places)?;
     let count = o.count as usize;
     list_run(first, count, places);
     take_all(card, o.reference, &places[..count]);

@@ -38,15 +38,14 @@ enum Fault {
     Fourth(u32, u16, usize, u32),
 }
 
-// The good card's record: three pointers are in use.
-const GOOD: Info = Info {
-    blocks: 16,
-    roots: 1,
-    bytes: 512,
-    used: 3,
-    time: 100,
-    total: 0,
-};
+// The good card's record, of such N, R and B: three pointers are in use.
+fn good_record(blocks: usize, roots: usize, bytes: usize) -> Info {
+    tables::with_time(
+        tables::with_used(tables::fresh(blocks, roots, bytes), 3),
+        100,
+        0,
+    )
+}
 
 // Audits the card and writes its line.
 fn show(rt: &impl Print, name: &[u8], card: SharedCard) {
@@ -61,7 +60,7 @@ fn show(rt: &impl Print, name: &[u8], card: SharedCard) {
 // The good card with one fault: root 0, block 1 with both keys, block 2 without, block 6 waiting, pointers
 // 0 to 1, 0 to 2, made twice, and 1 to 2, and block 0's read window at its latest end.
 fn damage(rt: &impl Print, name: &[u8], fault: Fault) {
-    let mut info = GOOD;
+    let mut info = good_record(16, 1, 512);
     let mut flags = [0u8; 16];
     let mut keys = [0u64; 64];
     let mut counts = [0u32; 16];
@@ -85,12 +84,12 @@ fn damage(rt: &impl Print, name: &[u8], fault: Fault) {
     windows[0] = 86500;
     match fault {
         Fault::Nothing => {}
-        Fault::Blocks(to) => info.blocks = to,
-        Fault::Roots(to) => info.roots = to,
-        Fault::Bytes(to) => info.bytes = to,
-        Fault::Used(to) => info.used = to,
-        Fault::Time(to) => info.time = to,
-        Fault::Total(to) => info.total = to,
+        Fault::Blocks(to) => info = good_record(to, 1, 512),
+        Fault::Roots(to) => info = good_record(16, to, 512),
+        Fault::Bytes(to) => info = good_record(16, 1, to),
+        Fault::Used(to) => info = tables::with_used(info, to),
+        Fault::Time(to) => info = tables::with_time(info, to, info.total),
+        Fault::Total(to) => info = tables::with_time(info, info.time, to),
         Fault::Flag(at, to) => {
             if at < 16 {
                 flags[at] = to;
@@ -122,7 +121,7 @@ fn damage(rt: &impl Print, name: &[u8], fault: Fault) {
             }
         }
         Fault::Fourth(w, times, b, count) => {
-            info.used = 4;
+            info = tables::with_used(info, 4);
             pointers[3] = w;
             multiplicities[3] = times;
             if b < 16 {
@@ -257,7 +256,7 @@ fn judge_lacking(rt: &impl Print, name: &[u8], lack: Lack) {
     let mut flags = [0u8; 16];
     flags[0] = 1;
     let card = SharedCard {
-        info: Info { used: 0, ..GOOD },
+        info: tables::with_time(tables::fresh(16, 1, 512), 100, 0),
         flags: &flags,
         keys: &[0u64; 64],
         counts: &[0u32; 16],

@@ -30,6 +30,13 @@ made_by pointers used a b = cond (contains (pointer a b) (take used pointers)) (
 abbrev pub taken_by : List ℕ → List ℕ → ℕ → ℕ → ℕ → Change
 taken_by pointers multiplicities used a b = cond (eqb (beside (pointer a b) (take used pointers) (take used multiplicities)) 1) (drop_pointer a b) (lower_pointer a b)
 
+-- A change of the counts, the pointers and their multiplicities, with the record that it leaves.
+abbrev pub ChangesPointers : Change → Info → Lent → Lent → Lent → Info → Type 0
+ChangesPointers step info counts pointers multiplicities after =
+    (flags keys windows contents : List ℕ)
+    → card after flags keys counts.exit pointers.exit multiplicities.exit windows contents
+    ≡ change (card info flags keys counts.entry pointers.entry multiplicities.entry windows contents) step
+
 -- ---- blocks
 
 -- A block is freed and waits: a change of its flags, keys and windows.

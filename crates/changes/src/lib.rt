@@ -2,54 +2,65 @@
 #![tactic(auto)]
 
 ghost use Rattle.std.specs.Prelude.{◌≡◌, ◌+◌, ◌*◌, ◌≤◌, ◌<◌, length, get_or};
-ghost use Rattle.card.specs.Lent.{changed, lent_card, SameTables};
+ghost use Rattle.card.specs.Lent.{changed};
 ghost use Rattle.card.specs.Pointers.{pointer};
-ghost use Rattle.card.specs.Plan.{change};
-ghost use Rattle.changes.specs.OnTables.{CanMakePointer, CanTakePointer, made_by, taken_by, FreesBlock};
+ghost use Rattle.changes.specs.OnTables.{CanMakePointer, CanTakePointer, made_by, taken_by, ChangesPointers, FreesBlock};
 
-use card::{LentCard, WAITING_FLAGS};
+use card::{Info, WAITING_FLAGS};
 
-// A pointer once more, and its destination counted once more: one that is there is raised and moves nothing, another takes a place.
-pub fn make_pointer(card: &mut LentCard, source: u16, destination: u16)
-    requires can_make_pointer { CanMakePointer card.old.pointers.now card.old.multiplicities.now card.old.info.used (pointer source destination) }
-    requires destination_in_bounds { destination < length card.old.counts.now }
-    requires destination_bound { get_or card.old.counts.now destination 0 < 4294967295 }
-    ensures same { SameTables card.old card.new }
-    ensures makes { lent_card card.new ≡ change (lent_card card.old) (made_by card.old.pointers.now card.old.info.used source destination) }
+// A pointer once more, and its destination counted once more, whatever the other tables hold: one that is there is raised and moves nothing,
+// another takes a place.
+pub fn make_pointer(
+    info: Info,
+    counts: &mut [u32],
+    pointers: &mut [u32],
+    multiplicities: &mut [u16],
+    source: u16,
+    destination: u16,
+) -> Info
+    requires can_make_pointer { CanMakePointer pointers.old multiplicities.old info.used (pointer source destination) }
+    requires destination_in_bounds { destination < length counts.old }
+    requires destination_bound { get_or counts.old destination 0 < 4294967295 }
+    ensures { ChangesPointers (made_by pointers.old info.used source destination) info (changed counts.old counts.new) (changed pointers.old pointers.new) (changed multiplicities.old multiplicities.new) result }
 {
-    let used = card.info.used;
+    let used = info.used;
     let to = destination as usize;
     let pointer = (source as u32) * 65536 + (destination as u32);
-    let at = tables::place(card.shared().pointers, used, pointer);
-    let stands = tables::stands(card.shared().pointers, used, at, pointer);
-    card.counts[to] += 1;
-    if stands {
-        card.multiplicities[at] += 1;
-        return;
+    let at = tables::place(pointers, used, pointer);
+    counts[to] += 1;
+    if tables::stands(pointers, used, at, pointer) {
+        multiplicities[at] += 1;
+        return info;
     }
-    tables::put(card.pointers, card.multiplicities, used, at, pointer);
-    card.info.used = used + 1;
+    tables::put(pointers, multiplicities, used, at, pointer);
+    tables::with_used(info, used + 1)
 }
 
-// A pointer once less, and its destination counted once less: the last of several goes from its place.
-pub fn take_pointer(card: &mut LentCard, source: u16, destination: u16)
-    requires can_take_pointer { CanTakePointer card.old.pointers.now card.old.multiplicities.now card.old.info.used (pointer source destination) }
-    requires destination_in_bounds { destination < length card.old.counts.now }
-    requires bound { 1 ≤ get_or card.old.counts.now destination 0 }
-    ensures same { SameTables card.old card.new }
-    ensures takes { lent_card card.new ≡ change (lent_card card.old) (taken_by card.old.pointers.now card.old.multiplicities.now card.old.info.used source destination) }
+// A pointer once less, and its destination counted once less, whatever the other tables hold: the last of several goes from its place.
+pub fn take_pointer(
+    info: Info,
+    counts: &mut [u32],
+    pointers: &mut [u32],
+    multiplicities: &mut [u16],
+    source: u16,
+    destination: u16,
+) -> Info
+    requires can_take_pointer { CanTakePointer pointers.old multiplicities.old info.used (pointer source destination) }
+    requires destination_in_bounds { destination < length counts.old }
+    requires bound { 1 ≤ get_or counts.old destination 0 }
+    ensures { ChangesPointers (taken_by pointers.old multiplicities.old info.used source destination) info (changed counts.old counts.new) (changed pointers.old pointers.new) (changed multiplicities.old multiplicities.new) result }
 {
-    let used = card.info.used;
+    let used = info.used;
     let to = destination as usize;
     let pointer = (source as u32) * 65536 + (destination as u32);
-    let at = tables::place(card.shared().pointers, used, pointer);
-    card.counts[to] -= 1;
-    if card.multiplicities[at] != 1 {
-        card.multiplicities[at] -= 1;
-        return;
+    let at = tables::place(pointers, used, pointer);
+    counts[to] -= 1;
+    if multiplicities[at] != 1 {
+        multiplicities[at] -= 1;
+        return info;
     }
-    tables::take_away(card.pointers, card.multiplicities, used, at);
-    card.info.used = used - 1;
+    tables::take_away(pointers, multiplicities, used, at);
+    tables::with_used(info, used - 1)
 }
 
 // A block waits: its flags become those of a waiting block, its keys and windows 0, whatever the other tables hold.

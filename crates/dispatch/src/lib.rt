@@ -31,9 +31,9 @@ pub fn perform_sound(
         Call::KeyWrite(o) => keys::key_sound(card, port, Mode::Writing, o),
         Call::Renew(o) => keys::renew_sound(card, o),
         Call::Force(o) => keys::force_sound(card, o),
-        Call::Free => status::free_sound(card),
+        Call::Free => status::free_sound(card.shared()),
         Call::Tick(o) => status::tick_sound(card, o),
-        Call::Rent(o) => status::rent_sound(card, o),
+        Call::Rent(o) => status::rent_sound(card.shared(), o),
         Call::Sweep(o) => sweeping::sweep_sound(card, o),
         Call::Audit => Ok(None),
     }

@@ -78,13 +78,14 @@ pub fn key_sound(card: &mut LentCard, port: Port, mode: Mode, o: KeyOperands) ->
     ensures performs { Performs (λ c. perform_sound port c (request (key_call mode o) [] [] [])) card.old card.new result [] [] }
 {
     let block = o.block as usize;
-    if access::missing(card, block) {
+    let view = card.shared();
+    if access::missing(view.info, view.flags, block) {
         return Err(Refusal::NotAllocated);
     }
     if access::root_at_host(port, card.info, block) {
         return Err(Refusal::IsRoot);
     }
-    if !access::admits(port, card, Mode::Writing, block, o.credential) {
+    if !access::admits(port, view, Mode::Writing, block, o.credential) {
         return Err(Refusal::NotOpened);
     }
     card.flags[block] = keyed_flags(card.flags[block], mode, o.key);
@@ -114,12 +115,13 @@ pub fn renew_sound(card: &mut LentCard, o: RenewOperands) -> Answer
     if (1 < o.mode) | (o.interval == 0) | (LONGEST_INTERVAL < o.interval) {
         return Err(Refusal::BadOperand);
     }
-    if access::missing(card, block) {
+    let view = card.shared();
+    if access::missing(view.info, view.flags, block) {
         return Err(Refusal::NotAllocated);
     }
     let mode = mode_of(o.mode);
     // A key opens no block without a key for the mode.
-    if !access::opens(card, mode, block, Credential::Key(o.high, o.low)) {
+    if !access::opens(view, mode, block, Credential::Key(o.high, o.low)) {
         return Err(Refusal::NotOpened);
     }
     windows::set_window(card.info, card.windows, mode, block, o.interval);
@@ -134,7 +136,8 @@ pub fn force_sound(card: &mut LentCard, o: ForceOperands) -> Answer
     ensures performs { (port : Port) → Performs (λ c. perform_sound port c (request (Call.Force o) [] [] [])) card.old card.new result [] [] }
 {
     let block = o.block as usize;
-    if access::missing(card, block) {
+    let view = card.shared();
+    if access::missing(view.info, view.flags, block) {
         return Err(Refusal::NotAllocated);
     }
     windows::close_windows(card.windows, block);

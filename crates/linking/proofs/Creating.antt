@@ -9,7 +9,7 @@ use lib.ListN.{length, get_or}
 use borrow.Author.Tests.{eqb-false, not-false}
 use Rattle.laws.specs.ListsLaws.{or_false_right}
 use Rattle.card.specs.Pointers.{pointer}
-use Rattle.card.specs.Card.{Card, card, is_root, multiplicity, highest_multiplicity, points_to}
+use Rattle.card.specs.Card.{Card, card, allocated, is_root, multiplicity, highest_multiplicity, points_to}
 use Rattle.card.specs.SoundCard.{SoundCard}
 use Rattle.laws.specs.SoundnessLaws.{allocated_below}
 use Rattle.card.specs.Access.{admits}
@@ -45,26 +45,26 @@ module _ (port : Port) (c : Card) (o : CreateOperands) where
   abbrev create_request : Request
   create_request = request (Create o) [] [] []
 
-  module _ {t1 : Bool} (e1 : t1 ≡ missing c.public o.source) where
+  module _ {t1 : Bool} (e1 : t1 ≡ missing (card c.public.info c.public.flags [] [] [] [] [] []).public o.source) where
     pub create_source_missing : t1 ≡ true → Refuses port c create_request NotAllocated
-    unfolding plan create_plan
+    unfolding plan create_plan allocated
     create_source_missing h = here (missing_told c.public _ e1 h)
 
-    module _ (h1 : t1 ≡ false) {t2 : Bool} (e2 : t2 ≡ missing c.public o.destination) where
+    module _ (h1 : t1 ≡ false) {t2 : Bool} (e2 : t2 ≡ missing (card c.public.info c.public.flags [] [] [] [] [] []).public o.destination) where
       pub create_destination_missing : t2 ≡ true → Refuses port c create_request NotAllocated
-      unfolding plan create_plan
+      unfolding plan create_plan allocated
       create_destination_missing h = later (missing_told c.public _ e1 h1) (here (missing_told c.public _ e2 h))
 
       module _ (h2 : t2 ≡ false) {t3 : Bool} (e3 : t3 ≡ root_at_host port (card c.public.info [] [] [] [] [] [] []).public o.source) where
         pub root_end : is_root c.public o.destination || t3 ≡ true → Refuses port c create_request IsRoot
-        unfolding plan create_plan
+        unfolding plan create_plan allocated
         root_end h =
             later (missing_told c.public _ e1 h1) (later (missing_told c.public _ e2 h2)
             (here (told_or (is_root c.public o.destination) (root_told port c.public _ e3 refl) h)))
 
         module _ (h3 : is_root c.public o.destination || t3 ≡ false) {t4 : Bool} (e4 : t4 ≡ admits port c Writing o.source o.credential) where
           pub create_source_shut : not t4 ≡ true → Refuses port c create_request NotOpened
-          unfolding plan create_plan
+          unfolding plan create_plan allocated
           create_source_shut h =
               later (missing_told c.public _ e1 h1) (later (missing_told c.public _ e2 h2)
               (later (told_or (is_root c.public o.destination) (root_told port c.public _ e3 refl) h3)
@@ -72,7 +72,7 @@ module _ (port : Port) (c : Card) (o : CreateOperands) where
 
           module _ (h4 : not t4 ≡ false) {t5 : Bool} (e5 : t5 ≡ admits port c Writing o.destination o.second) where
             pub destination_shut : not t5 ≡ true → Refuses port c create_request NotOpened
-            unfolding plan create_plan
+            unfolding plan create_plan allocated
             destination_shut h =
                 later (missing_told c.public _ e1 h1) (later (missing_told c.public _ e2 h2)
                 (later (told_or (is_root c.public o.destination) (root_told port c.public _ e3 refl) h3)
@@ -84,7 +84,7 @@ module _ (port : Port) (c : Card) (o : CreateOperands) where
               highest = ap (λ (n : ℕ). eqb n highest_multiplicity) (times_whole c o.source o.destination e6)
 
               pub cannot_point : eqb o.source o.destination || eqb times highest_multiplicity ≡ true → Refuses port c create_request CannotPoint
-              unfolding plan create_plan
+              unfolding plan create_plan allocated
               cannot_point h =
                   later (missing_told c.public _ e1 h1) (later (missing_told c.public _ e2 h2)
                   (later (told_or (is_root c.public o.destination) (root_told port c.public _ e3 refl) h3)
@@ -93,6 +93,7 @@ module _ (port : Port) (c : Card) (o : CreateOperands) where
                   (here (told_or (eqb o.source o.destination) highest h))))))
 
               pub six_passed : eqb o.source o.destination || eqb times highest_multiplicity ≡ false → SixPassed port c o times
+              unfolding allocated
               six_passed h = record {
                 source_there = missing_told c.public _ e1 h1;
                 destination_there = missing_told c.public _ e2 h2;

@@ -37,20 +37,24 @@ use Rattle.linking.proofs.Points.{Times, points_whole, not_not}
 -- ---- the checks that DELETE and DELETE_TREE have in common
 
 module _ (port : Port) (c : Card) (o : DeleteOperands) where
-  module _ {t1 : Bool} (e1 : t1 ≡ missing c.public o.source) where
+  module _ {t1 : Bool} (e1 : t1 ≡ missing (card c.public.info c.public.flags [] [] [] [] [] []).public o.source) where
     pub source_missing : t1 ≡ true → FirstHolds (removal port c o) NotAllocated
+    unfolding allocated
     source_missing h = here (missing_told c.public _ e1 h)
 
-    module _ (h1 : t1 ≡ false) {t2 : Bool} (e2 : t2 ≡ missing c.public o.destination) where
+    module _ (h1 : t1 ≡ false) {t2 : Bool} (e2 : t2 ≡ missing (card c.public.info c.public.flags [] [] [] [] [] []).public o.destination) where
       pub destination_missing : t2 ≡ true → FirstHolds (removal port c o) NotAllocated
+      unfolding allocated
       destination_missing h = later (missing_told c.public _ e1 h1) (here (missing_told c.public _ e2 h))
 
       module _ (h2 : t2 ≡ false) {t3 : Bool} (e3 : t3 ≡ root_at_host port (card c.public.info [] [] [] [] [] [] []).public o.source) where
         pub root_source : t3 ≡ true → FirstHolds (removal port c o) IsRoot
+        unfolding allocated
         root_source h = later (missing_told c.public _ e1 h1) (later (missing_told c.public _ e2 h2) (here (root_told port c.public _ e3 h)))
 
         module _ (h3 : t3 ≡ false) {t4 : Bool} (e4 : t4 ≡ admits port c Writing o.source o.credential) where
           pub source_shut : not t4 ≡ true → FirstHolds (removal port c o) NotOpened
+          unfolding allocated
           source_shut h =
               later (missing_told c.public _ e1 h1) (later (missing_told c.public _ e2 h2)
               (later (root_told port c.public _ e3 h3)
@@ -61,6 +65,7 @@ module _ (port : Port) (c : Card) (o : DeleteOperands) where
             absent_told = ap not (points_whole c o.source o.destination e5 s) ∙ not_not (eqb times 0)
 
             pub no_pointer : times ≡ 0 → FirstHolds (removal port c o) NoPointer
+            unfolding allocated
             no_pointer h =
                 later (missing_told c.public _ e1 h1) (later (missing_told c.public _ e2 h2)
                 (later (root_told port c.public _ e3 h3)
@@ -68,6 +73,7 @@ module _ (port : Port) (c : Card) (o : DeleteOperands) where
                 (here (absent_told ∙ eq-eqb _ _ h)))))
 
             pub removal_passes : (times ≡ 0 → ⊥) → NoneHolds (removal port c o)
+            unfolding allocated
             removal_passes h = (
               missing_told c.public _ e1 h1,
               (

@@ -2,7 +2,7 @@
 #![tactic(auto)]
 
 ghost use Rattle.std.specs.Prelude.{◌≡◌, []};
-ghost use Rattle.card.specs.Lent.{Performs, SameTables, lent_card};
+ghost use Rattle.card.specs.Lent.{Performs, SameTables, lent_card, shared_card};
 ghost use Rattle.card.specs.Card.{multiplicity};
 ghost use Rattle.card.specs.SoundCard.{SoundCard};
 ghost use Rattle.card.specs.Plan.{first};
@@ -14,13 +14,14 @@ ghost use Rattle.linking.specs.Removal.{removal};
 
 use card::{
     Answer, CreateOperands, DeleteOperands, HIGHEST_MULTIPLICITY, LentCard, Mode, Port, Refusal,
+    SharedCard,
 };
 
 // How often the source points to the destination.
-fn multiplicity(card: &LentCard, source: u16, destination: u16) -> u16
-    requires sorted { Sorted card.now.pointers.now card.now.info.used }
-    requires paired { Paired card.now.pointers.now card.now.multiplicities.now }
-    ensures { result ≡ multiplicity (lent_card card.now).public source destination }
+fn multiplicity(card: SharedCard, source: u16, destination: u16) -> u16
+    requires sorted { Sorted card.pointers.now card.info.used }
+    requires paired { Paired card.pointers.now card.multiplicities.now }
+    ensures { result ≡ multiplicity (shared_card card.entry).public source destination }
 {
     let pointer = (source as u32) * 65536 + (destination as u32);
     tables::times(card.pointers, card.multiplicities, card.info.used, pointer)
@@ -29,9 +30,9 @@ fn multiplicity(card: &LentCard, source: u16, destination: u16) -> u16
 // ---- CREATE
 
 // The checks of CREATE.
-fn create_check(card: &LentCard, port: Port, o: CreateOperands) -> Result<(), Refusal>
-    requires { SoundCard (lent_card card.now) }
-    ensures { result ≡ checked port (lent_card card.now) (request (Create o) [] [] []) }
+fn create_check(card: SharedCard, port: Port, o: CreateOperands) -> Result<(), Refusal>
+    requires { SoundCard (shared_card card) }
+    ensures { result ≡ checked port (shared_card card.entry) (request (Create o) [] [] []) }
 {
     let first = o.credential;
     let second = o.second;
@@ -39,10 +40,10 @@ fn create_check(card: &LentCard, port: Port, o: CreateOperands) -> Result<(), Re
     let to = o.destination as usize;
     let source_mode = Mode::Writing;
     let destination_mode = Mode::Writing;
-    if access::missing(card, from) {
+    if access::missing(card.info, card.flags, from) {
         return Err(Refusal::NotAllocated);
     }
-    if access::missing(card, to) {
+    if access::missing(card.info, card.flags, to) {
         return Err(Refusal::NotAllocated);
     }
     if (to < card.info.roots) | access::root_at_host(port, card.info, from) {
@@ -70,25 +71,32 @@ pub fn create_sound(card: &mut LentCard, port: Port, o: CreateOperands) -> Answe
     ensures same { SameTables card.old card.new }
     ensures performs { Performs (λ c. perform_sound port c (request (Create o) [] [] [])) card.old card.new result [] [] }
 {
-    create_check(card, port, o)?;
-    changes::make_pointer(card, o.source, o.destination);
+    create_check(card.shared(), port, o)?;
+    card.info = changes::make_pointer(
+        card.info,
+        card.counts,
+        card.pointers,
+        card.multiplicities,
+        o.source,
+        o.destination,
+    );
     Ok(None)
 }
 
 // ---- DELETE
 
 // The checks that DELETE and DELETE_TREE have in common. Those of other calls begin alike: each call has an order of refusals of its own.
-pub fn removal_check(card: &LentCard, port: Port, o: DeleteOperands) -> Result<(), Refusal>
-    requires { SoundCard (lent_card card.now) }
-    ensures { result ≡ by_refusal (first (removal port (lent_card card.now) o)) }
+pub fn removal_check(card: SharedCard, port: Port, o: DeleteOperands) -> Result<(), Refusal>
+    requires { SoundCard (shared_card card) }
+    ensures { result ≡ by_refusal (first (removal port (shared_card card.entry) o)) }
 {
     let credential = o.credential;
     let from = o.source as usize;
     let to = o.destination as usize;
-    if access::missing(card, from) {
+    if access::missing(card.info, card.flags, from) {
         return Err(Refusal::NotAllocated);
     }
-    if access::missing(card, to) {
+    if access::missing(card.info, card.flags, to) {
         return Err(Refusal::NotAllocated);
     }
     if access::root_at_host(port, card.info, from) {
@@ -104,9 +112,9 @@ pub fn removal_check(card: &LentCard, port: Port, o: DeleteOperands) -> Result<(
 }
 
 // The checks of DELETE.
-fn delete_check(card: &LentCard, port: Port, o: DeleteOperands) -> Result<(), Refusal>
-    requires { SoundCard (lent_card card.now) }
-    ensures { result ≡ checked port (lent_card card.now) (request (Delete o) [] [] []) }
+fn delete_check(card: SharedCard, port: Port, o: DeleteOperands) -> Result<(), Refusal>
+    requires { SoundCard (shared_card card) }
+    ensures { result ≡ checked port (shared_card card.entry) (request (Delete o) [] [] []) }
 {
     removal_check(card, port, o)?;
     if card.counts[o.destination as usize] != 1 {
@@ -124,9 +132,16 @@ pub fn delete_sound(card: &mut LentCard, port: Port, o: DeleteOperands) -> Answe
     ensures same { SameTables card.old card.new }
     ensures performs { Performs (λ c. perform_sound port c (request (Delete o) [] [] [])) card.old card.new result [] [] }
 {
-    delete_check(card, port, o)?;
+    delete_check(card.shared(), port, o)?;
     let last = card.counts[o.destination as usize] == 1;
-    changes::take_pointer(card, o.source, o.destination);
+    card.info = changes::take_pointer(
+        card.info,
+        card.counts,
+        card.pointers,
+        card.multiplicities,
+        o.source,
+        o.destination,
+    );
     if last {
         changes::free_block(card.flags, card.keys, card.windows, o.destination);
         return Ok(Some(1));

@@ -65,6 +65,11 @@ module _ (port : ℕ) {w : Option Port} (found : w ≡ wire_of port) where
   unfolding decode_at
   decodes_at kind xs a p = rw (← found, a) p
 
+-- There is no call.
+pub call_bad : (port : ℕ) {d : Decoding} {bad : BadRecord} → d ≡ Err bad → Err bad ≡ at_port port d
+unfolding at_port
+call_bad port e = rw e
+
 -- ---- the call of operands
 
 module _ {A : Type 0} (port : ℕ) (at : Port) (make : A → Call) {r : Result A BadRecord} where

@@ -5,7 +5,7 @@ ghost use Rattle.std.specs.Prelude.{◌≡◌, [], ◌*◌, ◌≤◌, length, g
 ghost use Rattle.card.specs.Lists.{any};
 ghost use Rattle.card.specs.Pointers.{pointer};
 ghost use Rattle.card.specs.Card.{key_flag};
-ghost use Rattle.card.specs.Lent.{Performs, SameTables, lent_card, changed};
+ghost use Rattle.card.specs.Lent.{Performs, SameTables, lent_card, shared_card, changed};
 ghost use Rattle.card.specs.Plan.{changes};
 ghost use Rattle.card.specs.SoundCard.{SoundCard};
 ghost use Rattle.card.specs.Session.{request, perform_sound};
@@ -16,7 +16,7 @@ ghost use Rattle.removal.specs.Dropping.{Countable, ClosedUp, Blanked, CanDrop, 
 ghost use Rattle.removal.specs.Freeing.{FreesEach};
 ghost use Rattle.removal.specs.TreeChecked.{TreeFound};
 
-use card::{Answer, DeleteOperands, LentCard, Mode, Port, Refusal};
+use card::{Answer, DeleteOperands, LentCard, Mode, Port, Refusal, SharedCard};
 use walks::Reached;
 
 // ---- the checks
@@ -37,14 +37,14 @@ fn some_write_key(flags: &[u8], marks: &[u8; 4096], blocks: usize) -> bool
 
 // The checks of DELETE_TREE. The blocks that are freed are marked: how many.
 fn tree_check(
-    card: &LentCard,
+    card: SharedCard,
     port: Port,
     o: DeleteOperands,
     reached: &mut Reached,
 ) -> Result<usize, Refusal>
-    requires sound_card { SoundCard (lent_card card.now) }
+    requires sound_card { SoundCard (shared_card card) }
     requires none_reached { NoneReached reached.old }
-    ensures { TreeFound port (lent_card card.now) o reached.new.marks result }
+    ensures { TreeFound port (shared_card card.entry) o reached.new.marks result }
 {
     linking::removal_check(card, port, o)?;
     trees::freed_with(card, o.source, o.destination, reached);
@@ -113,7 +113,7 @@ fn drop_pointers(card: &mut LentCard, marks: &[u8; 4096], source: u16, destinati
         gone,
     );
     blank(card.pointers, card.multiplicities, kept, used);
-    card.info.used = kept;
+    card.info = tables::with_used(card.info, kept);
 }
 
 // ---- the blocks
@@ -148,7 +148,7 @@ pub fn delete_tree_sound(card: &mut LentCard, port: Port, o: DeleteOperands) -> 
     ensures performs { Performs (λ c. perform_sound port c (request (DeleteTree o) [] [] [])) card.old card.new result [] [] }
 {
     let mut reached = Reached::none();
-    let count = tree_check(card, port, o, &mut reached)?;
+    let count = tree_check(card.shared(), port, o, &mut reached)?;
     let blocks = card.info.blocks;
     drop_pointers(card, &reached.marks, o.source, o.destination);
     free_marked(card.flags, card.keys, card.windows, &reached.marks, blocks);

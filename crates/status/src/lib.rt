@@ -2,22 +2,24 @@
 #![tactic(auto)]
 
 ghost use Rattle.std.specs.Prelude.{◌*◌, ◌^◌, ◌≤◌, ◌<◌, ◌≡◌, []};
-ghost use Rattle.card.specs.Lent.{Keeps, Performs, SameTables, lent_card};
+ghost use Rattle.card.specs.Lent.{Performs, SameTables, lent_card, shared_card};
+ghost use Rattle.card.specs.Promises.{Is};
 ghost use Rattle.card.specs.Rent.{highest_price, half_rounded, rounded, cents};
 ghost use Rattle.card.specs.Soundness.{time_limit, most_blocks};
 ghost use Rattle.card.specs.SoundCard.{SoundCard};
 ghost use Rattle.card.specs.Session.{request, perform_sound};
 
 use card::{
-    Answer, Call, HIGHEST_PRICE, LentCard, Port, Refusal, RentOperands, TIME_LIMIT, TickOperands,
+    Answer, Call, HIGHEST_PRICE, LentCard, Port, Refusal, RentOperands, SharedCard, TIME_LIMIT,
+    TickOperands,
 };
 
 // So many blocks times seconds cost a cent at a price of 1: 86,400 seconds in a day, 1,000 thousandths in a cent.
 const PER_CENT: u64 = 86400000;
 
-pub fn free_sound(card: &LentCard) -> Answer
-    requires { SoundCard (lent_card card.now) }
-    ensures { (port : Port) → Keeps (λ c. perform_sound port c (request (Call.Free) [] [] [])) card.now result }
+pub fn free_sound(card: SharedCard) -> Answer
+    requires { SoundCard (shared_card card) }
+    ensures { (port : Port) → Is (perform_sound port (shared_card card.entry) (request (Call.Free) [] [] [])) result (shared_card card.entry) [] [] }
 {
     Ok(Some(tables::count_free(card.flags) as u64))
 }
@@ -75,9 +77,9 @@ fn cents(total: u64, price: u32) -> u64
     rounded(total * price as u64, PER_CENT)
 }
 
-pub fn rent_sound(card: &LentCard, o: RentOperands) -> Answer
-    requires { SoundCard (lent_card card.now) }
-    ensures { (port : Port) → Keeps (λ c. perform_sound port c (request (Call.Rent o) [] [] [])) card.now result }
+pub fn rent_sound(card: SharedCard, o: RentOperands) -> Answer
+    requires { SoundCard (shared_card card) }
+    ensures { (port : Port) → Is (perform_sound port (shared_card card.entry) (request (Call.Rent o) [] [] [])) result (shared_card card.entry) [] [] }
 {
     if HIGHEST_PRICE < o.price {
         return Err(Refusal::PriceTooHigh);

@@ -1,7 +1,7 @@
 -- The numbers below the length of a list at which a test of its elements holds, counted, from a first place on below which none counts.
 use Prim.Native.Nat.{ℕ, zero, suc, ◌+◌, ◌-◌, ◌≤◌, ◌<◌}
 use mathlib.Core.Path.{◌≡◌, refl, sym, ap, ◌∙◌, subst}
-use mathlib.Core.Bool.{Bool, true, false, and-true}
+use mathlib.Core.Bool.{Bool, true, false, cond, and-true}
 use mathlib.Core.List.{List}
 use native.Mathlib.Nat.{not-suc-le-zero}
 use native.Mathlib.Numerals.{add-one}
@@ -26,6 +26,32 @@ count_more test xs k l = go (test (get_or xs k 0)) refl
     go : (t : Bool) → test (get_or xs k 0) ≡ t → count_by test (take (suc k) xs) ≡ count_by test (take k xs) + one t
     go true e = rw add-one at (count_by_more_yes test xs k 0 l e)
     go false e = rw add-one at (count_by_more_no test xs k 0 l e) ∙ omega arith
+
+-- A count on the way: that of the first i elements.
+pub record Counting (test : ℕ → Bool) (xs : List ℕ) (count i : ℕ) : Type 0 where
+  pub few : count ≤ i
+  pub of_first : count ≡ count_by test (take i xs)
+
+pub counting_start : (test : ℕ → Bool) (xs : List ℕ) → Counting test xs 0 0
+counting_start test xs = record { few = omega arith; of_first = refl }
+
+module _ {test : ℕ → Bool} {xs : List ℕ} {count i : ℕ} (k : Counting test xs count i) where
+  pub counting_more : {next : ℕ} {t : Bool} → i < length xs → t ≡ test (get_or xs i 0) → (u : Bool) → t ≡ u → next ≡ cond u (count + 1) count → Counting test xs next (i + 1)
+  counting_more {next} l told u e n = record {
+    few = most u n;
+    of_first = let after : i + 1 ≡ suc i = omega arith in rw after (n ∙ go u (sym told ∙ e));
+  }
+    where
+      most : (u : Bool) → next ≡ cond u (count + 1) count → next ≤ i + 1
+      most true n = omega (arith, k.few)
+      most false n = omega (arith, k.few)
+
+      go : (u : Bool) → test (get_or xs i 0) ≡ u → cond u (count + 1) count ≡ count_by test (take (suc i) xs)
+      go true e = sym (count_more test xs i l ∙ rw (e, ← k.of_first) refl)
+      go false e = sym (count_more test xs i l ∙ rw (e, ← k.of_first) (omega arith))
+
+  pub counting_whole : length xs ≤ i → count ≡ count_by test xs
+  counting_whole l = k.of_first ∙ ap (count_by test) (take_all i xs l)
 
 module _ (p test : ℕ → Bool) (first : ℕ) (xs : List ℕ) (below : (b : ℕ) → b < first → p b ≡ false) (same : (b : ℕ) → first ≤ b → p b ≡ test (get_or xs b 0)) where
   counted_to : (k : ℕ) → first + k ≤ length xs → length (numbers_below p (first + k)) ≡ count_by test (take k (drop first xs))

@@ -19,15 +19,16 @@ pub fn read_sound(card: &mut LentCard, port: Port, o: TransferOperands, out: &mu
     if (out.len() != bytes) | (LONGEST_INTERVAL < o.interval) {
         return Err(Refusal::BadOperand);
     }
-    if access::missing(card, block) {
+    let view = card.shared();
+    if access::missing(view.info, view.flags, block) {
         return Err(Refusal::NotAllocated);
     }
-    if !access::admits(port, card, Mode::Reading, block, o.credential) {
+    if !access::admits(port, view, Mode::Reading, block, o.credential) {
         return Err(Refusal::NotOpened);
     }
     let at = block * bytes;
     let end = at + bytes;
-    tables::copy(&card.shared().contents[at..end], out);
+    tables::copy(&view.contents[at..end], out);
     windows::open_window(
         port,
         card.info,
@@ -49,10 +50,11 @@ pub fn write_sound(card: &mut LentCard, port: Port, o: TransferOperands, input: 
     if (input.len() != bytes) | (LONGEST_INTERVAL < o.interval) {
         return Err(Refusal::BadOperand);
     }
-    if access::missing(card, block) {
+    let view = card.shared();
+    if access::missing(view.info, view.flags, block) {
         return Err(Refusal::NotAllocated);
     }
-    if !access::admits(port, card, Mode::Writing, block, o.credential) {
+    if !access::admits(port, view, Mode::Writing, block, o.credential) {
         return Err(Refusal::NotOpened);
     }
     let at = block * bytes;

@@ -4,13 +4,13 @@
 
 ghost use Rattle.std.specs.Prelude.{◌≡◌, true, ◌+◌, ◌≤◌, ◌<◌, length, take, get_or, replicate};
 ghost use Rattle.card.specs.Card.{points_to};
-ghost use Rattle.card.specs.Lent.{lent_card};
+ghost use Rattle.card.specs.Lent.{shared_card};
 ghost use Rattle.card.specs.SoundCard.{SoundCard};
 ghost use Rattle.walks.specs.Walk.{Walkable, mark, NoneReached};
 ghost use Rattle.trees.specs.Release.{Copied, Indexed, Releasable, Lost, Releasing, Dropped, Loosened, Released};
 ghost use Rattle.trees.specs.Freed.{Freed};
 
-use card::LentCard;
+use card::SharedCard;
 use walks::Reached;
 
 // ---- where the walk starts
@@ -111,11 +111,11 @@ fn spread(
 }
 
 // The blocks that are freed with a pointer are marked.
-pub fn freed_with(card: &LentCard, source: u16, destination: u16, reached: &mut Reached)
-    requires sound_card { SoundCard (lent_card card.now) }
-    requires destination_value { points_to (lent_card card.now).public source destination ≡ true }
+pub fn freed_with(card: SharedCard, source: u16, destination: u16, reached: &mut Reached)
+    requires sound_card { SoundCard (shared_card card) }
+    requires destination_value { points_to (shared_card card).public source destination ≡ true }
     requires none_reached { NoneReached reached.old }
-    ensures { Freed (lent_card card.now).public source destination reached.new.marks reached.new.count }
+    ensures { Freed (shared_card card.entry).public source destination reached.new.marks reached.new.count }
 {
     let used = card.info.used;
     let to = destination as usize;

@@ -120,7 +120,7 @@ fn unlocking_sound(card: SharedCard, words: &[u64], chosen: u16, places: &mut [u
     requires { SoundCard (shared_card card) }
     ensures { Reports (unlocking_sound words.now chosen) card.entry places.old places.new result }
 {
-    let gone = access::missing_in(card.info, card.flags, chosen as usize);
+    let gone = access::missing(card.info, card.flags, chosen as usize);
     let bad = reach::bad_keys(words);
     if bad {
         return Err(Refusal::BadOperand);

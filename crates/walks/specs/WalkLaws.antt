@@ -1,7 +1,7 @@
 -- Laws of a walk: that a sound card's pointers can be walked along, its start, a block entered, the block at its head left, the growth of the marks, and its end.
 -- Assumes nothing.
 use Rattle.std.specs.Prelude.{ℕ, zero, suc, ◌+◌, ◌≤◌, ◌<◌, ◌≡◌, refl, ◌⊎◌, Bool, true, false, cond, List, [], ◌∷◌, eqb, length, take, get_or, set, replicate}
-use Rattle.std.proofs.Common.{sym, ap, ◌∙◌, subst, inl, inr, ⊎_elim, append-nil, le_of_suc-le-suc, not-suc-le-zero, arith, length-set, get_or-set_same, get_or-set_other, get_or-take, length-take-le, ne_eqb, eqb-true}
+use Rattle.std.proofs.Common.{sym, ap, ◌∙◌, subst, inl, inr, ⊎_elim, append-nil, le_of_suc-le-suc, not-suc-le-zero, arith, length-set, get_or-set_same, get_or-set_other, get_or-take, length-take-le, eq-eqb, ne_eqb, eqb-true}
 use Rattle.std.proofs.lemmas.List.{length-replicate}
 use Rattle.std.proofs.Math.ListN.{get_or-eq_default}
 use Rattle.std.proofs.lemmas.Bool.{eqb-false}
@@ -119,7 +119,10 @@ walking_none {marks} e l = record {
 
 -- ---- a block that is entered
 
--- It was not marked, and it is marked and queued.
+-- It was marked, and nothing changes; or it was not, and it is marked and queued.
+pub entered_old : (marks queue : List ℕ) (tail b : ℕ) → mark marks b ≡ 1 → Entered marks queue tail b marks queue tail
+entered_old marks queue tail b e = let t = eq-eqb (mark marks b) 1 e in record { is_marks = rw t; is_queue = rw t; is_tail = rw t }
+
 pub entered_new : (marks queue : List ℕ) (tail b : ℕ)
     → (mark marks b ≡ 1 → ⊥) → Entered marks queue tail b (set marks b 1) (set queue tail b) (tail + 1)
 entered_new marks queue tail b n = let t = ne_eqb (mark marks b) 1 n in record { is_marks = rw t; is_queue = rw t; is_tail = rw t }

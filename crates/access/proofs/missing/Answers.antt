@@ -1,7 +1,9 @@
--- `access::missing` is the test of the definition, which looks at the record and the flags alone.
-use Rattle.card.specs.Card.{allocated}
+-- `access::missing` is the test of the definition.
+use Rattle.access.proofs.Blocks.{missing_above, missing_below}
 use Rattle.access.proofs.missing.Goals as goal
 
+pub returns-then-info-block : goal.returns-then-info-block
+returns-then-info-block c = missing_above _ _ c.if-info-block.true
+
 pub returns : goal.returns
-unfolding allocated
-returns c = c.missing_in.ensures
+returns c = search missing_below

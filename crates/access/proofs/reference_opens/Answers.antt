@@ -1,7 +1,7 @@
 -- `access::reference_opens` meets its contract: no where the reference is outside or not allocated, else by its pointer and its window.
 use mathlib.Core.Path.{ap}
 use mathlib.Core.Bool.{not}
-use Rattle.card.specs.Lent.{lent_card}
+use Rattle.card.specs.Lent.{shared_card}
 use Rattle.access.proofs.Answers.{reference_outside, reference_unallocated, reference_followed}
 use Rattle.access.proofs.reference_opens.Goals as goal
 
@@ -13,5 +13,5 @@ returns-then-not-allocated c = reference_unallocated _ _ _ _ c.allocated.ensures
 
 pub returns : goal.returns
 returns c = let at = c.args in
-    reference_followed (lent_card at.card.now).public at.mode at.block at.reference
+    reference_followed (shared_card at.card).public at.mode at.block at.reference
     c.if-card-source.false c.allocated.ensures (ap not c.if-not-allocated.false) c.holds.ensures c.window_open.ensures

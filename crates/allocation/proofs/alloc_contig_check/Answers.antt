@@ -1,7 +1,7 @@
 -- `allocation::alloc_contig_check` finds what the checks of the rule find, and the nearest run: the shared checks, then the run, then the places.
 use mathlib.Core.Path.{◌≡◌, sym, ◌∙◌}
 use native.Mathlib.Omega.{arith}
-use Rattle.card.specs.Lent.{lent_card}
+use Rattle.card.specs.Lent.{shared_card}
 use Rattle.card.specs.Plan.{NoneHolds}
 use Rattle.std.proofs.lemmas.Result.{err_from_is_err_and}
 use Rattle.checks.specs.CheckedLaws.{refused_checks, passed_checks}
@@ -11,14 +11,14 @@ use Rattle.allocation.proofs.alloc_contig_check.Goals as goal
 use Rattle.allocation.proofs.alloc_contig_check.Goals.{After-wanted, After-nearest_run}
 
 -- The shared checks passed before the run is looked for.
-passed : (c : After-wanted) → NoneHolds (shared c.args.port (lent_card c.args.card.now) c.args.o c.args.places.now)
+passed : (c : After-wanted) → NoneHolds (shared c.args.port (shared_card c.args.card) c.args.o c.args.places.now)
 passed c =
     passed_checks _ c.shared_check.ensures c.in_ok-shared_check.was
 
 -- The run found is the nearest by the rule.
-nearest : (c : After-nearest_run) → c.nearest_run.result ≡ found c.args.port (lent_card c.args.card.now) c.args.o c.args.places.now
+nearest : (c : After-nearest_run) → c.nearest_run.result ≡ found c.args.port (shared_card c.args.card) c.args.o c.args.places.now
 nearest c =
-    found_by c.args.port (lent_card c.args.card.now) c.args.o c.args.places.now c.nearest_run.ensures c.wanted.ensures
+    found_by c.args.port (shared_card c.args.card) c.args.o c.args.places.now c.nearest_run.ensures c.wanted.ensures
 
 pub returns-in_err-shared_check : goal.returns-in_err-shared_check
 returns-in_err-shared_check c =

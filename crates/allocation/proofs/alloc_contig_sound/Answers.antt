@@ -4,6 +4,7 @@ use mathlib.Core.List.{[]}
 use Rattle.card.specs.Lent.{lent_card}
 use Rattle.card.specs.Session.{request, perform_sound}
 use Rattle.card.specs.declared.Call.TheVariants.{AllocContig}
+use Rattle.laws.specs.LentLaws.{shown_card}
 use Rattle.laws.specs.PromisesLaws.{is_refused}
 use Rattle.std.specs.Prelude.{Some}
 use Rattle.std.proofs.lemmas.Result.{err_from_is_err_and}
@@ -18,7 +19,10 @@ passed : (c : In_ok-first)
     → Passes c.args.port (lent_card c.args.card.now) (request (AllocContig c.args.o) [] [] c.args.places.now)
     × (found c.args.port (lent_card c.args.card.now) c.args.o c.args.places.now ≡ Some c.in_ok-first.first)
 passed c =
-    passed_run _ _ _ _ c.requires c.alloc_contig_check.ensures c.in_ok-first.was
+    passed_run _ _ _ _ c.requires (rw (shown_card c.shared.ensures, c.shared.ensures.flags) at c.alloc_contig_check.ensures) c.in_ok-first.was
+
+pub alloc_contig_check-requires : goal.alloc_contig_check-requires
+alloc_contig_check-requires c = rw (shown_card c.shared.ensures) c.requires
 
 pub list_run-requires : goal.list_run-requires
 list_run-requires c = let there = passed (goal.at.list_run-requires c).In_ok-first in
@@ -36,7 +40,7 @@ pub returns-in_err-first-clause-performs : goal.returns-in_err-first-clause-perf
 unfolding perform_sound
 returns-in_err-first-clause-performs c =
     let p = err_from_is_err_and c.from_residual.result c.from_residual.ensures.1 in
-    rw (p.1, p.2) (is_refused (lent_card c.args.card.now) _ _ (refused_run _ _ _ _ c.requires c.alloc_contig_check.ensures c.in_err-first.was))
+    rw (p.1, p.2) (is_refused (lent_card c.args.card.now) _ _ (refused_run _ _ _ _ c.requires (rw (shown_card c.shared.ensures, c.shared.ensures.flags) at c.alloc_contig_check.ensures) c.in_err-first.was))
 
 pub returns-clause-performs : goal.returns-clause-performs
 returns-clause-performs c = let there = passed (goal.at.returns-clause-performs c).In_ok-first in

@@ -1,5 +1,6 @@
 -- `allocation::shared_check` finds what the shared checks of the rule find, each refusal by the tests before it.
-use Rattle.card.specs.Lent.{lent_card}
+use Rattle.card.specs.Card.{allocated}
+use Rattle.card.specs.Lent.{shared_card}
 use Rattle.checks.specs.CheckedLaws.{checks_refused, checks_passed}
 use Rattle.access.proofs.Blocks.{access_there}
 use Rattle.allocation.proofs.Shared.{bad_operand, reference_missing, root_reference, reference_shut, too_few_blocks, shared_passes}
@@ -15,7 +16,8 @@ pub returns-then-root_at_host : goal.returns-then-root_at_host
 returns-then-root_at_host c = search (checks_refused, root_reference)
 
 pub admits-requires : goal.admits-requires
-admits-requires c = let a = c.args in let k = lent_card a.card.now in search (access_there {c = k})
+unfolding allocated
+admits-requires c = let a = c.args in let k = shared_card a.card in search (access_there {c = k})
 
 pub returns-then-not-admits : goal.returns-then-not-admits
 returns-then-not-admits c = search (checks_refused, reference_shut)

@@ -1,5 +1,6 @@
 -- `dispatch::perform_sound` meets its contract: each arm by one law.
 use Rattle.laws.specs.BuffersLaws.{with_read, with_write, with_alloc, with_alloc_contig, with_create, with_delete, with_delete_tree, with_key, with_renew, with_force, with_free, with_tick, with_audit, with_rent, with_sweep}
+use Rattle.laws.specs.LentLaws.{shown_card}
 use Rattle.card.specs.declared.Mode.TheVariants.{Reading, Writing}
 use Rattle.dispatch.proofs.perform_sound.Goals as goal
 
@@ -42,7 +43,7 @@ returns-in-Force-clause-performs c = with_force c.args.port _ c.args.input.now c
 
 pub returns-in-Free-clause-performs : goal.returns-in-Free-clause-performs
 returns-in-Free-clause-performs c = with_free c.args.port _ c.args.input.now c.args.out.now c.args.places.now c.args.call c.in-Free.is
-    (c.free_sound.ensures c.args.port)
+    (rw (shown_card c.shared.ensures) at c.free_sound.ensures c.args.port)
 
 pub returns-in-Tick-clause-performs : goal.returns-in-Tick-clause-performs
 returns-in-Tick-clause-performs c = with_tick c.args.port _ c.args.input.now c.args.out.now c.args.places.now c.args.call c.in-Tick.is
@@ -50,7 +51,7 @@ returns-in-Tick-clause-performs c = with_tick c.args.port _ c.args.input.now c.a
 
 pub returns-in-Rent-clause-performs : goal.returns-in-Rent-clause-performs
 returns-in-Rent-clause-performs c = with_rent c.args.port _ c.args.input.now c.args.out.now c.args.places.now c.args.call c.in-Rent.is
-    (c.rent_sound.ensures c.args.port)
+    (rw (shown_card c.shared-in-Rent.ensures) at c.rent_sound.ensures c.args.port)
 
 pub returns-in-Sweep-clause-performs : goal.returns-in-Sweep-clause-performs
 returns-in-Sweep-clause-performs c = with_sweep c.args.port _ c.args.input.now c.args.out.now c.args.places.now c.args.call c.in-Sweep.is

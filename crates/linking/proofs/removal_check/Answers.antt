@@ -1,5 +1,6 @@
 -- `linking::removal_check` finds what the checks find that DELETE and DELETE_TREE have in common, each refusal by the tests before it.
-use Rattle.card.specs.Lent.{lent_card}
+use Rattle.card.specs.Card.{allocated}
+use Rattle.card.specs.Lent.{shared_card}
 use Rattle.checks.specs.CheckedLaws.{checks_refused, checks_passed}
 use Rattle.access.proofs.Blocks.{access_there}
 use Rattle.linking.proofs.Deleting.{source_missing, destination_missing, root_source, source_shut, no_pointer, removal_passes}
@@ -15,7 +16,8 @@ pub returns-then-root_at_host : goal.returns-then-root_at_host
 returns-then-root_at_host c = search (checks_refused, root_source)
 
 pub admits-requires : goal.admits-requires
-admits-requires c = let a = c.args in let k = lent_card a.card.now in access_there {c = k} _ c.requires c.missing.ensures c.if-missing.false
+unfolding allocated
+admits-requires c = let a = c.args in let k = shared_card a.card in access_there {c = k} _ c.requires c.missing.ensures c.if-missing.false
 
 pub returns-then-not-admits : goal.returns-then-not-admits
 returns-then-not-admits c = search (checks_refused, source_shut)

@@ -1,6 +1,5 @@
 -- `removal::drop_pointers` drops the pointer, and each that starts at a marked block.
 use native.Mathlib.Omega.{arith}
-use mathlib.Core.Path.{refl}
 use Rattle.removal.proofs.Dropped.{fewer, dropped}
 use Rattle.removal.proofs.drop_pointers.Goals as goal
 
@@ -10,4 +9,4 @@ blank-requires c = let a = c.args in let k = a.card.now in
 
 pub returns-clause-drops : goal.returns-clause-drops
 returns-clause-drops c = let a = c.args in let k = a.card.now in
-    dropped k.info k.counts.now k.pointers.now k.multiplicities.now a.marks.now a.source a.destination c.requires c.close_up-kept.ensures c.blank.ensures refl _ _ _ _
+    dropped k.info k.counts.now k.pointers.now k.multiplicities.now a.marks.now a.source a.destination c.requires c.close_up-kept.ensures c.blank.ensures c.with_used-card.ensures _ _ _ _

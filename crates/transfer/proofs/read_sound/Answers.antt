@@ -5,8 +5,9 @@ use mathlib.Core.Bool.{not}
 use Rattle.card.specs.Plan.{here, later, out_after, places_after}
 use Rattle.card.specs.Calls.{read_plan}
 use Rattle.card.specs.Session.{plan, perform_sound}
+use Rattle.laws.specs.LentLaws.{shown_card}
 use Rattle.laws.specs.PromisesLaws.{is_refused, is_done}
-use Rattle.access.proofs.Blocks.{missing_told, access_there, closed_told, windows_low}
+use Rattle.access.proofs.Blocks.{missing_shown, missing_told, access_there, closed_told, windows_low}
 use Rattle.windows.proofs.Windows.{opened_whole}
 use Rattle.transfer.proofs.Parts.{right_size, lies, lent_part, lent_size}
 use Rattle.transfer.proofs.read_sound.Goals as goal
@@ -18,41 +19,41 @@ returns-then-out-bytes-clause-performs c = is_refused _ _ _ (here c.if-out-bytes
 pub returns-then-missing-clause-performs : goal.returns-then-missing-clause-performs
 unfolding perform_sound plan read_plan
 returns-then-missing-clause-performs c =
-    is_refused _ _ _ (later c.if-out-bytes.false (here (missing_told _ _ c.missing.ensures c.if-missing.true)))
+    is_refused _ _ _ (later c.if-out-bytes.false (here (missing_told _ _ (missing_shown c.shared-view.ensures _ c.missing.ensures) c.if-missing.true)))
 
 pub admits-requires : goal.admits-requires
-admits-requires c = access_there _ c.requires c.missing.ensures c.if-missing.false
+admits-requires c = rw (shown_card c.shared-view.ensures) (access_there _ c.requires (missing_shown c.shared-view.ensures _ c.missing.ensures) c.if-missing.false)
 
 pub returns-then-not-admits-clause-performs : goal.returns-then-not-admits-clause-performs
 unfolding perform_sound plan read_plan
 returns-then-not-admits-clause-performs c =
     is_refused _ _ _
     (later c.if-out-bytes.false
-    (later (missing_told _ _ c.missing.ensures c.if-missing.false)
-    (here (closed_told _ _ _ _ _ c.admits.ensures (ap not c.if-not-admits.true)))))
+    (later (missing_told _ _ (missing_shown c.shared-view.ensures _ c.missing.ensures) c.if-missing.false)
+    (here (closed_told _ _ _ _ _ (rw (shown_card c.shared-view.ensures) at c.admits.ensures) (ap not c.if-not-admits.true)))))
 
 pub overflow_mul-at : goal.overflow_mul-at
-overflow_mul-at c = omega (arith, lies _ c.requires c.missing.ensures c.if-missing.false)
+overflow_mul-at c = omega (arith, lies _ c.requires (missing_shown c.shared-view.ensures _ c.missing.ensures) c.if-missing.false)
 
 pub overflow_add-end : goal.overflow_add-end
-overflow_add-end c = omega (arith, lies _ c.requires c.missing.ensures c.if-missing.false)
+overflow_add-end c = omega (arith, lies _ c.requires (missing_shown c.shared-view.ensures _ c.missing.ensures) c.if-missing.false)
 
 pub slice_bounds-copy-end : goal.slice_bounds-copy-end
-slice_bounds-copy-end c = rw c.shared.ensures.contents (omega (arith, lies _ c.requires c.missing.ensures c.if-missing.false))
+slice_bounds-copy-end c = rw c.shared-view.ensures.contents (omega (arith, lies _ c.requires (missing_shown c.shared-view.ensures _ c.missing.ensures) c.if-missing.false))
 
 pub copy-requires : goal.copy-requires
-copy-requires c = rw c.shared.ensures.contents (lent_size _ (lies _ c.requires c.missing.ensures c.if-missing.false) (right_size _ c.if-out-bytes.false))
+copy-requires c = rw c.shared-view.ensures.contents (lent_size _ (lies _ c.requires (missing_shown c.shared-view.ensures _ c.missing.ensures) c.if-missing.false) (right_size _ c.if-out-bytes.false))
 
 pub open_window-requires : goal.open_window-requires
-open_window-requires c = windows_low _ c.requires c.missing.ensures c.if-missing.false
+open_window-requires c = windows_low _ c.requires (missing_shown c.shared-view.ensures _ c.missing.ensures) c.if-missing.false
 
 pub returns-clause-performs : goal.returns-clause-performs
 unfolding perform_sound plan read_plan out_after places_after
 returns-clause-performs c =
     is_done _ _ _ (
       c.if-out-bytes.false,
-      (missing_told _ _ c.missing.ensures c.if-missing.false, (closed_told _ _ _ _ _ c.admits.ensures (ap not c.if-not-admits.false), tt)),
+      (missing_told _ _ (missing_shown c.shared-view.ensures _ c.missing.ensures) c.if-missing.false, (closed_told _ _ _ _ _ (rw (shown_card c.shared-view.ensures) at c.admits.ensures) (ap not c.if-not-admits.false), tt)),
     )
     (opened_whole _ _ _ _ _ c.open_window.ensures)
-    (lent_part _ _ _ (rw c.shared.ensures.contents at c.copy.ensures))
+    (lent_part _ _ _ (rw c.shared-view.ensures.contents at c.copy.ensures))
     refl

@@ -12,11 +12,11 @@ returns-then-bad c = keys_refused _ _ _ _ (sym c.bad_keys-bad.ensures ∙ c.if-b
 pub returns-then-gone : goal.returns-then-gone
 unfolding allocated
 returns-then-gone c = missing_refused _ _ _ _ (sym c.bad_keys-bad.ensures ∙ c.if-bad.false)
-    (missing_told (shared_card c.args.card).public _ c.missing_in-gone.ensures c.if-gone.true)
+    (missing_told (shared_card c.args.card).public _ c.missing-gone.ensures c.if-gone.true)
 
 pub find-found-requires : goal.find-found-requires
 unfolding allocated
-find-found-requires c = record { sound_card = c.requires; chosen_value = missing_told (shared_card c.args.card).public _ c.missing_in-gone.ensures c.if-gone.false; shut_value = refl }
+find-found-requires c = record { sound_card = c.requires; chosen_value = missing_told (shared_card c.args.card).public _ c.missing-gone.ensures c.if-gone.false; shut_value = refl }
 
 pub returns-in_default : goal.returns-in_default
 returns-in_default c = within_refused _ _ _ _ (sym c.bad_keys-bad.ensures ∙ c.if-bad.false)
@@ -33,4 +33,4 @@ pub returns : goal.returns
 unfolding allocated
 returns c = list_answered _ _ _ _ (sym c.bad_keys-bad.ensures ∙ c.if-bad.false)
     (found_unlocked _ _ _ _ _ c.find-found.ensures c.in-Some.is)
-    (missing_told (shared_card c.args.card).public _ c.missing_in-gone.ensures c.if-gone.false) c.if-places-count.false c.list.ensures
+    (missing_told (shared_card c.args.card).public _ c.missing-gone.ensures c.if-gone.false) c.if-places-count.false c.list.ensures
