@@ -1,6 +1,10 @@
 // Audits good and damaged cards of N 16, B 512 and P 32. Writes a line for each: its name, then 0 if sound, 1 if misshapen, 2 if unsound.
 #![tactic(auto)]
 
+ghost use Rattle.std.specs.Prelude.{◌≡◌};
+ghost use Rattle.card.specs.Plan.{with_used, with_time};
+ghost use Rattle.card.specs.Calls.{fresh_info};
+
 use card::{Info, SharedCard, Verdict};
 
 // The table that is lent without its elements.
@@ -39,7 +43,9 @@ enum Fault {
 }
 
 // The good card's record, of such N, R and B: three pointers are in use.
-fn good_record(blocks: usize, roots: usize, bytes: usize) -> Info {
+fn good_record(blocks: usize, roots: usize, bytes: usize) -> Info
+    ensures { result ≡ with_time (with_used (fresh_info blocks roots bytes) 3) 100 0 }
+{
     tables::with_time(
         tables::with_used(tables::fresh(blocks, roots, bytes), 3),
         100,
